@@ -1,10 +1,9 @@
-/* Refuses requests of a program that it is preloaded into. Of those for memory it refuses the one whose
- * number, from 1 on, is in REFUSED; of those for a thread the one whose number is in REFUSED_THREAD, and
- * all whose numbers are above the one in MOST_THREADS. At the end it writes the number of requests for
- * memory into the file named in REQUESTS, and of those for a thread into the file named in THREADS.
- * It counts the requests of all threads, the C library's own among them, as for a new thread's
- * storage. A request for memory that isn't refused goes to glibc's allocator by its inner names, so that
- * no name has to be looked up, and no request is counted twice. */
+/* Refuses requests of the program that it is preloaded into: the request for memory with the number in REFUSED, from 1
+ * on, the request for a thread with the number in REFUSED_THREAD, and all requests for a thread with numbers above the
+ * one in MOST_THREADS. At the end it writes the number of requests for memory into the file named in REQUESTS, and the
+ * number of requests for a thread into the file named in THREADS. It counts the requests of all threads, also those of
+ * the C library, as for a new thread's storage. A request for memory that isn't refused goes to glibc's allocator by
+ * its internal names, so no name has to be looked up, and no request is counted twice. */
 #define _GNU_SOURCE
 #include <dlfcn.h>
 #include <errno.h>
@@ -88,7 +87,7 @@ int pthread_create(pthread_t *thread, const pthread_attr_t *attributes, void *(*
     return next(thread, attributes, start, with);
 }
 
-/* Takes no memory, so that no count is lost by a refusal. */
+/* Allocates nothing, so a refusal loses no count. */
 static void write_count(const char *name, unsigned long count) {
     if (name == NULL) {
         return;
@@ -105,7 +104,7 @@ __attribute__((destructor)) static void end(void) {
     write_count(getenv("THREADS"), atomic_load(&threads));
 }
 
-/* A program that may start threads ends here, and no destructor runs. */
+/* A program that can start threads ends here, without its destructors. */
 void _exit(int status) {
     end();
     for (;;) {

@@ -18,13 +18,13 @@ use Rattle.claim_answers.specs.Private.Met.{AreMet, IsMetAt, IsSpellable, IsVerd
 all_at : {A : Type 0} (P : A → Type 0) (xs : List A) (i : ℕ) (x : A) → slice_get xs i ≡ Some x → All P xs → P x
 all_at P xs i x e h = subst P (get_or_from_slice_get xs i x x e) (All-get_or P xs i x (slice_get_within xs i x e) h)
 
--- where none is the claim of this number, it isn't met
+-- if no element of `met` has the number of the claim, the claim wasn't found
 pub unfound : (met : List Met) (n : ℕ) → AllWithin (λ m. m.claim ≡ n → ⊥) met 0 (length met) → IsFound n met → ⊥
 unfound met n none f =
     let low = slice_get_within met f.1.0 f.0 f.1.1 in
     none f.1.0 f.0 (omega arith) low (ap (λ (m : Met). m.claim) (get_or_from_slice_get met f.1.0 f.0 f.0 f.1.1) ∙ f.2)
 
--- the one that is met was met by its schedule
+-- the claim at the index `i` of `met` was met by its schedule
 moment_at : (code : Tree) (k : Limits) (wanted : List (List ClaimWord)) (words : List ClaimWord) (complete : Bool) (met : List Met) (n i : ℕ) (m : Met) →
     AreMet code k wanted complete met → slice_get wanted n ≡ Some words → IsMetAt met n i → m ≡ get_or met i m → (schedule : List ℕ) →
     schedule ≡ m.schedule.items → length schedule ≤ 1000000 → IsMoment code k words schedule
@@ -47,7 +47,7 @@ decided_met code k wanted words complete met n i m right there f at (Moment sche
 decided_met code k wanted words complete met n i m right there f at NoMoment is = absurd is
 decided_met code k wanted words complete met n i m right there f at Undecided is = tt
 
--- the verdict on a claim that isn't
+-- the verdict on a claim that isn't met
 pub decided_unmet : (code : Tree) (k : Limits) (wanted : List (List ClaimWord)) (words : List ClaimWord) (complete : Bool) (met : List Met) (n : ℕ) →
     AreMet code k wanted complete met → slice_get wanted n ≡ Some words → (IsFound n met → ⊥) → IsDecided code k words (unmet_verdict complete)
 decided_unmet code k wanted words true met n right there none = right.none refl n words there none

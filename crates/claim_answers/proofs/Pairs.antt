@@ -33,7 +33,7 @@ get_suc (x ∷ xs) zero low = (x, refl, refl)
 get_suc (x ∷ xs) (suc i) low =
     let r = get_suc xs i (omega arith) in (r.0, r.1, ap (λ l. x ∷ l) r.2)
 
--- the element of a number within the list
+-- the element at an index within the list
 pub get_here : {A : Type 0} (xs : List A) (i : ℕ) → i < length xs → (x : A) × (slice_get xs i ≡ Some x) × (take (i + 1) xs ≡ take i xs ++ x ∷ [])
 get_here xs i low = let r = get_suc xs i low in (r.0, r.1, rw add-one r.2)
 

@@ -15,7 +15,7 @@ use Rattle.claim_answers.specs.declared.judging.Verdict.{Verdict}
 use Rattle.claim_answers.specs.declared.judging.Verdict.TheVariants.{Moment, NoMoment, Undecided}
 
 -- ---- what is asked
--- what is asked, and the text of a claim, without the spaces that mean nothing
+-- what is asked of a claim, and its text without the spaces that mean nothing
 pub record Question : Type 0 where
   pub rule : Rule
   pub text : List ℕ
@@ -23,36 +23,37 @@ pub record Question : Type 0 where
 abbrev pub question_of : Asked → Question
 question_of a = record { rule = a.rule; text = a.claim.text.items }
 
--- these claims are asked for by these texts
+-- the questions of these texts under one rule
 abbrev pub asked_texts : Rule → List (List ℕ) → List Question
 asked_texts rule texts = map (λ t. record { rule = rule; text = spaced_text t }) texts
 
--- those of the three options, one behind the other
+-- the questions of the three options, one after the other
 abbrev pub questions : (always never reach : List (List ℕ)) → List Question
 questions always never reach = asked_texts Always always ++ (asked_texts Never never ++ asked_texts Reach reach)
 
 -- ---- what decides a claim
--- what is added to the words of a claim, so that they are true in a world that decides it
+-- the words that are added to those of a claim, so that they are true in a world that decides it
 abbrev pub turning : Rule → List ClaimWord
 turning Always = its.Not ∷ []
 turning Never = []
 turning Reach = []
 
--- these words decide a claim on the program of this text: of a claim on every moment a world decides it that doesn't
--- meet it, of another claim a world that does
+-- these words decide a claim on the program of this text: a claim on every moment is decided by a world that doesn't
+-- meet it, another claim by a world that meets it
 pub record IsSought (text : List ℕ) (a : Asked) (it : List ClaimWord) : Type 0 where
   pub words : List ClaimWord
   pub numbered : IsNumberedBy text a.claim.words.items (map (λ x. x.now) a.claim.names.items) words
   pub it_is : it ≡ words ++ turning a.rule
 
 -- ---- what is found
--- the schedule leads to a world in which the words are true, and can be spelled
+-- the schedule leads to a world in which the words are true, and it can be spelled
 pub record IsMoment (code : Tree) (k : Limits) (words : List ClaimWord) (schedule : List ℕ) : Type 0 where
   pub meets : Meets code k words schedule
   pub numbers : All (λ f. f < 1000) schedule
   pub few : length schedule ≤ 1000000
 
--- what is found of the words that decide a claim: a schedule to such a world, or that there is none
+-- the verdict is right for the words that decide a claim: the schedule leads to a world in which they are true, or no
+-- schedule does
 abbrev pub IsDecided : Tree → Limits → List ClaimWord → Verdict → Type 0
 IsDecided code k words (Moment schedule) = IsMoment code k words schedule.items
 IsDecided code k words NoMoment = (schedule : List ℕ) → Meets code k words schedule → ⊥

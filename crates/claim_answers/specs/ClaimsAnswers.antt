@@ -1,4 +1,4 @@
--- What is answered to a text about claims.
+-- The answer to a text about claims.
 use Rattle.std.specs.Prelude.{◌≡◌, ◌⊎◌, ℕ, false, List, [], ◌++◌, codes}
 use Rattle.derived_ops.specs.Expansion.{code_of}
 use Rattle.derived_ops.specs.Reading.{source_of}
@@ -23,19 +23,19 @@ use Rattle.claim_answers.specs.declared.lines.ClaimForm.TheVariants as forms
 use Rattle.claim_answers.specs.Claims.{IsDecided, IsSought, Pairwise}
 use Rattle.claim_answers.specs.Verdicts.{AreLines, claims_status, gap, worse}
 
--- what `explore` answers to a program without claims, with this note
+-- the answer of `explore` to a program without claims, with this note
 abbrev pub explored_as : ClaimForm → ExploreOrder → (note : List ℕ) → Term → List ℕ → Status → Type 0
 explored_as forms.Report o note t = IsNotedExplored t o.limits o.bounds false o.wants.items note
 explored_as forms.Timeline o note t = IsNotedTold t o.limits o.bounds false o.wants.items note
 explored_as forms.Json o note t = IsNotedJsonExplored t o.limits o.bounds false o.wants.items note
 
--- how a text that is refused is answered
+-- the answer to a refused text
 abbrev pub refuses_as : ClaimForm → List ℕ → List ℕ → Status → Type 0
 refuses_as forms.Report = IsRefusalAnswer
 refuses_as forms.Timeline = IsRefusalAnswer
 refuses_as forms.Json = IsJsonRefusal
 
--- Each claim has words that decide it, and a verdict that is right of the program. The text has a line for each, in
+-- Each claim has words that decide it, and a verdict that is true of the program. The text has a line for each, in
 -- their order.
 pub record AreJudged (form : ClaimForm) (o : ExploreOrder) (asked : List Asked) (text : List ℕ) (t : Term)
     (verdicts : List Verdict) (lines : List ℕ) : Type 0
@@ -45,8 +45,8 @@ pub record AreJudged (form : ClaimForm) (o : ExploreOrder) (asked : List Asked) 
     pub decided : Pairwise (IsDecided (code_of (source_of t)) o.limits) soughts verdicts
     pub lines_are : AreLines form asked verdicts lines
 
--- the verdicts of the claims, and behind them what `explore` answers without claims, with its note; the status is that
--- of what is unwanted in either, else that of what is undecided
+-- the lines of the claims, and after them the answer of `explore` without claims, with its note; the status is the
+-- worse of both
 pub record IsJudgedAnswer (form : ClaimForm) (o : ExploreOrder) (asked : List Asked) (text note : List ℕ) (t : Term)
     (answer : List ℕ) (status : Status) : Type 0
   where
@@ -69,7 +69,7 @@ abbrev pub unnamed_note : (name : List ℕ) → RefFault → List ℕ
 unnamed_note name fault = codes "error: a claim names the ref '" ++ (name ++ (reason_text fault ++
     codes "\n\nFor more information, try '--help'.\n"))
 
--- a claim names a ref whose number isn't known: nothing is answered, and the note says so
+-- a claim names a ref whose number isn't known: the answer is empty, and the note gives the reason
 pub record IsUnnamedAnswer (note answer : List ℕ) (status : Status) : Type 0 where
   pub name : List ℕ
   pub fault : RefFault
@@ -77,8 +77,8 @@ pub record IsUnnamedAnswer (note answer : List ℕ) (status : Status) : Type 0 w
   pub nothing : answer ≡ []
   pub status_is : status ≡ ends.Usage
 
--- what is answered to a text with its status and this note: the refusal of the text, the verdicts on its program, or
--- that a claim names a ref whose number isn't known
+-- the answer to a text with its status and this note: the refusal of the text, the verdicts on its program, or that a
+-- claim names a ref whose number isn't known
 abbrev pub IsClaimsAnswer : ClaimForm → ExploreOrder → List Asked → (note : List ℕ) → List ℕ → List ℕ → Status → Type 0
 IsClaimsAnswer form o asked note text answer status = IsNotedAnswer (refuses_as form)
     (λ note t answer status. IsJudgedAnswer form o asked text note t answer status ⊎

@@ -1,2 +1,2 @@
--- What the contracts of private functions cite.
+-- The definitions that the contracts of private functions cite.
 pub mod Met

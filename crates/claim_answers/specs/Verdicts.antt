@@ -18,8 +18,8 @@ rule_text Always = codes "always"
 rule_text Never = codes "never"
 rule_text Reach = codes "reach"
 
--- a claim on every moment, or on none, is refuted by a world, and holds where none decides it; one on some moment is
--- met by a world, and refuted where there is none
+-- a claim on every moment or on none is refuted by a world that decides it, and holds if there is none; a claim on some
+-- moment is met by a world that decides it, and refuted if there is none
 abbrev pub verdict_text : Rule → Verdict → List ℕ
 verdict_text Always (Moment schedule) = codes "refuted"
 verdict_text Never (Moment schedule) = codes "refuted"
@@ -50,7 +50,7 @@ json_schedule (Moment schedule) text = codes "\"" ++ (text ++ codes "\"")
 json_schedule NoMoment text = codes "null"
 json_schedule Undecided text = codes "null"
 
--- the same as an object of JSON. No character of a claim or of a schedule is one that JSON escapes.
+-- the same as an object of JSON; JSON escapes no character of a claim or of a schedule
 abbrev pub json_front : Rule → (claim : List ℕ) → List ℕ
 json_front rule claim =
     codes "{\"answer\":\"claim\",\"claim\":\"" ++ (claim ++ (codes "\",\"rule\":\"" ++ rule_text rule))
@@ -62,13 +62,13 @@ json_back rule v schedule = codes "\",\"schedule\":" ++ (json_schedule v schedul
 abbrev pub json_line : Rule → (claim : List ℕ) → Verdict → (schedule : List ℕ) → List ℕ
 json_line rule claim v schedule = json_front rule claim ++ json_back rule v schedule
 
--- a blank line and a timeline behind a schedule, and nothing where there is none
+-- a blank line and a timeline if there is a schedule, or else nothing
 abbrev pub IsTimed : Verdict → List ℕ → Type 0
 IsTimed (Moment schedule) text = (rows : List ℕ) × (text ≡ codes "\n" ++ rows)
 IsTimed NoMoment text = text ≡ []
 IsTimed Undecided text = text ≡ []
 
--- what is written of one claim; with timelines, a blank line is behind each
+-- the text of one claim with its verdict; in the form `Timeline` it ends with a blank line
 abbrev pub IsLine : ClaimForm → Asked → Verdict → List ℕ → Type 0
 IsLine forms.Report a v line =
     (text : List ℕ) × IsShown v text × (line ≡ word_line a.rule a.claim.text.items v text)
@@ -77,13 +77,13 @@ IsLine forms.Json a v line =
 IsLine forms.Timeline a v line = (text : List ℕ) × (rows : List ℕ) × IsShown v text × IsTimed v rows ×
     (line ≡ word_line a.rule a.claim.text.items v text ++ (rows ++ codes "\n"))
 
--- of all of them, one behind the other
+-- the texts of all claims, one after the other
 pub data AreLines (form : ClaimForm) : List Asked → List Verdict → List ℕ → Type 0 where
   no_line : AreLines form [] [] []
   a_line : (all : List Asked) (vs : List Verdict) (text : List ℕ) (a : Asked) (v : Verdict) (line : List ℕ) →
       AreLines form all vs text → IsLine form a v line → AreLines form (all ++ a ∷ []) (vs ++ v ∷ []) (text ++ line)
 
--- what is between the claims and the rest: a blank line behind lines in words
+-- the bytes between the claims and the rest: a blank line after the form `Report`
 abbrev pub gap : ClaimForm → List ℕ
 gap forms.Report = codes "\n"
 gap forms.Timeline = []
@@ -113,12 +113,12 @@ one_refuted (a ∷ all) (v ∷ vs) = is_refuted a.rule v || one_refuted all vs
 abbrev pub one_undecided : List Verdict → Bool
 one_undecided vs = list_any is_undecided vs
 
--- as of an exploration: of a claim that is refuted, else of one that is undecided
+-- as for an exploration: `Errored` if a claim is refuted, else `Unended` if a claim is undecided
 abbrev pub claims_status : List Asked → List Verdict → Status
 claims_status all vs =
     if one_refuted all vs then ends.Errored else (if one_undecided vs then ends.Unended else ends.Succeeded)
 
--- the status of both: that of what is unwanted, else that of what is undecided
+-- the worse of two statuses: `Errored` if one of them is, else `Unended` if one of them is
 abbrev pub beside_undecided : Status → Status
 beside_undecided ends.Errored = ends.Errored
 beside_undecided ends.Succeeded = ends.Unended

@@ -24,21 +24,21 @@ use outcome_trace::{Answer, InWords, RefusalForm, Refused, Status, read_program}
 use std::alloc::{AllocError, Global};
 use timelines::ExploreTimelineOrder;
 
-// Verdicts on claims, and what is written of them.
+// Verdicts on claims, and the lines that are written of them.
 #[derive(Drop)]
 struct Judged {
     verdicts: Vec<Verdict>,
     lines: Vec<u8>,
 }
 
-/// Answers a text about claims: a line for each, in their order, and then what `explore` answers without claims, with
-/// its note. The status is `Status::Errored` where a claim is refuted or something unwanted was found, else
-/// `Status::Unended` where a claim is undecided or a bound was reached, else `Status::Succeeded`. A text that is
-/// refused is answered by its refusal alone.
+/// Answers a text about claims: a line for each claim, in their order, and then the answer of `explore` without claims,
+/// with its note. The status is `Status::Errored` if a claim is refuted or something unwanted was found, else
+/// `Status::Unended` if a claim is undecided or a bound was reached, else `Status::Succeeded`. A refused text is
+/// answered by its refusal alone.
 ///
-/// Each claim is looked at in every world to which a schedule leads, within the bounds of the order. Where a claim
-/// names a ref whose number isn't known ([`RefFault`]), the answer is empty, its status is `Status::Usage`, and the
-/// note says so.
+/// Each claim is checked in every world to which a schedule leads, within the bounds of the order. If a claim names a
+/// ref whose number isn't known ([`RefFault`]), the answer is empty, its status is `Status::Usage`, and the note gives
+/// the reason.
 pub fn answer_claims<'a>(
     alloc: Global,
     order: ExploreOrder,
@@ -58,7 +58,7 @@ pub fn answer_claims<'a>(
     }
 }
 
-// The answer to a text that is refused.
+// The answer to a refused text.
 fn refused_answer(
     alloc: Global,
     form: ClaimForm,
@@ -95,7 +95,7 @@ fn judged_answer<'a>(
     }
 }
 
-// The same, given what decides each claim.
+// The same, once the words that decide each claim are known.
 fn sought_answer(
     alloc: Global,
     order: ExploreOrder,
@@ -115,7 +115,7 @@ fn sought_answer(
     Ok(answer)
 }
 
-// The answer where a claim names a ref whose number isn't known.
+// The answer if a claim names a ref whose number isn't known.
 fn unnamed_answer(alloc: Global, name: &[u8], fault: RefFault) -> Result<NotedAnswer, AllocError>
     ensures { IfOk result (λ n. IsUnnamedAnswer n.note.items n.answer.text.items n.answer.status) }
 {
@@ -129,7 +129,7 @@ fn unnamed_answer(alloc: Global, name: &[u8], fault: RefFault) -> Result<NotedAn
     })
 }
 
-// Why the number of a ref isn't known.
+// The note on why the number of a ref isn't known.
 fn unnamed_note(alloc: Global, name: &[u8], fault: RefFault) -> Result<Vec<u8>, AllocError>
     ensures { IfOk result (λ note. note.items ≡ unnamed_note name.now fault) }
 {
@@ -140,7 +140,7 @@ fn unnamed_note(alloc: Global, name: &[u8], fault: RefFault) -> Result<Vec<u8>, 
     Ok(note)
 }
 
-// The end of the sentence.
+// The end of the note's sentence.
 fn reason_text(fault: RefFault) -> &'static [u8]
     ensures { result.now ≡ reason_text fault }
 {
@@ -155,7 +155,7 @@ fn reason_text(fault: RefFault) -> &'static [u8]
     }
 }
 
-// The verdicts, and what is written of them.
+// The verdicts, and the lines that are written of them.
 fn verdicts_of(
     alloc: Global,
     order: &ExploreOrder,
@@ -176,7 +176,7 @@ fn verdicts_of(
     Ok(Judged { verdicts, lines })
 }
 
-// What `explore` answers without claims.
+// The answer of `explore` without claims.
 fn explored_answer(
     alloc: Global,
     order: ExploreOrder,
@@ -194,7 +194,7 @@ fn explored_answer(
     }
 }
 
-// The lines of claims with this status, and behind them this answer.
+// The lines of claims with this status, and after them the answer `rest`.
 fn with_lines(
     form: ClaimForm,
     lines: Vec<u8>,
@@ -217,7 +217,7 @@ fn with_lines(
     })
 }
 
-// What is between the claims and the rest.
+// The bytes between the claims and the rest.
 fn gap(form: ClaimForm) -> &'static [u8]
     ensures { result.now ≡ gap form }
 {

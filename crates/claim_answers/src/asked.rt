@@ -37,7 +37,7 @@ pub struct AskFault<'a> {
     pub fault: ClaimFault,
 }
 
-/// Adds the claims that these texts spell, in the same order, or returns the first text that spells none.
+/// Adds the claims that the texts spell, in the same order, or returns the first text that spells no claim.
 pub fn read_asked<'a>(
     alloc: Global,
     rule: Rule,

@@ -19,22 +19,22 @@ use effect_term::Program;
 use every_schedule::{Bounds, Claim, ClaimWord, Claimed, Met, Unwatched, search_claims};
 use std::alloc::{AllocError, Global};
 
-/// What a search has found of a claim, by what decides it: of a claim on every moment a world that doesn't meet it, and
-/// of another claim a world that does.
+/// The result of a search for a world that decides a claim. A claim on every moment is decided by a world that doesn't
+/// meet it, another claim by a world that meets it.
 #[derive(Drop)]
 pub enum Verdict {
-    /// This schedule leads to a world that decides it.
+    /// This schedule leads to a world that decides the claim.
     Moment(Vec<u16>),
-    /// No schedule leads to one.
+    /// No schedule leads to a world that decides the claim.
     NoMoment,
-    /// A bound was reached, and none was found.
+    /// A bound was reached and no such world was found, or one was found by a schedule of more than 1,000,000 entries.
     Undecided,
 }
 
-// The greatest number of entries that a schedule can be spelled with.
+// The greatest number of entries of a schedule that can be spelled.
 const MOST_ENTRIES: usize = 1_000_000;
 
-/// What decides each claim. The text is that of the program, as `spaced_text` returns it.
+/// The words that decide each claim. `text` is what `spaced_text` returns for the program's text.
 pub(crate) fn soughts_of<'a>(
     alloc: Global,
     text: &[u8],
@@ -49,7 +49,7 @@ pub(crate) fn soughts_of<'a>(
     Ok(soughts)
 }
 
-// What decides a claim.
+// The words that decide a claim.
 fn sought_of<'a>(alloc: Global, text: &[u8], asked: &Asked<'a>) -> Result<Claim, NumberFault<'a>>
     ensures { IfOk result (IsSought text.now asked.now) }
 {
@@ -58,7 +58,7 @@ fn sought_of<'a>(alloc: Global, text: &[u8], asked: &Asked<'a>) -> Result<Claim,
     Ok(Claim::new(words))
 }
 
-// One more.
+// Adds the words of one claim.
 fn push_sought(soughts: &mut Vec<Claim>, sought: Claim) -> Result<(), AllocError>
     ensures { OnOk result (soughts.new.items ≡ soughts.old.items ++ sought ∷ []) }
 {
@@ -66,7 +66,7 @@ fn push_sought(soughts: &mut Vec<Claim>, sought: Claim) -> Result<(), AllocError
     Ok(())
 }
 
-// Turns the words of a claim on every moment, so that they are true where the claim is refuted.
+// Negates the words of a claim on every moment, so that they are true in a world that refutes the claim.
 fn turn(words: &mut Vec<ClaimWord>, rule: Rule) -> Result<(), AllocError>
     ensures { OnOk result (words.new.items ≡ words.old.items ++ turning rule) }
 {
@@ -79,7 +79,7 @@ fn turn(words: &mut Vec<ClaimWord>, rule: Rule) -> Result<(), AllocError>
     }
 }
 
-/// What a search of every schedule finds of claims, each given by what decides it.
+/// The verdicts of a search of every schedule on claims, each given by the words that decide it.
 pub(crate) fn judge(
     alloc: Global,
     program: &Program,
@@ -99,7 +99,7 @@ pub(crate) fn judge(
     Ok(verdicts)
 }
 
-// The search.
+// The search for worlds that decide the claims.
 fn search(
     alloc: Global,
     program: &Program,
@@ -117,7 +117,7 @@ fn search(
     }
 }
 
-// What was found of the claim of this number.
+// The verdict on the claim of this number.
 fn verdict_of(alloc: Global, found: &Claimed, number: usize) -> Result<Verdict, AllocError>
     ensures { IfOk result (λ v. (code : Tree) (k : TheLimits) (wanted : List (List TheWord)) (words : List TheWord) →
         AreMet code k wanted found.now.complete found.now.met.items → slice_get wanted number ≡ Somebody words →
@@ -130,7 +130,7 @@ fn verdict_of(alloc: Global, found: &Claimed, number: usize) -> Result<Verdict, 
     }
 }
 
-// The verdict on a claim that is met so. A schedule that is too long to be spelled decides nothing.
+// The verdict on a claim that a world decides. A schedule that is too long to be spelled decides nothing.
 fn met_verdict(alloc: Global, met: &Met) -> Result<Verdict, AllocError>
     ensures { IfOk result (IsVerdictOf met.now) }
 {
@@ -142,7 +142,7 @@ fn met_verdict(alloc: Global, met: &Met) -> Result<Verdict, AllocError>
     }
 }
 
-// The verdict on a claim that isn't met, by whether the search was complete.
+// The verdict on a claim that no found world decides, by whether the search was complete.
 fn unmet_verdict(complete: bool) -> Verdict
     ensures { result ≡ unmet_verdict complete }
 {
@@ -153,7 +153,7 @@ fn unmet_verdict(complete: bool) -> Verdict
     }
 }
 
-// Which of these is the claim of this number.
+// The index in `met` of the claim of this number.
 fn met_number(met: &[Met], claim: usize) -> Option<usize>
     ensures some { IfSome result (IsMetAt met.now claim) }
     ensures none { IfNone result (IsFound claim met.now → ⊥) }

@@ -16,18 +16,18 @@ use outcome_trace::schedule_text;
 use std::alloc::{AllocError, Global};
 use timelines::timeline;
 
-/// In what form the verdicts are written.
+/// The form of the verdicts.
 #[derive(Clone, Copy, PartialEq, Eq, Debug)]
 pub enum ClaimForm {
-    /// As lines.
+    /// Lines in words.
     Report,
-    /// As lines, with a timeline behind each that has a schedule.
+    /// Lines in words, with a timeline after each that has a schedule.
     Timeline,
-    /// As lines of JSON.
+    /// Lines of JSON.
     Json,
 }
 
-/// What is written of all claims, one behind the other.
+/// The texts of all claims with their verdicts, one after the other.
 pub(crate) fn claim_lines(
     alloc: Global,
     program: &Program,
@@ -49,7 +49,7 @@ pub(crate) fn claim_lines(
     Ok(text)
 }
 
-// What is written of one claim.
+// The text of one claim with its verdict.
 fn claim_line(
     alloc: Global,
     program: &Program,
@@ -76,7 +76,7 @@ fn claim_line(
     }
 }
 
-// The text of the schedule, if there is one.
+// The text of the schedule, or no bytes if there is none.
 fn shown(alloc: Global, verdict: &Verdict) -> Result<Vec<u8>, AllocError>
     requires { IsSpellable verdict.now }
     ensures { IfOk result (λ text. IsShown verdict.now text.items) }
@@ -87,7 +87,7 @@ fn shown(alloc: Global, verdict: &Verdict) -> Result<Vec<u8>, AllocError>
     }
 }
 
-// A blank line and a timeline, if there is a schedule.
+// A blank line and a timeline, or no bytes if there is no schedule.
 fn rows_of(
     alloc: Global,
     program: &Program,
@@ -129,7 +129,7 @@ fn word_line(
     Ok(line)
 }
 
-// Writes the schedule in quotes, if there is one.
+// Adds the schedule in quotes, if there is one.
 fn push_under(line: &mut Vec<u8>, verdict: &Verdict, schedule: &[u8]) -> Result<(), AllocError>
     ensures { OnOk result (line.new.items ≡ line.old.items ++ under verdict.now schedule.now) }
 {
@@ -158,7 +158,7 @@ fn json_line(
     Ok(line)
 }
 
-// Its front, with the claim and what is asked of it.
+// The front of the object, with the claim and what is asked of it.
 fn json_front(alloc: Global, asked: &Asked<'_>) -> Result<Vec<u8>, AllocError>
     ensures { IfOk result (λ line. line.items ≡ json_front asked.now.rule asked.now.claim.text.items) }
 {
@@ -169,7 +169,7 @@ fn json_front(alloc: Global, asked: &Asked<'_>) -> Result<Vec<u8>, AllocError>
     Ok(line)
 }
 
-// Writes its end, with the schedule and the verdict.
+// Adds the end of the object, with the schedule and the verdict.
 fn push_json_back(
     line: &mut Vec<u8>,
     rule: Rule,
@@ -185,7 +185,7 @@ fn push_json_back(
     line.extend_from_slice(b"\"}\n")
 }
 
-// Writes the schedule as a string of JSON, or that there is none.
+// Adds the schedule as a string of JSON, or `null` if there is none.
 fn push_json_schedule(
     line: &mut Vec<u8>,
     verdict: &Verdict,
@@ -203,7 +203,7 @@ fn push_json_schedule(
     }
 }
 
-// The word of what is asked.
+// The word for what is asked.
 fn rule_text(rule: Rule) -> &'static [u8]
     ensures { result.now ≡ rule_text rule }
 {
@@ -214,7 +214,7 @@ fn rule_text(rule: Rule) -> &'static [u8]
     }
 }
 
-// The word of a verdict.
+// The word for a verdict.
 fn verdict_text(rule: Rule, verdict: &Verdict) -> &'static [u8]
     ensures { result.now ≡ verdict_text rule verdict.now }
 {

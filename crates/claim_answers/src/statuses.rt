@@ -1,4 +1,4 @@
-//! How the program ends behind the verdicts.
+//! The status of an answer about claims.
 
 ghost use Rattle.std.specs.Prelude.{◌≡◌, length};
 ghost use Rattle.claim_answers.specs.Verdicts.{claims_status, is_refuted, one_refuted, one_undecided, is_undecided};
@@ -18,7 +18,7 @@ pub(crate) fn is_refuted(rule: Rule, verdict: &Verdict) -> bool
     }
 }
 
-/// `Status::Errored` where a claim is refuted, else `Status::Unended` where one is undecided, else `Status::Succeeded`.
+/// `Status::Errored` if a claim is refuted, else `Status::Unended` if a claim is undecided, else `Status::Succeeded`.
 pub(crate) fn claims_status(asked: &[Asked<'_>], verdicts: &[Verdict]) -> Status
     requires { length asked.now ≡ length verdicts.now }
     ensures { result ≡ claims_status asked.now verdicts.now }
@@ -45,7 +45,7 @@ fn one_refuted(asked: &[Asked<'_>], verdicts: &[Verdict]) -> bool
     false
 }
 
-// Whether one of these is undecided.
+// Whether one of the verdicts is undecided.
 fn one_undecided(verdicts: &[Verdict]) -> bool
     ensures { result ≡ one_undecided verdicts.now }
 {
@@ -57,14 +57,15 @@ fn one_undecided(verdicts: &[Verdict]) -> bool
     false
 }
 
-// Whether a claim is undecided.
+// Whether a verdict is undecided.
 fn is_undecided(verdict: &Verdict) -> bool
     ensures { result ≡ is_undecided verdict.now }
 {
     matches!(verdict, Verdict::Undecided)
 }
 
-/// The status of both.
+/// The worse of two statuses: `Status::Errored` if one of them is, else `Status::Unended` if one of them is, else
+/// `other`.
 pub(crate) fn worse(one: Status, other: Status) -> Status
     ensures { result ≡ worse one other }
 {

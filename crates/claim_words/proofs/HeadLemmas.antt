@@ -23,7 +23,7 @@ more_names : (names : List (List ℕ)) (name : Option (List ℕ)) (n : ℕ) → 
 more_names names (Some x) n e = length-append names (x ∷ []) ∙ ap (λ m. m + 1) e
 more_names names None n e = omega arith
 
--- one head more
+-- one more head
 pub heads_more : (text rest behind : List ℕ) (name : Option (List ℕ)) (n m : ℕ) → AreHeads text rest n → IsNextHead rest name behind →
     m ≡ n + made name → AreHeads text behind m
 heads_more text rest behind name n m h next e = record {
@@ -38,7 +38,7 @@ last_get : (names : List (List ℕ)) (x : List ℕ) → slice_get (names ++ x �
 last_get [] x = refl
 last_get (y ∷ names) x = last_get names x
 
--- the next head makes the ref of this number
+-- the next head makes the ref of the number `n`
 pub ref_found : (text rest behind x : List ℕ) (name : Option (List ℕ)) (n : ℕ) → AreHeads text rest n → IsNextHead rest name behind →
     name ≡ Some x → IsRefOf text x n
 ref_found text rest behind x name n h next e = record {

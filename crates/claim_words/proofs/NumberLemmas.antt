@@ -9,7 +9,7 @@ use Rattle.claim_words.specs.declared.words.SpelledWord.TheVariants.{Numbered, N
 use Rattle.claim_words.specs.Heads.{AreNumbersOf, IsRefOf, numbered}
 use Rattle.claim_words.specs.Private.Steps.{claim_word, is_named}
 
--- the numbers that are left behind a word
+-- the numbers that are left after a word
 abbrev pub left : Bool → List ℕ → List ℕ
 left true ns = drop 1 ns
 left false ns = ns
@@ -27,7 +27,7 @@ left_named named n m ns e f = rw (e, f) (drop-drop 1 n ns)
 pub left_other : (named : Bool) (n m : ℕ) (ns : List ℕ) → named ≡ false → m ≡ n → left named (drop n ns) ≡ drop m ns
 left_other named n m ns e f = rw (e, f) refl
 
--- one word more
+-- one more word
 pub one_word : (all new total : List ClaimWord) (ws : List SpelledWord) (i : ℕ) (w : SpelledWord) (x : ClaimWord) (ns rest : List ℕ) →
     i < length ws → w ≡ get_or ws i w → x ≡ claim_word ns w → new ≡ all ++ x ∷ [] → left (is_named w) ns ≡ rest →
     all ++ numbered (drop i ws) ns ≡ total → new ++ numbered (drop (i + 1) ws) rest ≡ total

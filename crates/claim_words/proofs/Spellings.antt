@@ -1,4 +1,4 @@
--- Claims that are spelled, from their parts.
+-- Spelled claims, from their parts.
 use Rattle.std.proofs.Common.{◌≡◌, ℕ, ℤ, List, [], ◌∷◌, ◌++◌, codes}
 use Rattle.std.proofs.Math.Logic.{∥∥₁_map, ∥∥₁_map₂}
 use Rattle.std.specs.Fmt.{decimal}

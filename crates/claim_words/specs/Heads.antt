@@ -15,15 +15,15 @@ is_plain b = not ((b == 32) || (b == 40) || (b == 41))
 abbrev pub ref_front : List ℕ → List ℕ
 ref_front x = codes "(ref " ++ (x ++ codes " ")
 
--- `(ref x v `, which makes a ref before all behind it
+-- `(ref x v `, which makes a ref before all that follows
 abbrev pub ref_head : List ℕ → List ℕ → List ℕ
 ref_head x v = ref_front x ++ (v ++ codes " ")
 
--- `(deferred g `, which makes none
+-- `(deferred g `, which makes no ref
 abbrev pub deferred_head : List ℕ → List ℕ
 deferred_head g = codes "(deferred " ++ (g ++ codes " ")
 
--- The text is a row of such heads, whose refs have these names, in the order in which they are made.
+-- The text is a row of heads. Their refs have these names, in the order in which they are made.
 pub data IsHead : List ℕ → List (List ℕ) → Type 0 where
   no_head : IsHead [] []
   a_ref : (t : List ℕ) (names : List (List ℕ)) (x v : List ℕ) → IsHead t names → list_all is_plain x ≡ true →
@@ -31,8 +31,7 @@ pub data IsHead : List ℕ → List (List ℕ) → Type 0 where
   a_deferred : (t : List ℕ) (names : List (List ℕ)) (g : List ℕ) → IsHead t names → list_all is_plain g ≡ true →
       IsHead (t ++ deferred_head g) names
 
--- The name is that of the ref of this number: the text begins with a row of heads, in which it is the name of the ref
--- behind so many others.
+-- The name is that of the ref of this number: the text begins with a row of heads, whose refs are numbered from 0.
 pub record IsRefOf (text name : List ℕ) (number : ℕ) : Type 0 where
   pub front : List ℕ
   pub behind : List ℕ
@@ -52,7 +51,7 @@ abbrev pub joint_word : Joint → ClaimWord
 joint_word joints.And = its.And
 joint_word joints.Or = its.Or
 
--- the words, where the refs that are named have these numbers
+-- the words, with these numbers in place of the names of refs
 abbrev pub numbered : List SpelledWord → List ℕ → List ClaimWord
 numbered [] ns = []
 numbered (Numbered n how v ∷ ws) ns = its.Compare n how v ∷ numbered ws ns
@@ -61,7 +60,7 @@ numbered (Named how v ∷ ws) (n ∷ ns) = its.Compare n how v ∷ numbered ws n
 numbered (Not ∷ ws) ns = its.Not ∷ numbered ws ns
 numbered (Join j ∷ ws) ns = joint_word j ∷ numbered ws ns
 
--- The words of a claim are those that it spells, with the numbers of the refs that it names.
+-- The words of a claim, with the numbers of its refs in place of their names.
 pub record IsNumberedBy (text : List ℕ) (words : List SpelledWord) (names : List (List ℕ)) (it : List ClaimWord)
     : Type 0
   where

@@ -1,4 +1,4 @@
--- How a claim is spelled, and what its words are.
+-- How a claim is spelled, and which words it has.
 use Rattle.std.specs.Prelude.{ℕ, ℤ, List, [], ◌∷◌, ◌++◌, codes}
 use Rattle.std.specs.Fmt.{decimal, signed_decimal}
 use Rattle.every_schedule.specs.declared.claims.Comparison.{Comparison}
@@ -20,7 +20,7 @@ abbrev pub joint_text : Joint → List ℕ
 joint_text joints.And = codes "and"
 joint_text joints.Or = codes "or"
 
--- a comparison of a ref with a number, as `(< inside 2)`; the ref is spelled so
+-- a comparison of a ref with a number, as `(< inside 2)`; `subject` is the spelling of the ref
 abbrev pub compared_text : List ℕ → Comparison → ℤ → List ℕ
 compared_text subject how v =
     codes "(" ++ (comparison_text how ++ (codes " " ++ (subject ++ (codes " " ++ (signed_decimal v ++ codes ")")))))

@@ -1,4 +1,4 @@
-//! The refs at the head of a program's text, which the first fiber makes before anything else.
+//! The refs at the head of a program's text, which fiber 0 makes before anything else.
 
 ghost use Rattle.std.specs.Prelude.{◌≡◌, ◌≤◌, ◌+◌, ◌++◌, IfOk, IfSome, Some as There, codes, length, option_map, true};
 ghost use Rattle.std.specs.List.{list_all};
@@ -12,27 +12,27 @@ pub enum RefFault {
     NoRef,
     /// The text makes a ref of this name, but not at its head, so its number isn't known.
     NotAtHead,
-    /// The text has several binders of this name that make refs.
+    /// The text has several ref binders of this name.
     Several,
 }
 
-// A head of a text: the name of the ref that it makes, if it makes one, and all behind the head.
+// A head of a text: the name of the ref that it makes, if it makes one, and the text after the head.
 #[derive(Clone, Copy)]
 pub(crate) struct Head<'a> {
     name: Option<&'a [u8]>,
     rest: &'a [u8],
 }
 
-// A word of a text, and all behind the space that follows it.
+// A word of a text, and the text after the space that follows the word.
 #[derive(Clone, Copy)]
 pub(crate) struct Taken<'a> {
     word: &'a [u8],
     rest: &'a [u8],
 }
 
-/// The number of the ref of this name, if the text has one binder of this name that makes refs, and this is at its
-/// head: in `(ref NAME V (ref NAME V (deferred NAME ..)))`, before the first form of another word. The text is one that
-/// [`spaced_text`](crate::spaced_text) returns, of a program.
+/// The number of the ref `name`, if the text has one ref binder of this name and this binder is at its head. The head
+/// is the row of `(ref NAME V ` and `(deferred NAME ` with which the text begins. `text` is what
+/// [`spaced_text`](crate::spaced_text) returns for a program's text.
 pub fn number_of(text: &[u8], name: &[u8]) -> Result<u16, RefFault>
     ensures { IfOk result (IsRefOf text.now name.now) }
 {
@@ -46,7 +46,7 @@ pub fn number_of(text: &[u8], name: &[u8]) -> Result<u16, RefFault>
     }
 }
 
-// How many forms `(ref NAME ..)` of this name the text has.
+// The number of forms `(ref NAME ..)` of this name in the text.
 fn binders(text: &[u8], name: &[u8]) -> usize {
     let mut many = 0usize;
     for at in 0..text.len() {
@@ -57,7 +57,7 @@ fn binders(text: &[u8], name: &[u8]) -> usize {
     many
 }
 
-// Whether the text begins with such a form.
+// Whether the text begins with a form `(ref NAME ..)` of this name.
 fn is_binder_of(text: &[u8], name: &[u8]) -> bool {
     match behind(text, b"(ref ") {
         Some(rest) => is_same(&rest[..plain_front(rest)], name),
@@ -93,7 +93,7 @@ fn is_named(found: Option<&[u8]>, name: &[u8]) -> bool
     }
 }
 
-// How many refs there are, with that of a head, if it makes one.
+// The number of refs, with that of a head if it makes one.
 fn counted(number: u16, found: Option<&[u8]>) -> Option<u16>
     ensures { IfSome result (λ it. it ≡ number + made (option_map (λ x. x.now) found.entry)) }
 {
@@ -113,7 +113,7 @@ fn next_head(text: &[u8]) -> Option<Head<'_>>
     }
 }
 
-// The same, if it makes a ref.
+// The same for a head that makes a ref.
 fn ref_head(text: &[u8]) -> Option<Head<'_>>
     ensures { IfSome result (λ head. IsNextHead text.now (option_map (λ x. x.now) head.name) head.rest.now) }
 {
@@ -126,7 +126,7 @@ fn ref_head(text: &[u8]) -> Option<Head<'_>>
     })
 }
 
-// The same, if it makes a deferred.
+// The same for a head that makes a deferred.
 fn deferred_head(text: &[u8]) -> Option<Head<'_>>
     ensures { IfSome result (λ head. IsNextHead text.now (option_map (λ x. x.now) head.name) head.rest.now) }
 {
@@ -151,7 +151,7 @@ fn word_and_space(text: &[u8]) -> Option<Taken<'_>>
     })
 }
 
-// All behind these bytes, if the text begins with them.
+// The text after `front`, if the text begins with `front`.
 fn behind<'a>(text: &'a [u8], front: &[u8]) -> Option<&'a [u8]>
     ensures { IfSome result (λ rest. text.now ≡ front.now ++ rest.now) }
 {
@@ -166,14 +166,14 @@ fn behind<'a>(text: &'a [u8], front: &[u8]) -> Option<&'a [u8]>
     Some(&text[front.len()..])
 }
 
-/// Whether two texts are one.
+/// Whether two texts are equal.
 pub(crate) fn is_same(one: &[u8], other: &[u8]) -> bool
     ensures { result ≡ true → one.now ≡ other.now }
 {
     one == other
 }
 
-// How many bytes the text begins with that are neither a bracket nor a space.
+// The number of bytes before the first bracket or space of the text.
 fn plain_front(text: &[u8]) -> usize
     ensures within { result ≤ length text.now }
     ensures plain { IsPlainFront text.now result }

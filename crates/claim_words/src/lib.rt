@@ -1,9 +1,9 @@
 //! The claims of a command line: how they are spelled, and which refs they name.
 //!
-//! The crate uses the words of claims that a search takes (`every_schedule`). A claim compares refs with numbers, as
-//! `(< inside 2)`, and joins such comparisons by `and`, `or` and `not`. [`read_claim`] reads its text, and promises
-//! that the text spells what is returned. [`number_claim`] puts numbers in the place of the names of refs: the refs at
-//! the head of a program's text have the numbers from 0 on.
+//! A claim compares refs with numbers, as `(< inside 2)`, and joins comparisons by `and`, `or` and `not`. The crate
+//! uses the claim words of a search (`every_schedule`). [`read_claim`] reads the text of a claim, and promises that the
+//! text spells the returned claim. [`number_claim`] replaces the names of refs by numbers: the refs at the head of a
+//! program's text are numbered from 0.
 #![tactic(auto)]
 
 mod heads;

@@ -1,4 +1,4 @@
-//! The refs that a claim names, by their numbers.
+//! Claims with numbers in place of the names of refs.
 
 ghost use Rattle.std.specs.Prelude.{◌≡◌, ◌++◌, ◌∷◌, [], IfOk, OnOk, drop, map};
 ghost use Rattle.claim_words.specs.Heads.{AreNumbersOf, IsNumberedBy, numbered};
@@ -13,7 +13,7 @@ use std::alloc::{AllocError, Global};
 /// Why the refs of a claim have no numbers.
 #[derive(Debug, Drop)]
 pub enum NumberFault<'a> {
-    /// The ref of this name has none.
+    /// The ref of this name has no number.
     Unknown(&'a [u8], RefFault),
     /// Memory ran out.
     NoMemory,
@@ -25,8 +25,8 @@ impl From<AllocError> for NumberFault<'_> {
     }
 }
 
-/// The words of a claim, with the numbers of the refs that it names. The text is the one that
-/// [`spaced_text`](crate::spaced_text) returns of a program's text.
+/// The words of a claim, with the number of each ref in place of its name. `text` is what
+/// [`spaced_text`](crate::spaced_text) returns for a program's text.
 pub fn number_claim<'a>(
     alloc: Global,
     text: &[u8],
@@ -57,7 +57,7 @@ fn numbers_of<'a>(
     Ok(numbers)
 }
 
-// One number more.
+// Adds a number.
 fn push_number(numbers: &mut Vec<u16>, number: u16) -> Result<(), AllocError>
     ensures { OnOk result (numbers.new.items ≡ numbers.old.items ++ number ∷ []) }
 {
@@ -65,7 +65,7 @@ fn push_number(numbers: &mut Vec<u16>, number: u16) -> Result<(), AllocError>
     Ok(())
 }
 
-// These words, where the refs that are named have these numbers.
+// `words` with `numbers` in place of the names of refs.
 fn numbered(
     alloc: Global,
     words: &[SpelledWord],
@@ -84,14 +84,14 @@ fn numbered(
     Ok(all)
 }
 
-// Whether a word compares a ref that it names.
+// Whether a word has a ref by its name.
 fn is_named(word: SpelledWord) -> bool
     ensures { result ≡ is_named word }
 {
     matches!(word, SpelledWord::Named(_, _))
 }
 
-// A word, where the number of the ref that it names is the one at this place.
+// A word, with the number at `next` in place of the name of its ref.
 fn claim_word(word: &SpelledWord, numbers: &[u16], next: usize) -> ClaimWord
     ensures { result ≡ claim_word (drop next numbers.now) word.now }
 {
@@ -106,7 +106,7 @@ fn claim_word(word: &SpelledWord, numbers: &[u16], next: usize) -> ClaimWord
     }
 }
 
-// The number at this place, or 0 behind the last one.
+// The number at `next`, or 0 if there is none.
 fn number_at(numbers: &[u16], next: usize) -> u16
     ensures { result ≡ first_of (drop next numbers.now) }
 {

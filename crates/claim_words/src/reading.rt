@@ -17,7 +17,7 @@ use std::alloc::{AllocError, Global};
 /// Why a text spells no claim.
 #[derive(Clone, Copy, PartialEq, Eq, Debug)]
 pub enum ClaimFault {
-    /// What was expected, and how many bytes of the text are before the place.
+    /// What was expected, and the number of bytes of the text before this place.
     Expected(&'static str, usize),
     /// Memory ran out.
     NoMemory,
@@ -40,12 +40,12 @@ enum Open<'a> {
     Row(Operands<'a>),
 }
 
-// What a form or a part of one leads to.
+// The result of reading a form or a part of one.
 #[derive(Drop)]
 enum Step<'a> {
-    // A claim that is closed.
+    // A closed claim.
     Closed(Spelled<'a>),
-    // More is wanted.
+    // The claim goes on.
     More,
 }
 
@@ -63,9 +63,9 @@ const THE_END: &str = "the end of the claim";
 
 const PLAIN: &str = "numbers without zeros or a plus sign in front";
 
-/// The claim that a text spells: `(= REF V)`, with `!=`, `<`, `<=`, `>` or `>=` as well; or `(and CLAIM ..)`, `(or
-/// CLAIM ..)` or `(not CLAIM)`. REF is a name or a number up to 999, V a value. The spaces around brackets, and how
-/// many there are between words, mean nothing. Claims can nest to any depth.
+/// Reads the claim that a text spells: `(= REF V)`, also with `!=`, `<`, `<=`, `>` or `>=`; `(and CLAIM ..)`, `(or
+/// CLAIM ..)` or `(not CLAIM)`. REF is a name or a number up to 999, V a value. Spaces around brackets and further
+/// spaces between words mean nothing. Claims can nest to any depth.
 pub fn read_claim<'a>(alloc: Global, text: &'a [u8]) -> Result<Spelled<'a>, ClaimFault>
     ensures { IfOk result (λ claim. claim.text.items ≡ spaced_text text.now) }
 {
@@ -81,7 +81,7 @@ pub fn read_claim<'a>(alloc: Global, text: &'a [u8]) -> Result<Spelled<'a>, Clai
     Ok(claim)
 }
 
-// The claim that begins here. Each round takes a bracket at least.
+// The claim that begins here. Each round takes at least one bracket.
 fn whole_claim<'a>(
     alloc: Global,
     rounds: usize,
@@ -130,7 +130,7 @@ fn begin<'a>(open: &mut Vec<Open<'a>>, form: Open<'a>) -> Result<Step<'a>, Claim
     }
 }
 
-// The rest of a comparison.
+// Reads the rest of a comparison.
 fn comparison<'a>(
     alloc: Global,
     scanner: &mut Scanner<'a>,
@@ -160,7 +160,7 @@ fn take_closing(scanner: &mut Scanner<'_>) -> Result<(), ClaimFault> {
     }
 }
 
-// Puts a claim into the forms that are open, and closes those that end behind it.
+// Puts a claim into the innermost open form, and closes the forms that end after it.
 fn close<'a>(
     alloc: Global,
     rounds: usize,
@@ -181,7 +181,7 @@ fn close<'a>(
     Err(ClaimFault::Expected(A_CLAIM, scanner.place()))
 }
 
-// Puts a claim into a form, and closes it if it ends there.
+// Puts a claim into a form, and closes the form if it ends there.
 fn with_part<'a>(
     alloc: Global,
     scanner: &mut Scanner<'a>,

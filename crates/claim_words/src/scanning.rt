@@ -16,7 +16,7 @@ pub(crate) enum Subject<'a> {
 // The greatest number that a ref can have.
 const LAST_REF: u16 = 999;
 
-/// A place in the text of a claim, and all behind it.
+/// The text of a claim, and the place up to which it was read.
 #[derive(Clone, Copy)]
 pub(crate) struct Scanner<'a> {
     text: &'a [u8],
@@ -29,7 +29,7 @@ impl<'a> Scanner<'a> {
         Scanner { text, at: 0 }
     }
 
-    /// The place of the next token, or the end of the text.
+    /// The place of the next token, or the end of the text if there is none.
     pub(crate) fn place(&self) -> usize {
         for at in self.at..self.text.len() {
             if !is_space(self.text[at]) {
@@ -39,12 +39,12 @@ impl<'a> Scanner<'a> {
         self.text.len()
     }
 
-    /// Whether nothing but spaces is left.
+    /// Whether only spaces are left.
     pub(crate) fn is_at_end(&self) -> bool {
         self.place() >= self.text.len()
     }
 
-    /// Whether the next token is this bracket, which is then taken.
+    /// Takes the next token if it is this bracket, and returns whether it is.
     pub(crate) fn takes(&mut self, bracket: u8) -> bool {
         let place = self.place();
         match self.text.get(place) {
@@ -56,7 +56,7 @@ impl<'a> Scanner<'a> {
         }
     }
 
-    /// The next word, which is taken: the bytes up to a bracket or a space. It is empty before a bracket and at the
+    /// Takes the next word: the bytes before the next bracket or space. The word is empty before a bracket and at the
     /// end.
     pub(crate) fn word(&mut self) -> &'a [u8] {
         let place = self.place();
@@ -67,7 +67,7 @@ impl<'a> Scanner<'a> {
     }
 }
 
-// How many bytes the text begins with that are neither a bracket nor a space.
+// The number of bytes before the first bracket or space of the text.
 fn word_length(text: &[u8]) -> usize {
     for at in 0..text.len() {
         let byte = text[at];
@@ -78,7 +78,7 @@ fn word_length(text: &[u8]) -> usize {
     text.len()
 }
 
-/// How a word compares two values, if it does.
+/// The comparison that a word spells, if it spells one.
 pub(crate) fn comparison_of(word: &[u8]) -> Option<Comparison> {
     match word {
         b"=" => Some(Comparison::Equal),
@@ -91,8 +91,7 @@ pub(crate) fn comparison_of(word: &[u8]) -> Option<Comparison> {
     }
 }
 
-/// The ref that a word names, if it can name one: by letters and digits that begin with a letter, or by a number up to
-/// 999.
+/// The ref that a word names, if it names one: by a letter and further letters and digits, or by a number up to 999.
 pub(crate) fn subject_of(word: &[u8]) -> Option<Subject<'_>> {
     let first = *word.first()?;
     if is_letter(first) {
@@ -124,7 +123,7 @@ fn is_digit(byte: u8) -> bool {
     b'0' <= byte && byte <= b'9'
 }
 
-// The number of a ref that a word spells.
+// The number of a ref that a word spells, at most 999.
 fn ref_number(word: &[u8]) -> Option<u16> {
     let text = std::str::from_utf8(word).ok()?;
     match text.parse::<u16>() {

@@ -12,7 +12,7 @@ pub(crate) fn is_space(byte: u8) -> bool
     byte == b' ' || byte == b'\t' || byte == b'\r' || byte == b'\n'
 }
 
-/// The text with one space between any two tokens, but none behind an opening bracket and none before a closing one.
+/// The text with one space between any two tokens, but none after an opening bracket and none before a closing one.
 pub fn spaced_text(alloc: Global, text: &[u8]) -> Result<Vec<u8>, AllocError>
     ensures { IfOk result (λ it. it.items ≡ spaced_text text.now) }
 {
@@ -50,7 +50,7 @@ fn last_of(spaced: &[u8]) -> u8
     }
 }
 
-// Adds a space, unless there is one, or an opening bracket before it.
+// Adds a space, unless the text is empty or ends with a space or an opening bracket.
 fn push_space(spaced: &mut Vec<u8>) -> Result<(), AllocError>
     ensures { OnOk result (spaced.new.items ≡ loose spaced.old.items) }
 {
@@ -61,7 +61,7 @@ fn push_space(spaced: &mut Vec<u8>) -> Result<(), AllocError>
     Ok(())
 }
 
-// Takes the last byte off, if it is a space.
+// Removes the last byte, if it is a space.
 fn drop_space(spaced: &mut Vec<u8>)
     ensures { spaced.new.items ≡ tight spaced.old.items }
 {

@@ -1,4 +1,4 @@
-//! Claims, each with the text that spells it.
+//! Claims with the texts that spell them.
 
 ghost use Rattle.std.specs.Prelude.{◌≡◌, ◌++◌, IfOk, codes, map};
 ghost use Rattle.claim_words.specs.Spelling.{IsSpelling, claim, compared_text, comparison_text, joint_text, operands};
@@ -9,19 +9,19 @@ use every_schedule::Comparison;
 use itoa::Buffer;
 use std::alloc::{AllocError, Global};
 
-/// A claim: its text, in which one space is between any two tokens that need one, and its words.
+/// A claim: its words, and its text with one space between any two tokens that need one.
 #[derive(Drop)]
 pub struct Spelled<'a> {
     /// The text.
     pub text: Vec<u8>,
     /// The words, in postfix order.
     pub words: Vec<SpelledWord>,
-    /// The names of the refs that it names, in the order of the words.
+    /// The names of its refs, in the order of the words.
     pub names: Vec<&'a [u8]>,
     pub ghost spelled: { IsSpelling claim text.items words.items (map (λ x. x.now) names.items) },
 }
 
-/// The operands of a joint, each with a space before it.
+/// The operands of a joint. In the text, each has a space before it.
 #[derive(Drop)]
 pub(crate) struct Operands<'a> {
     joint: Joint,
@@ -31,7 +31,7 @@ pub(crate) struct Operands<'a> {
     ghost spelled: { IsSpelling (operands joint) text.items words.items (map (λ x. x.now) names.items) },
 }
 
-/// The comparison of the ref of a number with a value.
+/// The claim that compares the ref of a number with a value.
 pub(crate) fn compared_number<'a>(
     alloc: Global,
     number: u16,
@@ -49,7 +49,7 @@ pub(crate) fn compared_number<'a>(
     })
 }
 
-/// The comparison of the ref of a name with a value.
+/// The claim that compares the ref of a name with a value.
 pub(crate) fn compared_name<'a>(
     alloc: Global,
     name: &'a [u8],
@@ -64,7 +64,7 @@ pub(crate) fn compared_name<'a>(
     Ok(Spelled { text, words, names })
 }
 
-/// What holds where the claim doesn't.
+/// The negation of a claim.
 pub(crate) fn negated<'a>(alloc: Global, part: Spelled<'a>) -> Result<Spelled<'a>, AllocError> {
     let text = wrapped(alloc, b"(not ", part.text.as_slice())?;
     let mut words = part.words;
@@ -76,7 +76,7 @@ pub(crate) fn negated<'a>(alloc: Global, part: Spelled<'a>) -> Result<Spelled<'a
     })
 }
 
-/// The first operand of a joint.
+/// The operands of a joint, with the first one alone.
 pub(crate) fn first_operand<'a>(
     alloc: Global,
     joint: Joint,
@@ -91,7 +91,7 @@ pub(crate) fn first_operand<'a>(
     })
 }
 
-/// One more operand of a joint.
+/// The operands of a joint, with one more.
 pub(crate) fn more_operands<'a>(
     alloc: Global,
     before: Operands<'a>,
@@ -122,7 +122,7 @@ pub(crate) fn joined<'a>(alloc: Global, parts: Operands<'a>) -> Result<Spelled<'
     })
 }
 
-// How a comparison is spelled.
+// The text of a comparison.
 fn compared_text(
     alloc: Global,
     subject: &[u8],
@@ -142,7 +142,7 @@ fn compared_text(
     Ok(text)
 }
 
-// How two values are compared.
+// The sign of a comparison.
 fn comparison_text(how: Comparison) -> &'static [u8]
     ensures { result.now ≡ comparison_text how }
 {
@@ -156,7 +156,7 @@ fn comparison_text(how: Comparison) -> &'static [u8]
     }
 }
 
-// A text between these bytes and a closing bracket.
+// `front`, a text, and a closing bracket.
 fn wrapped(alloc: Global, front: &[u8], text: &[u8]) -> Result<Vec<u8>, AllocError>
     ensures { IfOk result (λ it. it.items ≡ front.now ++ (text.now ++ codes ")")) }
 {
@@ -166,7 +166,7 @@ fn wrapped(alloc: Global, front: &[u8], text: &[u8]) -> Result<Vec<u8>, AllocErr
     Ok(all)
 }
 
-// These bytes, a space, and a text.
+// `front`, a space, and a text.
 fn joined_text(alloc: Global, front: &[u8], text: &[u8]) -> Result<Vec<u8>, AllocError>
     ensures { IfOk result (λ it. it.items ≡ front.now ++ (codes " " ++ text.now)) }
 {
@@ -176,7 +176,7 @@ fn joined_text(alloc: Global, front: &[u8], text: &[u8]) -> Result<Vec<u8>, Allo
     Ok(all)
 }
 
-// How joined operands are spelled.
+// The text of a joint with its operands.
 fn joint_claim(alloc: Global, joint: Joint, parts: &[u8]) -> Result<Vec<u8>, AllocError>
     ensures { IfOk result (λ it. it.items ≡ codes "(" ++ (joint_text joint ++ (parts.now ++ codes ")"))) }
 {

@@ -1,9 +1,9 @@
-//! The words of a claim, with the refs by the names that the claim gives them.
+//! The words of a claim, with refs by the names that the claim gives them.
 
 use effect_term::Value;
 use every_schedule::Comparison;
 
-/// How several claims are joined.
+/// How claims are joined.
 #[derive(Clone, Copy)]
 pub enum Joint {
     /// All of them hold.
@@ -15,12 +15,12 @@ pub enum Joint {
 /// A word of a claim. The words are in postfix order, as those of [`ClaimWord`](every_schedule::ClaimWord).
 #[derive(Clone, Copy)]
 pub enum SpelledWord {
-    /// The value of the ref of this number is compared with a value.
+    /// Compares the value of the ref of this number with a value.
     Numbered(u16, Comparison, Value),
-    /// The value of the ref of the claim's next name is compared with a value.
+    /// Compares the value of the ref of the claim's next name with a value.
     Named(Comparison, Value),
-    /// The last truth value is turned.
+    /// Negates the last truth value.
     Not,
-    /// The last two truth values are joined.
+    /// Joins the last two truth values.
     Join(Joint),
 }

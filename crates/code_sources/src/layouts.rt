@@ -1,12 +1,12 @@
-//! The words of a form in a code: words of its own, and those of its parts, in the order of the code. `expand` of
-//! `derived_ops` writes the same words.
+//! The words of each form in a code: its own words and those of its parts, in the order in which `expand` of
+//! `derived_ops` writes them.
 
 use crate::sources::StartRole;
 use crate::task::{Task, put_first};
 use crate::term_parts::TermParts;
 use std::alloc::AllocError;
 
-/// A word, and then its parts.
+/// The words of a form with one word of its own: this word, and then its parts.
 pub(crate) fn plain(
     tasks: &mut Vec<Task>,
     place: usize,
@@ -57,7 +57,7 @@ pub(crate) fn guarantee(
     )
 }
 
-/// What a bracket does after each outcome of its body.
+/// The forms that a bracket runs after each outcome of its body.
 #[derive(Clone, Copy)]
 pub(crate) struct Releases {
     /// The form for a body that was canceled.
@@ -97,7 +97,7 @@ pub(crate) fn bracket(
 // The number of words of a race behind those that cancel both sides: two waits, and the outcome of the winner.
 const RACE_REST: usize = 9 + 45;
 
-// The same for `both`, with the ref's value and its binder.
+// The number of these words for `both`, with the ref's value and its binder.
 const BOTH_REST: usize = 9 + 55 + 2;
 
 // The words that run both sides of a race, and cancel them if the wait is cut. `rest` words follow them.

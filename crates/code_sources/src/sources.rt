@@ -24,16 +24,16 @@ pub enum StartRole {
 pub struct WordSource {
     /// The number of bytes of the term's text before the opening bracket of its form.
     pub place: usize,
-    /// The role of the fiber that it starts, if it starts one.
+    /// The role of the fiber that the word starts, if it starts one.
     pub role: StartRole,
 }
 
 /// The source of each word of a code, in the order of the words, from the text of the code's term. `many` is the number
 /// of words of the code.
 ///
-/// A word of the inner machinery of a form, such as `race` or `guarantee`, has that form as its source. If the text
-/// isn't that of the code's term, there is still one source for each word: words without a form have place 0. Returns
-/// `AllocError` if memory runs out.
+/// The own words of a form such as `race` or `guarantee` have that form as their source. If the text isn't that of the
+/// code's term, there is still one source for each word: words without a form have place 0. Returns `AllocError` if
+/// memory runs out.
 pub fn code_sources(alloc: Global, text: &[u8], many: usize) -> Result<Vec<WordSource>, AllocError>
     ensures { IfOk result (λ sources. length sources.items ≡ many) }
 {

@@ -1,4 +1,4 @@
-//! The rest of the walk through a text.
+//! The tasks of the walk through a text.
 
 use crate::sources::StartRole;
 use model_forms::Block;
@@ -13,7 +13,7 @@ pub(crate) enum Task {
     Words(usize, usize),
     /// A word of the form at this place, which starts a fiber of this role.
     Start(StartRole, usize),
-    /// The rest of a sequence at this place: the lists of a block.
+    /// The rest of the sequence at this place: the lists of a block.
     Sequence(Block, usize),
 }
 

@@ -5,10 +5,10 @@ use model_forms::{Block, Form, FormKind, behind_first, first_form};
 // The greatest number of terms among the parts of a form.
 const MOST: usize = 5;
 
-/// The numbers of the forms that are the terms among a form's parts, in the order of the text.
+/// The numbers of a form's parts that are terms, in the order of the text; for a missing part, one past all forms.
 #[derive(Clone, Copy)]
 pub(crate) struct TermParts {
-    /// The first part, or a number past all forms if there is none.
+    /// The first part.
     pub first: usize,
     /// The second part.
     pub second: usize,
@@ -36,7 +36,7 @@ pub(crate) fn inside(forms: &[Form], number: usize) -> Block {
 /// The rest of a block from its first list on, or an empty block.
 pub(crate) fn first_list(forms: &[Form], block: Block) -> Block {
     let mut rest = block;
-    // No form has as many parts before a term, but a text that isn't a term can.
+    // A form of a term has few words before a list, but a text that isn't a term can have more.
     for _ in 0..forms.len() {
         match first_form(forms, rest) {
             None => return rest,
@@ -49,7 +49,7 @@ pub(crate) fn first_list(forms: &[Form], block: Block) -> Block {
     rest
 }
 
-// The number of the first list of a block, or a number past all forms.
+// The number of the first form of a block, or a number past all forms if the block is empty.
 fn number_of_first(forms: &[Form], block: Block) -> usize {
     if block.first < block.end {
         block.first

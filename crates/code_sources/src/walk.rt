@@ -13,7 +13,7 @@ use term_parse::{Word, word_of};
 // More steps than the walk through a code takes: a code has fewer than 2,000,000 words, and no form more than 20 tasks.
 const STEPS: u64 = 100_000_000;
 
-/// The sources of this number of words of a code.
+/// The sources of the first `many` words of a code.
 pub(crate) fn walk(
     alloc: Global,
     text: &[u8],
@@ -44,7 +44,7 @@ fn source(place: usize, role: StartRole) -> WordSource {
     WordSource { place, role }
 }
 
-// Adds the source of this many words of the form at this place, up to the number of words of the code.
+// Adds the source of `more` words of the form at `place`, up to `many` sources.
 fn add(
     sources: &mut Vec<WordSource>,
     many: usize,
@@ -56,7 +56,7 @@ fn add(
     sources.resize(wanted, source(place, role))
 }
 
-// Does one task, which can leave others.
+// Does one task, which can add others.
 fn obey(
     text: &[u8],
     forms: &[Form],
@@ -73,7 +73,7 @@ fn obey(
     }
 }
 
-// The parts of a sequence from the first of a block on. Before each part, except the last, is a word of the sequence.
+// Adds the tasks of a sequence from a block's first part on. A word of the sequence is before each part but the last.
 fn spread_sequence(
     forms: &[Form],
     tasks: &mut Vec<Task>,
@@ -97,7 +97,7 @@ fn word_at(text: &[u8], forms: &[Form], number: usize) -> Option<Word> {
     word_of(form_bytes(text, head))
 }
 
-// The words of the form of this number.
+// Adds the tasks of the form of this number.
 fn spread_form(
     text: &[u8],
     forms: &[Form],
@@ -117,7 +117,7 @@ fn spread_form(
     }
 }
 
-// The words of a form with these parts that isn't a sequence.
+// Adds the tasks of a form with these parts that isn't a sequence.
 fn spread_parts(
     tasks: &mut Vec<Task>,
     place: usize,
@@ -155,7 +155,7 @@ fn spread_parts(
     }
 }
 
-// The releases of a bracket after a value, an error and a cancelation.
+// The releases of a bracket after a value, an error and a cancellation.
 fn released(on_value: usize, on_error: usize, on_cancel: usize) -> Releases {
     Releases {
         on_cancel,

@@ -1,4 +1,4 @@
--- What comes of two texts that are compared.
+-- The effects of comparing two texts.
 use Rattle.std.proofs.Common.{◌≡◌, ◌≢◌, ◌∙◌, ℕ, List, Result, Ok, Err, refl, ap, subst}
 use Rattle.std.specs.Prelude.{IfOk}
 use Rattle.comparison_answers.specs.declared.pairs.CompareOrder.{CompareOrder}
@@ -40,7 +40,7 @@ module _ (order : CompareOrder) (out out' : Writer) (one other answer : List ℕ
     (answers : IsPairAnswer order.json order.limits order.bounds order.basis one other answer own) (result : Result (Unit {0}) TextFault)
     (written : List ℕ) (same : written ≡ answer) (goes : GoesOut out.contents out'.contents written result) (only : OnlyWriteFaults result)
     (failed : out'.failed ≡ is_write_fault result) where
-  -- the answer went out
+  -- the answer was written
   pub pair_answered : (err : Writer) (done : Unit {0}) → result ≡ Ok done → WritesPair order one other out out' err err own
   pair_answered err done is = answered record {
     answer = answer;
@@ -56,7 +56,7 @@ module _ (order : CompareOrder) (out out' : Writer) (one other answer : List ℕ
     status_is = refl;
   }
 
-  -- or a write failed, which is told
+  -- or a write failed, and the line of the fault was written
   pub pair_kept_back : (err err' : Writer) (f : TextFault) (status : Status) → result ≡ Err f → Told (fault_line f) err err' → status ≡ Fault →
       WritesPair order one other out out' err err' status
   pair_kept_back err err' f status is told status_is = answered record {

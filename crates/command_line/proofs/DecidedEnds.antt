@@ -1,4 +1,4 @@
--- No answer on fair schedules ends as wrong usage does.
+-- No answer on fair schedules has the status of wrong usage.
 use Rattle.std.proofs.Common.{◌≡◌, ◌≢◌, ◌∙◌, Bool, true, false, ℕ, List, sym}
 use Rattle.effect_term.specs.declared.term.Term.{Term}
 use Rattle.text_io.specs.declared.status.Status.{Status}

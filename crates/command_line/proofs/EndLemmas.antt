@@ -1,4 +1,4 @@
--- No answer to a text ends as wrong usage does.
+-- No answer to a text has the status of wrong usage.
 use Rattle.std.proofs.Common.{◌≡◌, ◌≢◌, ◌∙◌, if◌then◌else◌, Bool, true, false, ℕ, List, [], ◌∷◌, Option, Some, None, Result, Ok, Err, sym}
 use Rattle.cell_registry.specs.declared.limits.Limits.{Limits}
 use Rattle.effect_term.specs.declared.reply.Outcome.{Outcome}
@@ -49,7 +49,7 @@ refusal_ends (no_program text t e reads past) = λ u. cc
 success_ends : {status : Status} → status ≡ ends.Succeeded → status ≢ ends.Usage
 success_ends is = λ u. let bad : ends.Succeeded ≡ ends.Usage = sym is ∙ u in cc
 
--- where neither a refusal nor what comes of a program has the status of wrong usage, no answer to a text has it
+-- if neither a refusal nor an answer to a program has the status of wrong usage, no answer to a text has it
 pub program_ends : {Refuses : List ℕ → List ℕ → Status → Type 0} {Comes : Term → List ℕ → Status → Type 0} {text answer : List ℕ} {status : Status} →
     ((text answer : List ℕ) (status : Status) → Refuses text answer status → status ≢ ends.Usage) →
     ((t : Term) (answer : List ℕ) (status : Status) → Comes t answer status → status ≢ ends.Usage) →
@@ -113,7 +113,7 @@ form_ends Timeline schedule limits text answer status h = timeline_ends h
 form_ends Picture schedule limits text answer status h = picture_ends h
 form_ends Json schedule limits text answer status h = json_ends h
 
--- where no answer has the status of wrong usage, nothing that is answered ends with it
+-- if no answer has the status of wrong usage, no result has it
 pub answered_ends : (Answers : List ℕ → List ℕ → Status → Type 0) (before after : Reader) (old new : Writer) (result : Result Status TextFault) →
     ((text answer : List ℕ) (status : Status) → Answers text answer status → status ≢ ends.Usage) → IsAnswered Answers before after old new result →
     status_of result ≢ ends.Usage
@@ -130,7 +130,7 @@ pub told_ends : {Answers : List ℕ → List ℕ → Status → Type 0} {before 
     ((text answer : List ℕ) (status : Status) → Answers text answer status → status ≢ ends.Usage) → Answered Answers before after status → status ≢ ends.Usage
 told_ends never h = λ u. answered_ends _ _ _ _ _ h.result never h.answered (sym h.status_is ∙ u)
 
--- with reasons or without
+-- the same with or without reasons
 pub order_ends : (Answers : List ℕ → List ℕ → Status → Type 0) (Tells : List ℕ → List ℕ → Type 0) (explain : Bool) (before after : Devices)
     (status : Status) → ((text answer : List ℕ) (status : Status) → Answers text answer status → status ≢ ends.Usage) →
     ObeysOrder Answers Tells explain before after status → status ≢ ends.Usage

@@ -1,4 +1,4 @@
--- What is told beside an answer with a note.
+-- What is written beside an answer with a note.
 use Rattle.std.proofs.Common.{◌≡◌, ℕ, Bool, true, false, List, [], ◌∷◌, Ok, refl, sym, subst}
 use Rattle.text_io.specs.declared.status.Status.{Status}
 use Rattle.text_io.specs.Devices.{Reader, Writer}

@@ -1,4 +1,4 @@
--- No answer with a note ends as wrong usage does.
+-- No answer with a note has the status of wrong usage.
 use Rattle.std.proofs.Common.{◌≡◌, ◌≢◌, ◌∙◌, inl, inr, if◌then◌else◌, Bool, true, false, ℕ, List, sym}
 use Rattle.cell_registry.specs.declared.limits.Limits.{Limits}
 use Rattle.effect_term.specs.declared.term.Term.{Term}

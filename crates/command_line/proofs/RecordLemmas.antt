@@ -1,4 +1,4 @@
--- Answers to texts whose programs workers run while their schedule is noted.
+-- Answers to texts whose programs workers run while they record their schedule.
 use Rattle.std.proofs.Common.{◌≡◌, ◌++◌, ◌∷◌, ℕ, All, Bool, true, false, ◌&&◌, List, Option, Some, None, Result, Ok, Err, IfOk, refl, subst, sym}
 use Rattle.std.specs.Prelude.{IfErr, IfNone, IfSome, String, string_bytes}
 use Rattle.std.specs.declared.alloc.Global.{Global}
@@ -28,7 +28,7 @@ use Rattle.command_line.specs.Recording.{ended_status, ended_text, has_line, is_
 use Rattle.command_line.specs.Recording.{SpellsFound, no_schedule, reports, schedules, timed}
 use Rattle.command_line.specs.Workers.{IsWorkersAnswer, faults as faults_worked, reports as reports_worked}
 
--- the text of a schedule that leads to the end
+-- the text spells a schedule that leads to the end
 pub spelled_record : (code : Tree) (k : Limits) (found : Result (Vec ℕ Global) NoSchedule) (s : Result (String Global) NoSchedule)
     (end : Result Report RunError) → IfOk found (λ entries. reported (core code k entries.items) ≡ end) →
     IfOk s (λ text. SpellsFound found (string_bytes text)) → IfOk s (λ text. IsRecord code k (string_bytes text) end)
@@ -37,14 +37,14 @@ spelled_record code k (Err why) (Ok text) end comes spelled = absurd spelled
 spelled_record code k (Ok entries) (Err why) end comes spelled = tt
 spelled_record code k (Err none) (Err why) end comes spelled = tt
 
--- the line that is told is that of a schedule which leads to the end, or of none
+-- the line is that of a schedule which leads to the end, or of none
 pub line_told : (t : Term) (options : Options) (end : Result Report RunError) (s : Result (String Global) NoSchedule) →
     IfOk s (λ text. IsRecord (code_of (source_of t)) (limits_of options) (string_bytes text) end) →
     IsScheduleLine t options end (is_found s) (told_line s)
 line_told t options end (Ok text) h = schedules (string_bytes text) h
 line_told t options end (Err why) h = no_schedule why
 
--- the same behind the line of a fault
+-- the same after the line of a fault
 pub line_behind_told : (t : Term) (options : Options) (e : RunError) (s : Result (String Global) NoSchedule) →
     IfOk s (λ text. IsRecord (code_of (source_of t)) (limits_of options) (string_bytes text) (Err e)) →
     IsBehindFault t options e (has_line (Err e) && is_found s) (line_behind e s)
@@ -54,7 +54,7 @@ line_behind_told t options fault.NoMemory s h = (refl, refl)
 line_behind_told t options (fault.Lost f) s h = (refl, refl)
 line_behind_told t options fault.NoWorker s h = (refl, refl)
 
--- what a recorded run comes to, with the line of its schedule
+-- the answer to a recorded run, with the line of its schedule
 pub recorded_answer : (t : Term) (options : Options) (end : Result RunEnd RunError) (s : Result (String Global) NoSchedule) (a : Answer) →
     IfOk end (λ it. IsSpentReport (code_of (source_of t)) (limits_of options) options.moves it.report) → IfOk end (λ it. All IsLawful it.report.fibers) →
     IfErr end (IsFaultWithin (limits_of options)) → IfErr end (IsRunFault (code_of (source_of t)) (limits_of options)) →
@@ -75,14 +75,14 @@ recorded_answers t options end s (Ok a) some lawful within of_run recorded line 
     (has_line end && is_found s, recorded_answer t options end s a some lawful within of_run recorded line status)
 recorded_answers t options end s (Err x) some lawful within of_run recorded line status = tt
 
--- what was read of a schedule that was found
+-- the entries that were read are those of the found schedule
 pub entries_found : (s : Result (String Global) NoSchedule) (text : String Global) (bytes entries : List ℕ) → s ≡ Ok text →
     bytes ≡ string_bytes text → ((others : List ℕ) → SpellsEntries bytes others → others ≡ entries) → AreEntriesOf s entries
 entries_found s text bytes entries is same one =
     subst (λ (r : Result (String Global) NoSchedule). AreEntriesOf r entries) (sym is)
     (λ others spells. one others (subst (λ (bs : List ℕ). SpellsEntries bs others) (sym same) spells))
 
--- a schedule is told exactly where a line is told of the end, and a schedule is handed out
+-- the answer has a schedule exactly if its end has a line and a schedule was found
 pub tells_none : (end : Result RunEnd RunError) (s : Result (String Global) NoSchedule) → has_line end ≡ false → has_line end && is_found s ≡ false
 tells_none end s h = rw h refl
 
@@ -100,7 +100,7 @@ pub tells_found : {V : Type 0} (items : V → List ℕ) (end : Result RunEnd Run
 tells_found {V} items end s found v h some is =
     tells_one items end s v h (subst (λ (o : Option V). IfSome o (λ v. AreEntriesOf s (items v))) is some)
 
--- no entries are found only where no schedule is handed out
+-- no entries are found only if no schedule was found
 pub none_found : {V : Type 0} (s : Result (String Global) NoSchedule) (found : Option V) → IfNone found (is_found s ≡ false) → found ≡ None →
     is_found s ≡ false
 none_found s None none is = none
@@ -122,7 +122,7 @@ pub ended_answers : (t : Term) (options : Options) (end : Result RunEnd RunError
 ended_answers t options (Ok it) a some lawful within of_run line status = rw (line, status) (reports_worked it.report some lawful)
 ended_answers t options (Err f) a some lawful within of_run line status = rw (line, status) (faults_worked f within of_run)
 
--- a replay under the entries of the schedule comes to the same
+-- a replay under the entries of the schedule gives the same answer
 replay_comes : (t : Term) (options : Options) (end : Result RunEnd RunError) (entries : List ℕ) →
     reported (core (code_of (source_of t)) (limits_of options) entries) ≡ came_to end →
     IsRunAnswer t entries (limits_of options) (ended_text end) (ended_status end)

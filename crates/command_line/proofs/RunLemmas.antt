@@ -1,4 +1,4 @@
--- What comes of words, from what `clap` and the orders say of them.
+-- The effect of the words, from the contracts of `clap` and of the orders.
 use Rattle.std.proofs.Common.{◌≡◌, ◌≢◌, ◌∙◌, ◌⊎◌, ap, subst, ℕ, List, [], true, Option, Some, None, Result, Ok, Err, inl, inr, sym, refl}
 use Rattle.clap.specs.Words.{App, IsAmong, Row, Text, HasMatchesOf, fault_of, is_simple, is_simple_and_free, subcommand_of, subcommand_rows_of, takes}
 use Rattle.clap.specs.declared.error.kind.ErrorKind.{ErrorKind}
@@ -18,11 +18,11 @@ use Rattle.command_line.specs.Obeying.{ObeysRequest, Runs, no_request, no_words,
 use Rattle.command_words.specs.Telling.{AsksHelp, LacksMemory, ShowsText, TellsKind, TellsWrong, no_memory, shown, wrong}
 use Rattle.command_words.specs.Words.{program}
 
--- the command is one of those of which `clap` says how a parse fails
+-- the command is one for which `clap` promises how a parse fails
 pub free_built : (a : App) → a ≡ program → is_simple_and_free a ≡ true
 free_built a same = ap is_simple_and_free same
 
--- the subcommand that was found is the one that stands in the words
+-- the subcommand that was found is the one in the words
 said_so : (a : App) (words : List Text) (m : ArgMatches) → a ≡ program → HasMatchesOf a words m → subcommand_rows_of m ≡ subcommand_of program words
 said_so a words m same h = (h (ap is_simple same)).1 ∙ ap (λ (x : App). subcommand_of x words) same
 
@@ -54,7 +54,7 @@ runs_no_request a words m before after status same h gives unread unanswered tol
   told = told;
 }
 
--- help isn't want of memory
+-- a request for help isn't the error of memory
 help_known : (k : ErrorKind) → AsksHelp k → k ≢ kind.OutOfMemory
 help_known k (inl help) = λ e. cc
 help_known k (inr version) = λ e. cc
@@ -85,13 +85,13 @@ pub runs_no_words : (words : List Text) (before after : Devices) (status : Statu
     LacksMemory before.err after.err status → Runs words before after status
 runs_no_words words before after status unread unanswered lacks = no_words record { unread = unread; unanswered = unanswered; lacks = lacks }
 
--- the kinds whose text goes to the output
+-- the kinds whose text goes to `out`
 pub help_of : (k : ErrorKind) → ((k ≢ kind.DisplayHelp) × (k ≢ kind.DisplayVersion) → ⊥) → AsksHelp k
 help_of kind.DisplayHelp h = inl refl
 help_of kind.DisplayVersion h = inr refl
 help_of k h = absurd (h ((λ e. cc), (λ e. cc)))
 
--- the text that was asked for went out
+-- the requested text was written
 pub text_shown : (out out' err : Writer) (text : List ℕ) (result : Result (Unit {0}) TextFault) (done : Unit {0}) → result ≡ Ok done →
     GoesOut out.contents out'.contents text result → OnlyWriteFaults result → out'.failed ≡ is_write_fault result → ShowsText out out' err err Succeeded
 text_shown out out' err text result done is goes only failed = record {
@@ -105,7 +105,7 @@ text_shown out out' err text result done is goes only failed = record {
   status_is = refl;
 }
 
--- a fault says the same of each kind of answer
+-- for a fault, `GoesOut` is the same for each type of result
 pub out_same : (old new : Option (List ℕ)) (text : List ℕ) (f : TextFault) → GoesOut {A = Unit {0}} old new text (Err f) → GoesOut {A = Status} old new text (Err f)
 out_same old new text faults.NoMemory g = g
 out_same old new text faults.ReadFault g = g
@@ -124,7 +124,7 @@ write_same faults.ReadFault = refl
 write_same (faults.WriteFault n) = refl
 write_same faults.TurnBound = refl
 
--- or its device failed, which is told
+-- or its device failed, and the line of the fault was written
 pub text_kept_back : (out out' err err' : Writer) (text : List ℕ) (f : TextFault) (result : Result (Unit {0}) TextFault) (status : Status) →
     result ≡ Err f → GoesOut out.contents out'.contents text result → OnlyWriteFaults result → out'.failed ≡ is_write_fault result →
     Told (fault_line f) err err' → status ≡ Fault → ShowsText out out' err err' status

@@ -4,7 +4,7 @@ use Rattle.text_io.specs.declared.status.Status.TheVariants.{Succeeded, Errored,
 use Rattle.model_suites.specs.Statuses.{IsSuiteStatus}
 use Rattle.command_line.specs.Tests.{IsTestStatus}
 
--- that of a suite is one of them
+-- the status of a suite is a status of a test
 pub suite_status : (status : Status) → IsSuiteStatus status → IsTestStatus status
 suite_status Succeeded is = tt
 suite_status Errored is = tt

@@ -1,4 +1,4 @@
--- What comes of programs that workers run.
+-- Answers to programs that workers run.
 use Rattle.std.proofs.Common.{◌≡◌, ℕ, All, List, Result, Ok, Err, IfOk}
 use Rattle.cell_registry.specs.declared.limits.RunError.{RunError}
 use Rattle.derived_ops.specs.Expansion.{code_of}

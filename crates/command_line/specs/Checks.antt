@@ -1,4 +1,4 @@
--- What it comes to, to tell whether a text is a program, and to print its expansion.
+-- The effects of the requests to check a text and to show its program.
 use Rattle.std.specs.Prelude.{Bool, true, false, ℕ, List}
 use Rattle.reasons.specs.Refusals.{IsTextReasons}
 use Rattle.json_answers.specs.Answers.{IsJsonCheck}
@@ -9,16 +9,16 @@ use Rattle.command_words.specs.declared.checking.Checking.{Checking}
 use Rattle.command_words.specs.declared.checking.Showing.{Showing}
 use Rattle.command_line.specs.Orders.{ObeysOrder}
 
--- what `check` answers: as JSON, or in words
+-- the answer of `check`, as JSON or in words
 abbrev pub checks_as : Bool → List ℕ → List ℕ → Status → Type 0
 checks_as true = IsJsonCheck
 checks_as false = IsCheckAnswer
 
--- what it comes to, to tell whether a text is a program
+-- the effect of a request to check a text
 abbrev pub ObeysCheck : Checking → Devices → Devices → Status → Type 0
 ObeysCheck checking before after status =
     ObeysOrder (checks_as checking.json) IsTextReasons checking.explain before after status
 
--- what it comes to, to print the expansion of a text's program
+-- the effect of a request to show a text's program
 abbrev pub ObeysShow : Showing → Devices → Devices → Status → Type 0
 ObeysShow showing before after status = ObeysOrder IsShowAnswer IsTextReasons showing.explain before after status

@@ -1,4 +1,4 @@
--- What it comes to, to compare the programs of two files.
+-- The effect of a request to compare the programs of two files.
 use Rattle.std.specs.Prelude.{◌≡◌, ◌≢◌, ℕ, false, List, ◌++◌, codes, Result, Ok, Err, IfOk}
 use Rattle.comparison_answers.specs.declared.pairs.CompareOrder.{CompareOrder}
 use Rattle.comparison_answers.specs.PairAnswers.{IsPairAnswer}
@@ -15,19 +15,19 @@ use Rattle.command_words.specs.Telling.{LacksMemory}
 use Rattle.command_line.specs.declared.compare_order.Side.{Side}
 use Rattle.command_line.specs.declared.compare_order.Side.TheVariants.{First, Second}
 
--- one of two files by its name
+-- the name of one of the two files
 abbrev pub side_name : Side → List ℕ
 side_name First = codes "first: "
 side_name Second = codes "second: "
 
--- the line of a fault in reading it
+-- the line of a fault in reading this file
 abbrev pub side_line : Side → TextFault → List ℕ
 side_line side NoMemory = fault_line NoMemory
 side_line side ReadFault = side_name side ++ fault_line ReadFault
 side_line side (WriteFault n) = fault_line (WriteFault n)
 side_line side TurnBound = side_name side ++ fault_line TurnBound
 
--- The answer to two texts goes out as the result tells. A fault is told on the last device.
+-- The answer to two texts is written, as `result` records. The line of a fault goes to `err`.
 pub record AnswersPair (order : CompareOrder) (one other : List ℕ) (out out' err err' : Writer) (status : Status) :
     Type 0 where
   pub answer : List ℕ
@@ -41,15 +41,15 @@ pub record AnswersPair (order : CompareOrder) (one other : List ℕ) (out out' e
   pub told : TellsResult result err err'
   pub status_is : status ≡ status_of result
 
--- what comes of two texts: their answer, or that there is no memory for it, which is told
+-- the effect of comparing two texts: their answer is written, or that memory ran out for it
 pub data WritesPair (order : CompareOrder) (one other : List ℕ) (out out' err err' : Writer) (status : Status) : Type 0
   where
     answered : AnswersPair order one other out out' err err' status →
         WritesPair order one other out out' err err' status
     no_memory : out' ≡ out → LacksMemory err err' status → WritesPair order one other out out' err err' status
 
--- A text couldn't be read: the reader failed, or didn't find its end, or memory ran out. That is told, and nothing is
--- answered.
+-- A text wasn't read: the reader failed, its end wasn't found, or memory ran out. The line of the fault goes to `err`,
+-- and nothing is answered.
 pub record FailsSide (side : Side) (before after : Reader) (out out' err err' : Writer) (status : Status) : Type 0 where
   pub fault : TextFault
   pub failed : after.failed ≡ is_read_fault {A = Status} (Err fault)
@@ -59,7 +59,7 @@ pub record FailsSide (side : Side) (before after : Reader) (out out' err err' : 
   pub told : Told (side_line side fault) err err'
   pub status_is : status ≡ Fault
 
--- what comes of one text and a second one that is read
+-- the effect of comparing one text with a second one that is still to be read
 pub data ComparesSecond (order : CompareOrder) (one : List ℕ) (second second' : Reader) (out out' err err' : Writer)
     (status : Status) : Type 0 where
   second_read : (other : List ℕ) → IsRead second second' other → WritesPair order one other out out' err err' status →
@@ -67,7 +67,7 @@ pub data ComparesSecond (order : CompareOrder) (one : List ℕ) (second second' 
   second_fails : FailsSide Second second second' out out' err err' status →
       ComparesSecond order one second second' out out' err err' status
 
--- what comes of two texts that are read
+-- the effect of comparing two texts that are still to be read
 pub data ComparesTexts (order : CompareOrder) (first first' second second' : Reader) (out out' err err' : Writer)
     (status : Status) : Type 0 where
   first_read : (one : List ℕ) → IsRead first first' one →
@@ -76,13 +76,14 @@ pub data ComparesTexts (order : CompareOrder) (first first' second second' : Rea
   first_fails : FailsSide First first first' out out' err err' status →
       ComparesTexts order first first' second second' out out' err err' status
 
--- a file that was opened, of which nothing has been read
+-- a file that was opened, and not yet read
 pub record IsUnread (r : Reader) : Type 0 where
   pub healthy : r.failed ≡ false
   pub unended : r.ended ≡ false
   pub none : r.reads ≡ 0
 
--- What comes of two files: they are opened, and their texts compared, or one of them can't be opened, which is told.
+-- The effect of comparing two files: both are opened and their texts compared, or one of them can't be opened, and the
+-- line of this fault goes to `err`.
 pub data ObeysCompare (order : CompareOrder) (out out' err err' : Writer) (status : Status) : Type 0 where
   opened : (first first' second second' : Reader) → IsUnread first → IsUnread second →
       ComparesTexts order first first' second second' out out' err err' status →

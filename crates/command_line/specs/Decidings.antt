@@ -1,4 +1,4 @@
--- What it comes to, to decide whether every fair schedule of the program of a text ends.
+-- The effect of a request to decide whether every fair schedule of a text's program ends.
 use Rattle.std.specs.Prelude.{Bool, true, false, ℕ, List, is_some}
 use Rattle.effect_term.specs.declared.term.Term.{Term}
 use Rattle.exploration_text.specs.declared.explore_texts.ExploreOrder.{ExploreOrder}
@@ -10,11 +10,11 @@ use Rattle.text_io.specs.Devices.{Devices}
 use Rattle.command_words.specs.declared.deciding.Deciding.{Deciding}
 use Rattle.command_line.specs.Explorings.{ObeysBeside}
 
--- what is answered to a program, as JSON or in words, by whether the time of its search is limited, and with this note
+-- the answer to a program, as JSON or in words, with this note; `timed` is whether the time of the search is limited
 abbrev pub decides_as : Bool → ExploreOrder → (timed : Bool) → (note : List ℕ) → Term → List ℕ → Status → Type 0
 decides_as json order timed note t = IsDecidedAnswer json t order.limits order.bounds timed order.wants.items note
 
--- how a text that is refused is answered
+-- the answer to a refused text
 abbrev pub decide_refuses : Bool → List ℕ → List ℕ → Status → Type 0
 decide_refuses true = IsJsonRefusal
 decide_refuses false = IsRefusalAnswer

@@ -1,4 +1,4 @@
--- What it comes to, to explore the program of a text.
+-- The effect of a request to explore a text's program.
 use Rattle.std.specs.Prelude.{◌≡◌, Bool, true, false, ℕ, List, Result, is_some}
 use Rattle.effect_term.specs.declared.term.Term.{Term}
 use Rattle.exploration_text.specs.declared.explore_texts.ExploreOrder.{ExploreOrder}
@@ -21,26 +21,26 @@ use Rattle.command_words.specs.declared.exploring.ExploreForm.TheVariants.{Repor
 use Rattle.command_words.specs.declared.exploring.Exploring.{Exploring}
 use Rattle.command_line.specs.Noting.{ObeysNoted}
 
--- what is answered to a program in this form, by whether the time of the exploration is limited, and with this note
+-- the answer to a program in this form, with this note; `timed` is whether the time of the exploration is limited
 abbrev pub explores_as : ExploreForm → ExploreOrder → (timed : Bool) → (note : List ℕ) → Term → List ℕ → Status → Type 0
 explores_as Report order timed note t = IsNotedExplored t order.limits order.bounds timed order.wants.items note
 explores_as Timeline order timed note t = IsNotedTold t order.limits order.bounds timed order.wants.items note
 explores_as Json order timed note t = IsNotedJsonExplored t order.limits order.bounds timed order.wants.items note
 
--- how a text that is refused is answered in this form
+-- the answer to a refused text, in this form
 abbrev pub explore_refuses : ExploreForm → List ℕ → List ℕ → Status → Type 0
 explore_refuses Report = IsRefusalAnswer
 explore_refuses Timeline = IsRefusalAnswer
 explore_refuses Json = IsJsonRefusal
 
--- the text is answered; nothing is said of what is written to the last device
+-- the text is answered; what is written to `err` is left open
 abbrev pub ObeysWatched : (List ℕ → List ℕ → Status → Type 0) → (List ℕ → Term → List ℕ → Status → Type 0) → Devices →
     Devices → Status → Type 0
 ObeysWatched Refuses Notes before after status = (note : List ℕ) × (outcome : Result Status TextFault) ×
     IsAnswered (IsNotedAnswer Refuses Notes note) before.input after.input before.out after.out outcome ×
     (status ≡ status_of outcome)
 
--- the text is answered, and beside the answer its note and this are written
+-- the text is answered, with its note and with what is asked for beside the answer
 abbrev pub ObeysBeside : Beside → (List ℕ → List ℕ → Status → Type 0) → (List ℕ → Term → List ℕ → Status → Type 0) →
     Devices → Devices → Status → Type 0
 ObeysBeside Nothing Refuses Notes before after status = ObeysNoted Refuses Notes IsTextReasons false before after status

@@ -1,4 +1,4 @@
--- What it comes to, to judge claims on the program of a text.
+-- The effect of a request to judge claims on a text's program.
 use Rattle.std.specs.Prelude.{◌≡◌, ◌⊎◌, ℕ, false, List, Result, map}
 use Rattle.claim_answers.specs.declared.asked.Asked.{Asked}
 use Rattle.claim_answers.specs.declared.lines.ClaimForm.{ClaimForm}
@@ -23,7 +23,7 @@ claim_form Report = claims.Report
 claim_form Timeline = claims.Timeline
 claim_form Json = claims.Json
 
--- The text is answered about these claims, and the note is told, or there is a fault, which is told alone.
+-- The text is answered for these claims, and the note goes to `err`. If there is a fault, only its line goes to `err`.
 pub record JudgesText (order : ExploreOrder) (form : ClaimForm) (asked : List Asked) (before after : Devices)
     (status : Status) : Type 0
   where
@@ -40,7 +40,7 @@ pub record JudgesClaims (judging : Judging) (before after : Devices) (status : S
       (map (λ s. s.now) judging.never.items) (map (λ s. s.now) judging.reach.items)
   pub judged : JudgesText judging.order (claim_form judging.form) asked before after status
 
--- A text spells no claim, which is told before the program's text is read.
+-- A text spells no claim, or memory ran out. That is written to `err` before the program's text is read.
 pub record RefusesClaim (before after : Devices) (status : Status) : Type 0 where
   pub unread : after.input ≡ before.input
   pub unanswered : after.out ≡ before.out

@@ -1,4 +1,4 @@
--- What comes of words: the request that they give is obeyed, or the reason why there is none is told.
+-- The effect of the words: the request that they make is obeyed, or why they make none is written.
 use Rattle.std.specs.Prelude.{◌≡◌, ◌≢◌, ◌⊎◌, true, List, [], Some, None}
 use Rattle.clap.specs.Words.{IsAmong, Text, fault_of, subcommand_of, takes}
 use Rattle.clap.specs.declared.error.kind.ErrorKind.{ErrorKind}
@@ -22,7 +22,7 @@ use Rattle.command_words.specs.Telling.{LacksMemory, TellsKind, TellsWrong}
 use Rattle.command_words.specs.Words.{program}
 use Rattle.command_words.specs.Requests.{GivesRequest}
 
--- what a request comes to
+-- the effect of a request
 abbrev pub ObeysRequest : Request → Devices → Devices → Status → Type 0
 ObeysRequest (Check checking) before after status = ObeysCheck checking before after status
 ObeysRequest (Show showing) before after status = ObeysShow showing before after status
@@ -39,21 +39,21 @@ ObeysRequest (Compare comparing) before after status = (after.input ≡ before.i
 ObeysRequest (Test testing) before after status = ObeysTest before after status
 ObeysRequest (Terms translating) before after status = ObeysTest before after status
 
--- Nothing is wrong with the words, and the request that they give is obeyed.
+-- The words are right, and the request that they make is obeyed.
 pub record RunsRequest (words : List Text) (before after : Devices) (status : Status) : Type 0 where
   pub request : Request
   pub right : fault_of program words ≡ []
   pub gives : GivesRequest (subcommand_of program words) (Some request)
   pub obeys : ObeysRequest request before after status
 
--- The words give no request, which is told, or there is no memory to tell it.
+-- The words make no request. That is written, or that memory ran out.
 pub record HasNoRequest (words : List Text) (before after : Devices) (status : Status) : Type 0 where
   pub gives : GivesRequest (subcommand_of program words) None
   pub unread : after.input ≡ before.input
   pub unanswered : after.out ≡ before.out
   pub told : TellsWrong before.err after.err status ⊎ LacksMemory before.err after.err status
 
--- The words aren't taken, for the first thing that is wrong with them or that they ask for.
+-- The words aren't accepted, because of the first fault in them, or the first request for help or the version.
 pub record IsRefused (words : List Text) (before after : Devices) (status : Status) : Type 0 where
   pub kind : ErrorKind
   pub among : IsAmong kind (fault_of program words)
@@ -61,13 +61,13 @@ pub record IsRefused (words : List Text) (before after : Devices) (status : Stat
   pub unread : after.input ≡ before.input
   pub told : TellsKind kind before.out after.out before.err after.err status
 
--- There is no memory for the words.
+-- Memory ran out for the words.
 pub record IsOutOfMemory (before after : Devices) (status : Status) : Type 0 where
   pub unread : after.input ≡ before.input
   pub unanswered : after.out ≡ before.out
   pub lacks : LacksMemory before.err after.err status
 
--- What comes of words. A request alone reads the text.
+-- The effect of the words. Only a request reads the input.
 pub data Runs (words : List Text) (before after : Devices) (status : Status) : Type 0 where
   request : RunsRequest words before after status → Runs words before after status
   no_request : HasNoRequest words before after status → Runs words before after status

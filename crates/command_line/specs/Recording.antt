@@ -1,4 +1,4 @@
--- What is answered to a text whose program workers run while their schedule is noted.
+-- The answer to a text whose program workers run while they record their schedule.
 use Rattle.std.specs.Prelude.{◌≡◌, ℕ, All, Bool, true, false, ◌&&◌, List, [], ◌∷◌, ◌++◌, Result, Ok, Err, String, codes}
 use Rattle.std.specs.Prelude.{string_bytes}
 use Rattle.std.specs.declared.alloc.Global.{Global}
@@ -28,7 +28,7 @@ use Rattle.run_ends.specs.Gathering.{IsLawful}
 use Rattle.ready_queues.specs.Faults.{IsFaultWithin}
 use Rattle.steal_pool.specs.Runs.{limits_of}
 
--- the text spells a schedule under which the core comes to exactly this report or fault
+-- the text spells a schedule under which the core gives exactly this report or fault
 pub record IsRecord (code : Tree) (k : Limits) (text : List ℕ) (end : Result Report RunError) : Type 0 where
   pub entries : List ℕ
   pub spelled : SpellsEntries text entries
@@ -39,22 +39,23 @@ abbrev pub SpellsFound : Result (Vec ℕ Global) NoSchedule → List ℕ → Typ
 SpellsFound (Ok entries) text = SpellsEntries text entries.items
 SpellsFound (Err why) text = ⊥
 
--- the line that tells the text of a schedule
+-- the line with the text of a schedule
 abbrev pub schedule_line : List ℕ → List ℕ
 schedule_line text = codes "schedule " ++ (text ++ 10 ∷ [])
 
--- the line that tells why there is none
+-- the line of why there is no schedule
 abbrev pub no_schedule_line : NoSchedule → List ℕ
 no_schedule_line TooLong = codes "no schedule: it has more than 1000000 entries" ++ 10 ∷ []
 no_schedule_line NotFound = codes "no schedule: none was found" ++ 10 ∷ []
 no_schedule_line NoMemory = codes "no schedule: memory ran out" ++ 10 ∷ []
 
--- the line of what a recorded run hands out
+-- the line of the schedule of a recorded run, or of why there is none
 abbrev pub told_line : Result (String Global) NoSchedule → List ℕ
 told_line (Ok text) = schedule_line (string_bytes text)
 told_line (Err why) = no_schedule_line why
 
--- the same behind the line of a fault: nothing where no schedule comes to that one
+-- the line after that of a fault: `told_line` after `Full` and `Spent`, nothing after a fault to which no schedule
+-- leads
 abbrev pub line_behind : RunError → Result (String Global) NoSchedule → List ℕ
 line_behind (fault.Full band n) schedule = told_line schedule
 line_behind (fault.Spent f) schedule = told_line schedule
@@ -62,14 +63,14 @@ line_behind fault.NoMemory schedule = []
 line_behind (fault.Lost f) schedule = []
 line_behind fault.NoWorker schedule = []
 
--- The line tells a schedule under which the core, within the limits of the run, comes to exactly this end, or that
--- there is none to tell: which of both is so.
+-- The line of a schedule under which the core, within the limits of the run, gives exactly this end, or the line of why
+-- there is none. The `Bool` is whether the line has a schedule.
 pub data IsScheduleLine (t : Term) (options : Options) (end : Result Report RunError) : Bool → List ℕ → Type 0 where
   schedules : (text : List ℕ) → IsRecord (code_of (source_of t)) (limits_of options) text end →
       IsScheduleLine t options end true (schedule_line text)
   no_schedule : (why : NoSchedule) → IsScheduleLine t options end false (no_schedule_line why)
 
--- what stands behind the line of a fault: of the core's faults but want of memory that of a schedule, of others nothing
+-- what follows the line of a fault: the line of a schedule after `Full` and `Spent`, nothing after another fault
 abbrev pub IsBehindFault : Term → Options → RunError → Bool → List ℕ → Type 0
 IsBehindFault t options (fault.Full band n) tells line = IsScheduleLine t options (Err (fault.Full band n)) tells line
 IsBehindFault t options (fault.Spent f) tells line = IsScheduleLine t options (Err (fault.Spent f)) tells line
@@ -77,8 +78,8 @@ IsBehindFault t options fault.NoMemory tells line = (tells ≡ false) × (line �
 IsBehindFault t options (fault.Lost f) tells line = (tells ≡ false) × (line ≡ [])
 IsBehindFault t options fault.NoWorker tells line = (tells ≡ false) × (line ≡ [])
 
--- What comes of a program on workers that note their schedule, with its status: what comes of it without that, and the
--- line of the schedule behind it. Whether that line tells a schedule stands beside it.
+-- The answer to a program on workers that record their schedule, with its status: the answer without the record, and
+-- then the line of the schedule. The `Bool` is whether this line has a schedule.
 pub data IsRecordedWith (t : Term) (options : Options) : Bool → List ℕ → Status → Type 0 where
   reports : (r : Report) (tells : Bool) (line : List ℕ) →
       IsSpentReport (code_of (source_of t)) (limits_of options) options.moves r → All IsLawful r.fibers →
@@ -88,19 +89,18 @@ pub data IsRecordedWith (t : Term) (options : Options) : Bool → List ℕ → S
       IsRunFault (code_of (source_of t)) (limits_of options) e →
       IsBehindFault t options e tells line → IsRecordedWith t options tells (run_line e ++ line) Fault
 
--- it is what comes of it, whether or not a schedule is told
+-- the same, whether or not the line has a schedule
 abbrev pub IsRecordedAnswer : Term → Options → List ℕ → Status → Type 0
 IsRecordedAnswer t options answer status = (tells : Bool) × IsRecordedWith t options tells answer status
 
--- What comes of it with a timeline: the same, behind which a blank line and a timeline stand exactly where a schedule
--- is told.
+-- The same with a timeline: a blank line and a timeline follow exactly if the line has a schedule.
 pub data IsTimedAnswer (t : Term) (options : Options) : List ℕ → Status → Type 0 where
   alone : (answer : List ℕ) (status : Status) → IsRecordedWith t options false answer status →
       IsTimedAnswer t options answer status
   timed : (answer timeline : List ℕ) (status : Status) → IsRecordedWith t options true answer status →
       IsTimedAnswer t options (answer ++ 10 ∷ timeline) status
 
--- a line of a schedule is told of this end
+-- the answer for this end has a line of a schedule
 abbrev pub has_line : Result RunEnd RunError → Bool
 has_line (Ok it) = true
 has_line (Err (fault.Full band n)) = true
@@ -109,12 +109,12 @@ has_line (Err fault.NoMemory) = false
 has_line (Err (fault.Lost f)) = false
 has_line (Err fault.NoWorker) = false
 
--- a schedule is handed out
+-- a schedule was found
 abbrev pub is_found : Result (String Global) NoSchedule → Bool
 is_found (Ok text) = true
 is_found (Err why) = false
 
--- the text of what a recorded run hands out, and its status
+-- the text of the answer to a recorded run, and its status
 abbrev pub record_text : Result RunEnd RunError → Result (String Global) NoSchedule → List ℕ
 record_text (Ok it) schedule = text_of_fibers it.report.fibers ++ told_line schedule
 record_text (Err e) schedule = run_line e ++ line_behind e schedule
@@ -128,7 +128,7 @@ abbrev pub ended_text : Result RunEnd RunError → List ℕ
 ended_text (Ok it) = text_of_fibers it.report.fibers
 ended_text (Err e) = run_line e
 
--- the schedule that was found has no other entries
+-- the text of the found schedule spells no other entries
 abbrev pub AreEntriesOf : Result (String Global) NoSchedule → List ℕ → Type 0
 AreEntriesOf (Ok text) entries = (others : List ℕ) → SpellsEntries (string_bytes text) others → others ≡ entries
 AreEntriesOf (Err why) entries = ⊥

@@ -1,4 +1,4 @@
--- What a replay comes to.
+-- The effect of a request to replay a program.
 use Rattle.std.specs.Prelude.{◌≡◌, ◌≢◌, ◌⊎◌, ℕ, Bool, true, false, List, Some, codes, Err}
 use Rattle.std.specs.Str.{IsUtf8}
 use Rattle.cell_registry.specs.declared.limits.Limits.{Limits}
@@ -25,14 +25,14 @@ use Rattle.command_line.specs.FirstLine.{IsFirstLine, IsInput}
 use Rattle.command_line.specs.Orders.{ObeysOrder}
 use Rattle.command_words.specs.Telling.{LacksMemory, TellsWrong}
 
--- what is answered to a text under these entries, in this form
+-- the answer to a text under these entries, in this form
 abbrev pub answers_as : AnswerForm → List ℕ → Limits → List ℕ → List ℕ → Status → Type 0
 answers_as Report entries limits = IsReplayAnswer entries limits
 answers_as Timeline entries limits = IsTimelineAnswer entries limits
 answers_as Picture entries limits = IsPictureAnswer entries limits
 answers_as Json entries limits = IsJsonReplay entries limits
 
--- The schedule is well formed, and the text is answered under its entries, in this form, with reasons or without.
+-- The schedule is well formed, and the text is answered under its entries, in this form, with or without reasons.
 pub record ScheduledAs (form : AnswerForm) (explain : Bool) (schedule : List ℕ) (limits : Limits)
     (before after : Devices) (status : Status) : Type 0 where
   pub entries : List ℕ
@@ -40,12 +40,12 @@ pub record ScheduledAs (form : AnswerForm) (explain : Bool) (schedule : List ℕ
   pub answered :
       ObeysOrder (answers_as form entries limits) (IsReplayReasons entries limits) explain before after status
 
--- it is told that a schedule is bad, or that there is no memory for it, with reasons or without
+-- that a schedule is bad, or that memory ran out for it, is written, with or without reasons
 abbrev pub RefusesAs : Bool → ScheduleError → Writer → Writer → Status → Type 0
 RefusesAs true error before after status = ExplainsSchedule error before after status
 RefusesAs false error before after status = RefusesSchedule error before after status
 
--- The schedule isn't well formed, or there is no memory for it: that is told, and nothing is read or answered.
+-- The schedule isn't well formed, or memory ran out for it. That is written, and nothing is read or answered.
 pub record UnscheduledAs (explain : Bool) (schedule : List ℕ) (before after : Devices) (status : Status) : Type 0 where
   pub error : ScheduleError
   pub place : (p : ℕ) → error ≡ BadSchedule p → IsFirstBad schedule p
@@ -53,16 +53,16 @@ pub record UnscheduledAs (explain : Bool) (schedule : List ℕ) (before after : 
   pub unanswered : after.out ≡ before.out
   pub told : RefusesAs explain error before.err after.err status
 
--- the text is answered under the schedule of this text, or that one is bad, and nothing is read
+-- the text is answered under the schedule, or the schedule is bad and nothing is read
 abbrev pub ObeysSchedule : AnswerForm → Bool → List ℕ → Limits → Devices → Devices → Status → Type 0
 ObeysSchedule form explain schedule limits before after status =
     ScheduledAs form explain schedule limits before after status ⊎ UnscheduledAs explain schedule before after status
 
--- a text that lies in memory, of which nothing has been read
+-- a text in memory that hasn't been read
 abbrev pub held : List ℕ → Reader
 held text = reader (Some text) false false 0
 
--- The first line of the input is the text of the schedule, and the program's text is what stands behind it.
+-- The first line of the input is the text of the schedule, and the rest is the program's text.
 pub record ObeysFirstLine (form : AnswerForm) (explain : Bool) (limits : Limits) (before after : Devices)
     (status : Status) : Type 0 where
   pub bytes : List ℕ
@@ -74,7 +74,7 @@ pub record ObeysFirstLine (form : AnswerForm) (explain : Bool) (limits : Limits)
   pub obeyed : ObeysSchedule form explain line limits (devices (held text) before.out before.err)
       (devices left after.out after.err) status
 
--- The first line of the input isn't text, which is told as what is wrong with words is.
+-- The first line of the input isn't text. That is written in the same form as what is wrong with words.
 pub record HasNoSchedule (before after : Devices) (status : Status) : Type 0 where
   pub bytes : List ℕ
   pub line : List ℕ
@@ -85,7 +85,8 @@ pub record HasNoSchedule (before after : Devices) (status : Status) : Type 0 whe
   pub unanswered : after.out ≡ before.out
   pub told : TellsWrong before.err after.err status ⊎ LacksMemory before.err after.err status
 
--- The input couldn't be read, or memory ran out for it, which is told.
+-- The input wasn't read: the reader failed, its end wasn't found, or memory ran out. The line of the fault goes to
+-- `err`.
 pub record HasNoInput (before after : Devices) (status : Status) : Type 0 where
   pub fault : TextFault
   pub failed : after.input.failed ≡ is_read_fault {A = Status} (Err fault)
@@ -93,7 +94,7 @@ pub record HasNoInput (before after : Devices) (status : Status) : Type 0 where
   pub told : Told (fault_line fault) before.err after.err
   pub status_is : status ≡ Fault
 
--- what comes of an input that has a schedule in its first line
+-- the effect of an input with a schedule in its first line
 pub data ObeysInput (form : AnswerForm) (explain : Bool) (limits : Limits) (before after : Devices) (status : Status) :
     Type 0 where
   scheduled : ObeysFirstLine form explain limits before after status →
@@ -101,7 +102,7 @@ pub data ObeysInput (form : AnswerForm) (explain : Bool) (limits : Limits) (befo
   unscheduled : HasNoSchedule before after status → ObeysInput form explain limits before after status
   unread : HasNoInput before after status → ObeysInput form explain limits before after status
 
--- what a replay comes to: under the schedule that is among the words, or in the input where that is `-`
+-- the effect of a replay: under the schedule among the words, or under that of the input if the word is `-`
 abbrev pub ObeysReplay : Replay → Devices → Devices → Status → Type 0
 ObeysReplay replay before after status =
     ((replay.schedule.now ≢ codes "-") ×

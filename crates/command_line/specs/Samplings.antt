@@ -1,4 +1,4 @@
--- What it comes to, to sample the schedules of the program of a text.
+-- The effect of a request to sample the schedules of a text's program.
 use Rattle.std.specs.Prelude.{Bool, true, false, ℕ, List}
 use Rattle.json_answers.specs.Answers.{IsJsonRefusal}
 use Rattle.json_answers.specs.FoundAnswers.{IsNotedJsonSample}
@@ -12,12 +12,12 @@ use Rattle.text_io.specs.Devices.{Devices}
 use Rattle.command_words.specs.declared.sampling.Sampling.{Sampling}
 use Rattle.command_line.specs.Noting.{ObeysNoted}
 
--- what `sample` answers to a program, with this note: as JSON, or in words
+-- the answer of `sample` to a program, with this note: as JSON, or in words
 abbrev pub samples_as : Bool → SampleOrder → (note : List ℕ) → Term → List ℕ → Status → Type 0
 samples_as true order note t = IsNotedJsonSample t order.limits order.seed order.times order.entries order.wants.items note
 samples_as false order note t = IsNotedSample t order.limits order.times order.entries order.wants.items note
 
--- how it answers a text that is refused
+-- the answer of `sample` to a refused text
 abbrev pub sample_refuses : Bool → List ℕ → List ℕ → Status → Type 0
 sample_refuses true = IsJsonRefusal
 sample_refuses false = IsRefusalAnswer

@@ -1,4 +1,4 @@
--- What it comes to, to look for the first finding of the program of a text.
+-- The effect of a request to search for the first finding of a text's program.
 use Rattle.std.specs.Prelude.{Bool, true, false, ℕ, List, is_some}
 use Rattle.effect_term.specs.declared.term.Term.{Term}
 use Rattle.exploration_text.specs.declared.explore_texts.ExploreOrder.{ExploreOrder}
@@ -11,12 +11,12 @@ use Rattle.text_io.specs.Devices.{Devices}
 use Rattle.command_words.specs.declared.seeking.Seeking.{Seeking}
 use Rattle.command_line.specs.Explorings.{ObeysBeside}
 
--- what is answered to a program, by whether the time of its search is limited, and with this note: as JSON, or in words
+-- the answer to a program, as JSON or in words, with this note; `timed` is whether the time of the search is limited
 abbrev pub seeks_as : Bool → ExploreOrder → (timed : Bool) → (note : List ℕ) → Term → List ℕ → Status → Type 0
 seeks_as true order timed note t = IsJsonFirstAnswer t order.limits order.bounds timed order.wants.items note
 seeks_as false order timed note t = IsFirstAnswer t order.limits order.bounds timed order.wants.items note
 
--- how a text that is refused is answered
+-- the answer to a refused text
 abbrev pub seek_refuses : Bool → List ℕ → List ℕ → Status → Type 0
 seek_refuses true = IsJsonRefusal
 seek_refuses false = IsRefusalAnswer

@@ -1,4 +1,4 @@
--- What it comes to, to explore the program of a text for the outcomes of its fibers, without their marks.
+-- The effect of a request to explore a text's program for the outcomes of its fibers, without their marks.
 use Rattle.std.specs.Prelude.{Bool, true, false, ℕ, List, is_some}
 use Rattle.effect_term.specs.declared.term.Term.{Term}
 use Rattle.exploration_text.specs.declared.explore_texts.ExploreOrder.{ExploreOrder}
@@ -10,14 +10,14 @@ use Rattle.text_io.specs.Devices.{Devices}
 use Rattle.command_words.specs.declared.unmarking.Unmarking.{Unmarking}
 use Rattle.command_line.specs.Explorings.{ObeysBeside}
 
--- what is answered to a program, as JSON or in words, of all fibers or of fiber 0 alone, by whether the time of its
--- search is limited, and with this note
+-- the answer to a program, as JSON or in words, of all fibers or of fiber 0 alone, with this note; `timed` is whether
+-- the time of the search is limited
 abbrev pub unmarks_as : (json only_first : Bool) → ExploreOrder → (timed : Bool) → (note : List ℕ) → Term → List ℕ →
     Status → Type 0
 unmarks_as json only_first order timed note t =
     IsOutcomesAnswer json only_first t order.limits order.bounds timed order.wants.items note
 
--- how a text that is refused is answered
+-- the answer to a refused text
 abbrev pub unmark_refuses : Bool → List ℕ → List ℕ → Status → Type 0
 unmark_refuses true = IsJsonRefusal
 unmark_refuses false = IsRefusalAnswer

@@ -1,4 +1,4 @@
--- What is answered to a text whose program workers run.
+-- The answer to a text whose program workers run.
 use Rattle.std.specs.Prelude.{ℕ, All, List}
 use Rattle.cell_registry.specs.declared.limits.RunError.{RunError}
 use Rattle.derived_ops.specs.Expansion.{code_of}
@@ -19,10 +19,10 @@ use Rattle.run_ends.specs.Gathering.{IsLawful}
 use Rattle.ready_queues.specs.Faults.{IsFaultWithin}
 use Rattle.steal_pool.specs.Runs.{limits_of}
 
--- What comes of a program on workers, with its status: the report of a schedule of moves within those of the options,
--- in which each fiber that hasn't ended rests at a wait that nothing serves, or has used its moves, and whose marks are
--- lawful, with the status of fiber 0's end; or a fault, with the limit that it names: that of a call which the core
--- refuses under some schedule, or one of memory, of a missing task, or of threads.
+-- The answer to a program on workers, with its status. The first case is the report of a schedule within the moves of
+-- the options: each fiber that hasn't ended rests at a wait that nothing serves, or has used its moves, and the marks
+-- are lawful; the status is that of fiber 0's end. The second case is a fault, with the limit that it names: a call
+-- that the core refuses under some schedule, or a fault of memory, of a missing task, or of threads.
 pub data IsWorkersAnswer (t : Term) (options : Options) : List ℕ → Status → Type 0 where
   reports : (r : Report) → IsSpentReport (code_of (source_of t)) (limits_of options) options.moves r → All IsLawful r.fibers →
       IsWorkersAnswer t options (text_of_fibers r.fibers) (report_status r.fibers)
@@ -36,6 +36,6 @@ pub data IsJsonWorkersAnswer (t : Term) (options : Options) : List ℕ → Statu
   value_of_fault : (e : RunError) → IsFaultWithin (limits_of options) e → IsRunFault (code_of (source_of t)) (limits_of options) e →
       IsJsonWorkersAnswer t options (line_of_data (fault_data e)) Fault
 
--- what `run` answers to a text
+-- the answer of `run` to a text
 abbrev pub IsRunTextAnswer : Options → List ℕ → List ℕ → Status → Type 0
 IsRunTextAnswer options = IsProgramAnswer IsRefusalAnswer (λ t. IsWorkersAnswer t options)

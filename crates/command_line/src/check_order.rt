@@ -1,4 +1,4 @@
-//! What comes of a text alone: whether it is a program, and the expansion of its program.
+//! The answers to a text alone: whether it is a program, and the expansion of its program.
 
 ghost use Rattle.std.specs.Prelude.{◌≡◌, ◌≢◌, ◌<◌, ◌^◌, false};
 ghost use Rattle.command_line.specs.Checks.{ObeysCheck, ObeysShow};
@@ -11,8 +11,8 @@ use outcome_trace::{CheckOrder, ShowOrder, Status, TextIn, TextOut};
 use reasons::TextReasons;
 use std::alloc::Global;
 
-/// Tells whether a text is a program, and gives the status: that of the answer, and `Status::Fault` where a device
-/// failed or memory ran out. All but the answer is told on the last device.
+/// Answers whether a text is a program. Returns the status of the answer, or `Status::Fault` if a device failed or
+/// memory ran out. All but the answer goes to `err`.
 pub fn obey_check<I: TextIn, O: TextOut, E: TextOut>(
     alloc: Global,
     checking: Checking,
@@ -36,7 +36,7 @@ pub fn obey_check<I: TextIn, O: TextOut, E: TextOut>(
     }
 }
 
-/// Prints the expansion of a text's program, and gives the status, as [`obey_check`] does.
+/// Prints the expansion of a text's program, and returns the status, as [`obey_check`] does.
 pub fn obey_show<I: TextIn, O: TextOut, E: TextOut>(
     alloc: Global,
     showing: Showing,

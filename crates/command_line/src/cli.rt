@@ -29,8 +29,8 @@ use std::sync::Wait;
 use std::thread::Threads;
 use std::time::Clock;
 
-// Tells help or the version that was asked for, or what is wrong with the words, in `clap`'s words.
-// Where help can't be written, that is told as any other fault.
+// Writes help or the version to `out`, or what is wrong with the words to `err`, in `clap`'s words. If help can't be
+// written, the line of the fault goes to `err`.
 fn usage<O: TextOut, E: TextOut>(alloc: Global, error: &Error, out: &mut O, err: &mut E) -> Status
     requires out { (O.seen out.old).failed ≡ false }
     requires err { (E.seen err.old).failed ≡ false }
@@ -52,7 +52,7 @@ fn usage<O: TextOut, E: TextOut>(alloc: Global, error: &Error, out: &mut O, err:
     }
 }
 
-// Does what was asked for, and gives the status.
+// Obeys the request, and returns the status.
 fn obey_request<R, I, O, E>(
     rt: &R,
     request: Request<'_>,
@@ -93,7 +93,7 @@ where
     }
 }
 
-// Tells why words give no request.
+// Writes why words make no request.
 fn refuse_request<E: TextOut>(alloc: Global, matches: &ArgMatches<'_>, err: &mut E) -> Status
     requires { (E.seen err.old).failed ≡ false }
     ensures { TellsWrong (E.seen err.old) (E.seen err.new) result ⊎
@@ -105,13 +105,12 @@ fn refuse_request<E: TextOut>(alloc: Global, matches: &ArgMatches<'_>, err: &mut
     }
 }
 
-/// Runs one command line over these devices, and gives the status of the program: that of what the
-/// words ask for, `Status::Succeeded` where help or the
-/// version was asked for, `Status::Usage` where the words or the schedule are wrong, and `Status::Fault`
-/// where memory ran out or a device failed.
+/// Runs one command line over these devices. Returns the status of the program: that of the request,
+/// `Status::Succeeded` for help or the version, `Status::Usage` if the words or the schedule are wrong, and
+/// `Status::Fault` if memory ran out or a device failed.
 ///
-/// What was asked for goes to the output, what is wrong with the words to the last device, both in
-/// `clap`'s words. `colors` is whether verdicts have colours where the words leave that open.
+/// Help and the version go to `out`, what is wrong with the words to `err`, both in `clap`'s words. `colors` is whether
+/// verdicts have colours if the words leave that open.
 pub fn command<'a, R, S, I, O, E>(
     rt: &R,
     words: &'a [S],

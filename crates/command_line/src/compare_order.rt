@@ -1,4 +1,4 @@
-//! What comes of two files whose programs are compared.
+//! The comparison of the programs of two files.
 
 ghost use Rattle.std.specs.Prelude.{◌≡◌, ◌++◌, ◌<◌, ◌^◌, codes, false};
 ghost use Rattle.command_line.specs.Comparings.{ComparesSecond, ComparesTexts, ObeysCompare, WritesPair};
@@ -16,17 +16,17 @@ use std::fs;
 use std::io::Read;
 use std::rt::Files;
 
-/// Which of two files it is.
+/// One of two files.
 #[derive(Clone, Copy)]
 pub(crate) enum Side {
-    /// The first one.
+    /// The first file.
     First,
-    /// The second one.
+    /// The second file.
     Second,
 }
 
-/// Compares the programs of two files, and gives the status: that of the answer, and `Status::Fault` where a file can't
-/// be opened or read, a device failed, or memory ran out, which is told on the last device.
+/// Compares the programs of two files. Returns the status of the answer, or `Status::Fault` if a file can't be opened
+/// or read, a device failed, or memory ran out. The line of the fault goes to `err`.
 pub fn obey_compare<R: Files, O: TextOut, E: TextOut>(
     rt: &R,
     alloc: Global,
@@ -45,7 +45,7 @@ pub fn obey_compare<R: Files, O: TextOut, E: TextOut>(
     }
 }
 
-// The same, where the first file is open.
+// The same, once the first file is open.
 fn compare_behind<R: Files, O: TextOut, E: TextOut>(
     rt: &R,
     alloc: Global,
@@ -65,7 +65,7 @@ fn compare_behind<R: Files, O: TextOut, E: TextOut>(
     }
 }
 
-// The same, where both are.
+// The same, once both files are open.
 fn compare_files<F: Read + Drop, O: TextOut, E: TextOut>(
     alloc: Global,
     order: &CompareOrder,
@@ -107,7 +107,7 @@ fn compare_texts<I: TextIn, J: TextIn, O: TextOut, E: TextOut>(
     }
 }
 
-// The same behind the first text.
+// The same, once the first text is read.
 fn compare_second<J: TextIn, O: TextOut, E: TextOut>(
     alloc: Global,
     order: &CompareOrder,
@@ -152,7 +152,7 @@ fn write_pair<O: TextOut, E: TextOut>(
     }
 }
 
-// Tells that a file can't be opened or read, or that memory ran out.
+// Writes the line of a fault, with the name of the file if it can't be opened or read, or its end isn't found.
 fn tell_side<E: TextOut>(side: Side, fault: TextFault, err: &mut E) -> Status
     requires { (E.seen err.old).failed ≡ false }
     ensures told { Told (side_line side fault) (E.seen err.old) (E.seen err.new) }
@@ -171,7 +171,7 @@ fn tell_side<E: TextOut>(side: Side, fault: TextFault, err: &mut E) -> Status
     }
 }
 
-// The line of a file that can't be opened or read.
+// The line for a file that can't be opened or read.
 fn unread(side: Side) -> &'static str
     ensures { result.now ≡ side_line side ReadFault }
 {
@@ -181,7 +181,7 @@ fn unread(side: Side) -> &'static str
     }
 }
 
-// The line of a file whose end isn't found.
+// The line for a file whose end isn't found.
 fn unended(side: Side) -> &'static str
     ensures { result.now ≡ side_line side TurnBound }
 {

@@ -11,8 +11,8 @@ use outcome_trace::{Status, TextIn, TextOut};
 use std::alloc::Global;
 use std::time::Clock;
 
-/// Answers the exploration of a text's program, and behind it whether every fair schedule ends. Returns the status of the
-/// answer, or `Status::Fault` if a device failed or memory ran out. All but the answer goes to the last device. The clock
+/// Answers a text's program with its exploration, and then with whether every fair schedule ends. Returns the status of
+/// the answer, or `Status::Fault` if a device failed or memory ran out. All but the answer goes to `err`. The clock
 /// ends the search if its seconds are limited.
 pub fn obey_decide<C: Clock, I: TextIn, O: TextOut, E: TextOut>(
     clock: &C,

@@ -1,4 +1,4 @@
-//! What comes of a text whose program is explored.
+//! The exploration of a text's program.
 
 ghost use Rattle.std.specs.Prelude.{◌≡◌, ◌≢◌, ◌<◌, ◌^◌, false};
 ghost use Rattle.command_line.specs.Explorings.{ObeysExplore};
@@ -12,9 +12,9 @@ use std::alloc::Global;
 use std::time::Clock;
 use timelines::ExploreTimelineOrder;
 
-/// Tells all that can come of a text's program, and gives the status: that of the answer, and `Status::Fault` where a
-/// device failed or memory ran out. All but the answer is told on the last device. The clock tells how fast the search
-/// goes, and ends it where its seconds are limited.
+/// Answers a text's program with its exploration. Returns the status of the answer, or `Status::Fault` if a device
+/// failed or memory ran out. All but the answer goes to `err`. The clock measures how fast the search goes, and ends it
+/// if its seconds are limited.
 pub fn obey_explore<C: Clock, I: TextIn, O: TextOut, E: TextOut>(
     clock: &C,
     alloc: Global,

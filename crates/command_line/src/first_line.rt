@@ -1,4 +1,4 @@
-//! An input that has the text of a schedule in its first line, and the text of a program behind it.
+//! An input with the text of a schedule in its first line, and the text of a program after that line.
 
 ghost use Rattle.std.specs.Prelude.{◌≡◌, ◌≢◌, ◌<◌, ◌^◌, ℕ, false, IfOk, vec_len};
 ghost use Rattle.text_io.specs.Text.{is_read_fault};
@@ -8,12 +8,11 @@ use memchr::memchr;
 use outcome_trace::{ReadError, TextFault, TextIn};
 use std::alloc::{AllocError, Global};
 
-// How many bytes of such an input are read at most, and how many reads are made. A schedule's text has fewer than
-// 6,000,000, since each of its 1,000,000 entries takes no more than 6, and of a program's text no more than 65,537 are
-// looked at.
+// Reading ends at this number of bytes, and at this number of reads. A schedule's text has fewer than 6,000,000 bytes,
+// since each of its 1,000,000 entries takes at most 6. At most 65,537 bytes of a program's text are examined.
 const INPUT_BOUND: usize = 6_065_537;
 
-// How many bytes one read takes at most.
+// The greatest number of bytes of one read.
 const PIECE: usize = 65_536;
 
 // Room for one read.
@@ -23,17 +22,16 @@ fn room(alloc: Global) -> Result<Vec<u8>, AllocError>
     vec![in alloc; 0u8; PIECE]
 }
 
-/// What is left of the input, up to `INPUT_BOUND` bytes, and what came with them in one read. An interrupted read is
-/// tried again.
+/// Reads the input to its end, or until `INPUT_BOUND` bytes or more are read. An interrupted read is tried again.
 ///
-/// The faults are `ReadFault` where a read failed, `TurnBound` where `INPUT_BOUND` reads neither found the end of the
-/// input nor gave as many bytes, and `NoMemory` where memory ran out.
+/// The faults are `ReadFault` if a read failed, `TurnBound` if `INPUT_BOUND` reads gave fewer than `INPUT_BOUND` bytes
+/// and not the end of the input, and `NoMemory` if memory ran out.
 pub fn read_input<T: TextIn>(alloc: Global, input: &mut T) -> Result<Vec<u8>, TextFault>
     requires healthy { (T.seen input.old).failed ≡ false }
     requires countable { (T.seen input.old).reads < 2 ^ 63 }
     ensures read { IfOk result (λ bytes. IsInput (T.seen input.old) (T.seen input.new) bytes.items) }
 
-    // The fault is told exactly where the reader failed.
+    // The result is `ReadFault` exactly if the reader failed.
     ensures failed { (T.seen input.new).failed ≡ is_read_fault result }
     ensures nothing_written { (written : ℕ) → result ≢ Err (TextFault.WriteFault written) }
 {
@@ -55,8 +53,7 @@ pub fn read_input<T: TextIn>(alloc: Global, input: &mut T) -> Result<Vec<u8>, Te
     Err(TextFault::TurnBound)
 }
 
-/// The first line of some bytes, and what stands behind its line feed. Where there is no line feed, that is all of
-/// them, and nothing.
+/// The bytes before the first line feed, and the bytes after it. Without a line feed: all bytes, and none.
 pub fn first_line(bytes: &[u8]) -> (&[u8], &[u8])
     ensures { IsFirstLine bytes.now result.0.now result.1.now }
 {

@@ -15,16 +15,16 @@ use itoa::Buffer;
 use outcome_trace::{Status, TextFault, TextIn, TextOut, read_text, tell_fault, write_text};
 use std::alloc::{AllocError, Global};
 
-// An answer that went out: its note and its status.
+// An answer that was written: its note and its status.
 #[derive(Drop)]
 struct Judged {
     note: Vec<u8>,
     status: Status,
 }
 
-/// Judges claims on a text's program, and gives the status: that of the answer, `Status::Usage` where a text spells no
-/// claim or a claim names a ref whose number isn't known, and `Status::Fault` where a device failed or memory ran out.
-/// All but the answer goes to the last device. A text that spells no claim is refused before the program's text is read.
+/// Judges claims on a text's program. Returns the status of the answer, `Status::Usage` if a text spells no claim or a
+/// claim names a ref whose number isn't known, or `Status::Fault` if a device failed or memory ran out. All but the
+/// answer goes to `err`. A text that spells no claim is refused before the program's text is read.
 pub fn obey_judge<I: TextIn, O: TextOut, E: TextOut>(
     alloc: Global,
     judging: Judging<'_>,
@@ -55,7 +55,7 @@ pub fn obey_judge<I: TextIn, O: TextOut, E: TextOut>(
     }
 }
 
-// The claims that these texts spell.
+// The claims that the texts spell.
 fn asked_of<'a>(
     alloc: Global,
     always: &[&'a str],
@@ -83,7 +83,7 @@ fn claim_form(form: ExploreForm) -> ClaimForm
     }
 }
 
-// Judges these claims.
+// Judges the claims of `asked`.
 fn obey_asked<I: TextIn, O: TextOut, E: TextOut>(
     alloc: Global,
     order: ExploreOrder,
@@ -138,7 +138,7 @@ fn answer_asked<I: TextIn, O: TextOut>(
     })
 }
 
-// Tells that a text spells no claim.
+// Writes that a text spells no claim.
 fn refuse_claim<E: TextOut>(alloc: Global, fault: AskFault<'_>, err: &mut E) -> Status
     requires { (E.seen err.old).failed ≡ false }
     ensures { TellsWrong (E.seen err.old) (E.seen err.new) result ⊎
@@ -150,7 +150,7 @@ fn refuse_claim<E: TextOut>(alloc: Global, fault: AskFault<'_>, err: &mut E) -> 
     }
 }
 
-// Why a text spells no claim.
+// The reason that a text spells no claim, or `AllocError` if memory ran out.
 fn claim_reason(alloc: Global, fault: AskFault<'_>) -> Result<String, AllocError> {
     let ClaimFault::Expected(what, place) = fault.fault else {
         return Err(AllocError);

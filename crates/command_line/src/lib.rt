@@ -1,7 +1,7 @@
-//! One command line, over devices: the request that its words make is obeyed.
+//! Runs one command line over devices: obeys the request that its words make.
 //!
-//! `command_words` reads the words. A request is an order over a text, which promises what goes out and with which
-//! status, or a run on the workers of `steal_pool`.
+//! `command_words` reads the words. A request is an order over texts, which promises what is written and with which
+//! status, a run on the workers of `steal_pool`, or a test of model files.
 #![tactic(auto)]
 
 mod check_order;

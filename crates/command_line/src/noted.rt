@@ -1,4 +1,4 @@
-//! An order to answer a program with a note, which goes to the last device.
+//! An order to answer a program with a note. The note goes to `err`.
 
 ghost use Rattle.std.specs.Prelude.{◌≡◌, ◌<◌, ◌^◌, ℕ, List, false, Err as Fails, IfErr, IfOk};
 ghost use Rattle.command_line.specs.Noting.{ObeysNoted};
@@ -15,7 +15,7 @@ use outcome_trace::{
 use reasons::{Reasons, tell_reasons};
 use std::alloc::{AllocError, Global};
 
-// A text whose answer went out, with its note and its status.
+// A text whose answer was written, with its note and its status.
 #[derive(Drop)]
 struct Answered {
     text: Vec<u8>,
@@ -23,9 +23,9 @@ struct Answered {
     status: Status,
 }
 
-/// Reads a text, writes the answer to its program, and then writes the note to the last device. If there is no note,
-/// the reasons of the text are written there, if they are asked for. A fault is written alone. If the last device
-/// fails, nothing more is written.
+/// Reads a text, writes the answer to its program, and then writes the note to `err`. Without a note, the reasons of
+/// the text go to `err` if `explain` is set. If there is a fault, only its line goes to `err`. If `err` fails, nothing
+/// more is written.
 pub fn obey_noted<A: NotedOrder, X: Reasons, I: TextIn, O: TextOut, E: TextOut>(
     alloc: Global,
     order: &A,
@@ -82,7 +82,7 @@ fn answer_noted<A: NotedOrder, I: TextIn, O: TextOut>(
     })
 }
 
-// The answer to a text, with its note. A refusal has none.
+// The answer to a text, with its note. A refusal has no note.
 fn noted_text<A: NotedOrder>(
     alloc: Global,
     order: &A,

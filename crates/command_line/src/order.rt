@@ -1,4 +1,4 @@
-//! An order to answer a text that is obeyed, with reasons or without.
+//! An order to answer a text, with or without reasons.
 
 ghost use Rattle.std.specs.Prelude.{◌≡◌, ◌<◌, ◌^◌, false};
 ghost use Rattle.command_line.specs.Orders.{ObeysOrder};
@@ -8,7 +8,7 @@ use outcome_trace::{Status, TextIn, TextOrder, TextOut, obey_text};
 use reasons::{Reasons, obey_explained};
 use std::alloc::Global;
 
-/// Obeys an order as [`obey_text`] does, or as [`obey_explained`] does where reasons are asked for.
+/// Obeys an order as [`obey_explained`] does if reasons are asked for, otherwise as [`obey_text`] does.
 pub fn obey_order<A: TextOrder, X: Reasons, I: TextIn, O: TextOut, E: TextOut>(
     alloc: Global,
     order: &A,

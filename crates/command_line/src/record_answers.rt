@@ -1,5 +1,5 @@
-//! What comes of a program whose schedule workers note: what comes of it without that, the line of the schedule behind
-//! it, and behind that a timeline where one is asked for.
+//! The answer to a program on workers that record their schedule: the answer without the record, then the line of the
+//! schedule, and then a timeline if it is asked for.
 
 ghost use Rattle.std.specs.Prelude.{◌≡◌, ◌++◌, ◌∷◌, ◌<◌, false, IfNone, IfOk, IfSome, OnOk};
 ghost use Rattle.cell_registry.specs.Cells.{AreLimits};
@@ -23,7 +23,7 @@ use std::thread::Threads;
 use steal_pool::{NoSchedule, Options, RunEnd};
 use timelines::timeline;
 
-// Adds the line that tells the schedule, or why there is none.
+// Adds the line of the schedule, or of why there is none.
 fn add_line(text: &mut Vec<u8>, schedule: &Result<String, NoSchedule>) -> Result<(), AllocError>
     ensures { OnOk result (text.new.items ≡ text.old.items ++ told_line schedule.now) }
 {
@@ -41,8 +41,8 @@ fn add_line(text: &mut Vec<u8>, schedule: &Result<String, NoSchedule>) -> Result
     }
 }
 
-// The answer where a run came to a report: its text and the line of the schedule, with the status of
-// fiber 0's end.
+// The answer to a run that ended with a report: its text and the line of the schedule, with the status of fiber 0's
+// end.
 fn report_told(
     alloc: Global,
     report: &Report,
@@ -56,7 +56,7 @@ fn report_told(
     Ok(answer)
 }
 
-// The answer where a run ended with a fault. Behind one that no schedule has there is no line of one.
+// The answer to a run that ended with a fault. A fault to which no schedule leads has no line of a schedule.
 fn fault_told(
     alloc: Global,
     error: RunError,
@@ -73,7 +73,7 @@ fn fault_told(
     Ok(answer)
 }
 
-// The answer where a recorded run ended so.
+// The answer to a recorded run that ended with `end`.
 fn end_told(
     alloc: Global,
     end: &Result<RunEnd, RunError>,
@@ -88,8 +88,8 @@ fn end_told(
     }
 }
 
-/// What comes of a program on workers that note their schedule. `AllocError` where memory ran out for
-/// the text of the answer.
+/// The answer to a program on workers that record their schedule. `AllocError` if memory ran out for the text of the
+/// answer.
 pub fn record_answer<R: Threads + Wait + Sync>(
     rt: &R,
     alloc: Global,
@@ -104,7 +104,7 @@ pub fn record_answer<R: Threads + Wait + Sync>(
     end_told(alloc, &end, &schedule)
 }
 
-/// The entries of the schedule that a recorded run hands out, if it does. `AllocError` where memory ran out.
+/// The entries of the schedule of a recorded run, or `None` if it has no schedule. `AllocError` if memory ran out.
 pub fn entries_of(
     alloc: Global,
     schedule: &Result<String, NoSchedule>,
@@ -113,7 +113,7 @@ pub fn entries_of(
     ensures none { IfOk result (λ found. IfNone found (is_found schedule.now ≡ false)) }
 {
     match schedule {
-        // What is handed out is the text of a schedule, so that it is read but for want of memory.
+        // The text spells a schedule, so that reading it fails only if memory runs out.
         Ok(text) => match read_schedule(alloc, text.as_str()) {
             Ok(entries) => Ok(Some(entries)),
             Err(_) => Err(AllocError),
@@ -122,7 +122,7 @@ pub fn entries_of(
     }
 }
 
-// Whether a line of a schedule is told of this end.
+// Whether the answer for this end has a line of a schedule.
 fn has_line(end: &Result<RunEnd, RunError>) -> bool
     ensures { result ≡ has_line end.now }
 {
@@ -132,7 +132,7 @@ fn has_line(end: &Result<RunEnd, RunError>) -> bool
     }
 }
 
-// The timeline of the program that a text spells. It is read from the text, since a run takes it.
+// The timeline of the program that a text spells. The program is read from the text, since a run consumes it.
 fn text_timeline(
     alloc: Global,
     text: &[u8],
@@ -148,7 +148,7 @@ fn text_timeline(
     timeline(alloc, &told)
 }
 
-// An answer with a blank line and a timeline behind it.
+// The answer with a blank line and a timeline after it.
 fn with_timeline(answer: Answer, rows: &str) -> Result<Answer, AllocError>
     ensures text { IfOk result (λ a. a.text.items ≡ answer.text.items ++ 10 ∷ rows.now) }
     ensures status { IfOk result (λ a. a.status ≡ answer.status) }
@@ -159,8 +159,8 @@ fn with_timeline(answer: Answer, rows: &str) -> Result<Answer, AllocError>
     Ok(Answer { text, status })
 }
 
-/// The same as [`record_answer`] of the program that the text spells, and where a schedule is told, a blank line and
-/// the timeline of the replay under it. `AllocError` where memory ran out outside of the run.
+/// The same as [`record_answer`] for the program that `text` spells. If the answer has a schedule, a blank line and the
+/// timeline of its replay follow. `AllocError` if memory ran out outside of the run.
 pub fn timed_answer<R: Threads + Wait + Sync>(
     rt: &R,
     alloc: Global,

@@ -1,4 +1,4 @@
-//! What comes of a program under the entries of a schedule, in the form that is asked for.
+//! The answer to a program under the entries of a schedule, in the requested form.
 
 ghost use Rattle.std.specs.Prelude.{◌≡◌, ◌<◌, ◌^◌, false};
 ghost use Rattle.cell_registry.specs.Cells.{AreLimits};
@@ -15,7 +15,7 @@ use reasons::ReplayReasons;
 use std::alloc::Global;
 use timelines::{PictureOrder, TimelineOrder};
 
-/// Obeys it under these entries, in this form, with reasons or without.
+/// Answers a text under the entries of `schedule`, in this form, with or without reasons.
 pub fn obey_entries<I: TextIn, O: TextOut, E: TextOut>(
     alloc: Global,
     form: AnswerForm,

@@ -1,4 +1,4 @@
-//! What comes of a program under a schedule, whose text is among the words or in front of the program's.
+//! The answer to a program under a schedule, whose text is among the words or in front of the program's.
 
 ghost use Rattle.std.specs.Prelude.{◌≡◌, ◌≢◌, ◌⊎◌, ◌<◌, ◌^◌, codes, false};
 ghost use Rattle.cell_registry.specs.Cells.{AreLimits};
@@ -15,10 +15,10 @@ use reasons::explain_schedule;
 use std::alloc::Global;
 use text_io::refuse_schedule;
 
-// What is told where the first line of the input isn't text, in `clap`'s terms.
+// What is written if the first line of the input isn't text, in `clap`'s terms.
 const NOT_TEXT: &str = "invalid UTF-8 was detected in the schedule, the first line of the input";
 
-// Tells that a schedule's text is bad, with reasons or without.
+// Writes that a schedule's text is bad, with or without reasons.
 fn refuse_as<E: TextOut>(
     alloc: Global,
     explain: bool,
@@ -36,7 +36,7 @@ fn refuse_as<E: TextOut>(
     }
 }
 
-// Obeys it under the schedule of this text. A bad one is told before the program's text is read.
+// Answers the program's text under the schedule. A bad schedule is reported before the program's text is read.
 fn obey_schedule<I: TextIn, O: TextOut, E: TextOut>(
     alloc: Global,
     schedule: &str,
@@ -66,7 +66,7 @@ fn obey_schedule<I: TextIn, O: TextOut, E: TextOut>(
     }
 }
 
-// Obeys it under the schedule that the first line of the input is, on the text behind that line.
+// Answers the program's text under the schedule in the first line of the input. The program's text follows that line.
 fn obey_input<I: TextIn, O: TextOut, E: TextOut>(
     alloc: Global,
     form: AnswerForm,
@@ -107,11 +107,10 @@ fn obey_input<I: TextIn, O: TextOut, E: TextOut>(
     }
 }
 
-/// Obeys a replay, and gives the status: that of the text's answer, `Status::Usage` where the schedule is bad, and
-/// `Status::Fault` where a device failed or memory ran out. All but the answer is told on the last device, and
-/// behind it reasons where they are asked for.
+/// Obeys a replay. Returns the status of the answer, `Status::Usage` if the schedule is bad, or `Status::Fault` if a
+/// device failed or memory ran out. All but the answer goes to `err`, also the reasons if they are asked for.
 ///
-/// A schedule among the words is looked at before the input is read.
+/// A schedule among the words is checked before the input is read.
 pub fn obey_replay<I: TextIn, O: TextOut, E: TextOut>(
     alloc: Global,
     replay: Replay<'_>,

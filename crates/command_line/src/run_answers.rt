@@ -1,4 +1,4 @@
-//! What comes of a program on workers, without its schedule.
+//! The answer to a program on workers, without its schedule.
 
 ghost use Rattle.std.specs.Prelude.{◌≡◌, ◌<◌, IfOk};
 ghost use Rattle.cell_registry.specs.Cells.{AreLimits};
@@ -16,7 +16,7 @@ use std::sync::Wait;
 use std::thread::Threads;
 use steal_pool::{OpenGate, Options, run};
 
-/// The answer where a run ended with a fault. Want of memory in the run has its line, too.
+/// The answer to a run that ended with a fault, which can be that memory ran out in the run.
 pub fn fault_answer(alloc: Global, error: RunError) -> Result<Answer, AllocError>
     ensures line { IfOk result (λ a. a.text.items ≡ run_line error) }
     ensures status { IfOk result (λ a. a.status ≡ Status.Fault) }
@@ -27,17 +27,17 @@ pub fn fault_answer(alloc: Global, error: RunError) -> Result<Answer, AllocError
     })
 }
 
-/// The answer to a text that is refused so, in words. `AllocError` where memory ran out, also where that is why.
+/// The answer to a refused text, in words. `AllocError` if memory ran out, also if that is why the text is refused.
 pub fn text_refusal(alloc: Global, text: &[u8], refused: Refused) -> Result<Answer, AllocError>
     requires { IsRefused text.now refused }
     ensures { IfOk result (λ a. IsRefusalAnswer text.now a.text.items a.status) }
 {
-    // The contract alone looks at the text.
+    // Only the contract uses the text.
     let _ = text;
     refusal(alloc, refused)
 }
 
-/// What comes of a program on workers. `AllocError` where memory ran out for the text of the answer.
+/// The answer to a program on workers. `AllocError` if memory ran out for the text of the answer.
 pub fn run_answer<R: Threads + Wait + Sync>(
     rt: &R,
     alloc: Global,

@@ -1,7 +1,7 @@
-//! What comes of a text whose program workers run, in the form that is asked for, or why there is none.
+//! The answer to a text whose program workers run, in the requested form.
 //!
-//! This is no `TextOrder`: threads share the runtime, and a trait's method can't ask for one that they
-//! may share.
+//! A run is no `TextOrder`: threads share the runtime, and a trait's method can't require a runtime that threads can
+//! share.
 
 ghost use Rattle.std.specs.Prelude.{◌≡◌, ◌≢◌, ◌<◌, ◌^◌, false, IfOk};
 ghost use Rattle.cell_registry.specs.Cells.{AreLimits};
@@ -27,8 +27,8 @@ use std::sync::Wait;
 use std::thread::Threads;
 use steal_pool::Options;
 
-// What comes of the program that the text spells on workers, in this form. `AllocError` where memory ran out
-// outside of the run.
+// The answer to the program that the text spells, on workers, in this form. `AllocError` if memory ran out outside of
+// the run.
 fn program_answer<R: Threads + Wait + Sync>(
     rt: &R,
     alloc: Global,
@@ -49,7 +49,7 @@ fn program_answer<R: Threads + Wait + Sync>(
     }
 }
 
-// The answer to a text that is refused so, in this form. `AllocError` where memory ran out, also where that is why.
+// The answer to a refused text, in this form. `AllocError` if memory ran out, also if that is why the text is refused.
 fn refused_answer(
     alloc: Global,
     text: &[u8],
@@ -67,8 +67,7 @@ fn refused_answer(
     }
 }
 
-// The answer to a text: its refusal, or what comes of its program. `AllocError` where memory ran out
-// outside of the run.
+// The answer to a text: its refusal, or the answer to its program. `AllocError` if memory ran out outside of the run.
 fn text_answer<R: Threads + Wait + Sync>(
     rt: &R,
     alloc: Global,
@@ -86,8 +85,8 @@ fn text_answer<R: Threads + Wait + Sync>(
     }
 }
 
-// Reads a text, and writes its answer. Gives the answer's status. Where memory runs out outside of
-// the run, the reader fails, or the input doesn't end within `TEXT_BOUND` reads, nothing is written.
+// Reads a text, and writes its answer. Returns the answer's status. If memory runs out outside of the run, the reader
+// fails, or the input doesn't end within `TEXT_BOUND` reads, nothing is written.
 fn run_text<R: Threads + Wait + Sync, I: TextIn, O: TextOut>(
     rt: &R,
     alloc: Global,
@@ -110,7 +109,7 @@ fn run_text<R: Threads + Wait + Sync, I: TextIn, O: TextOut>(
     Ok(answer.status)
 }
 
-// The same, with the fault told.
+// The same, with the line of a fault written to `err`.
 fn answer_run<R: Threads + Wait + Sync, I: TextIn, O: TextOut, E: TextOut>(
     rt: &R,
     alloc: Global,
@@ -135,17 +134,15 @@ fn answer_run<R: Threads + Wait + Sync, I: TextIn, O: TextOut, E: TextOut>(
     }
 }
 
-/// Reads a text, has workers run its program, and writes the report or the line of the run's fault, or
-/// the line of the text's refusal, in the form that is asked for. Gives the answer's status: that of fiber 0's end,
-/// `Status::Fault` where the run had a fault, want of memory in it too, and `Status::Refused` where the text is
-/// refused.
+/// Reads a text, has workers run its program, and writes the report, the line of the run's fault, or the line of the
+/// text's refusal, in the requested form. Returns the answer's status: that of fiber 0's end, `Status::Fault` if the
+/// run had a fault, also if memory ran out in it, and `Status::Refused` if the text is refused.
 ///
-/// Where a record is asked for, behind a report and behind a fault 18 or 19 stands the line of a schedule under
-/// which the core comes to exactly that, or why there is none to tell. Where reasons are asked for, [`explain_run`]
-/// tells them.
+/// If a record is asked for, a line follows a report and a fault 18 or 19: that of a schedule under which the core
+/// gives exactly this report or fault, or why there is none. If reasons are asked for, [`explain_run`] writes them.
 ///
-/// The status is also `Status::Fault` where a device failed, the input didn't end within `TEXT_BOUND`
-/// reads, or memory ran out outside of the run, which is told on the last device.
+/// The status is also `Status::Fault` if a device failed, the input didn't end within `TEXT_BOUND` reads, or memory ran
+/// out outside of the run. The line of this fault goes to `err`.
 pub fn obey_run<R: Threads + Wait + Sync, I: TextIn, O: TextOut, E: TextOut>(
     rt: &R,
     alloc: Global,

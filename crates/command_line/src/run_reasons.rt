@@ -1,4 +1,4 @@
-//! The reasons of a text whose program workers run.
+//! The reasons for a text whose program workers run.
 
 ghost use Rattle.std.specs.Prelude.{◌≡◌, ◌⊎◌, ◌<◌, ◌^◌, false, Err as Fails, IfErr, IfOk, IfSome};
 ghost use Rattle.cell_registry.specs.Cells.{AreLimits};
@@ -29,15 +29,15 @@ use std::sync::Wait;
 use std::thread::Threads;
 use steal_pool::{Options, RunEnd};
 
-// The line for a run with an unended fiber for which no schedule was found.
+// The line that is written if a fiber hasn't ended and no schedule of the run was found.
 const NO_REASONS: &[u8] = b"reasons can't be told: no schedule of this run was found\n";
 
-// How many entries are tried behind the schedule of a run, so that each fiber comes to where it waits: a schedule that
-// a run hands out leaves out what shows nothing.
+// The greatest number of entries that are tried after the schedule of a run, so that each fiber reaches its wait. A
+// recorded schedule leaves out the moves that show nothing.
 const MORE_ENTRIES: usize = 100_000;
 
-// The answer to a text, the entries of a schedule under which a replay answers it so, if some were found, and whether
-// it is a report in which a fiber hasn't ended: only of such a fiber there is a reason to tell.
+// The answer to a text, the entries of a schedule under which a replay gives the same answer, if some were found, and
+// whether the answer is a report in which a fiber hasn't ended. Only such a fiber has a reason.
 #[derive(Drop)]
 struct Ran {
     answer: Answer,
@@ -45,14 +45,14 @@ struct Ran {
     unended: bool,
 }
 
-// A text that was answered.
+// A text and its answer.
 #[derive(Drop)]
 struct Kept {
     text: Vec<u8>,
     ran: Ran,
 }
 
-// The answer where a recorded run ended so.
+// The answer to a recorded run that ended with `end`.
 fn ended_answer(alloc: Global, end: &Result<RunEnd, RunError>) -> Result<Answer, AllocError>
     ensures text { IfOk result (λ a. a.text.items ≡ ended_text end.now) }
     ensures status { IfOk result (λ a. a.status ≡ ended_status end.now) }
@@ -76,7 +76,7 @@ fn is_unended(end: &Result<RunEnd, RunError>) -> bool {
     }
 }
 
-// What comes of a program on workers that note their schedule.
+// The answer to a program on workers that record their schedule.
 fn program_ran<R: Threads + Wait + Sync>(
     rt: &R,
     alloc: Global,
@@ -99,7 +99,7 @@ fn program_ran<R: Threads + Wait + Sync>(
     })
 }
 
-// The answer to a text that is refused so. A replay under any schedule gives the same.
+// The answer to a refused text. A replay under any schedule gives the same answer.
 fn refused_ran(alloc: Global, text: &[u8], refused: Refused) -> Result<Ran, AllocError>
     requires { IsRefused text.now refused }
     ensures { IfOk result (λ ran. IsRefusalAnswer text.now ran.answer.text.items ran.answer.status) }
@@ -113,7 +113,7 @@ fn refused_ran(alloc: Global, text: &[u8], refused: Refused) -> Result<Ran, Allo
     })
 }
 
-// The answer to a text: its refusal, or what comes of its program.
+// The answer to a text: its refusal, or the answer to its program.
 fn text_ran<R: Threads + Wait + Sync>(
     rt: &R,
     alloc: Global,
@@ -132,7 +132,7 @@ fn text_ran<R: Threads + Wait + Sync>(
     }
 }
 
-// Reads a text and writes its answer, and keeps both.
+// Reads a text, writes its answer, and keeps both.
 fn keep_run<R: Threads + Wait + Sync, I: TextIn, O: TextOut>(
     rt: &R,
     alloc: Global,
@@ -158,7 +158,7 @@ fn keep_run<R: Threads + Wait + Sync, I: TextIn, O: TextOut>(
     Ok(Kept { text, ran })
 }
 
-// These entries, and so many rounds of one for each fiber behind them.
+// `entries`, and after them rounds of one entry for each fiber, `MORE_ENTRIES` entries at most.
 fn with_rounds(alloc: Global, entries: &[u16], fibers: u16) -> Result<Vec<u16>, AllocError> {
     let mut longer = Vec::new(alloc);
     longer.extend_from_slice(entries)?;
@@ -170,7 +170,7 @@ fn with_rounds(alloc: Global, entries: &[u16], fibers: u16) -> Result<Vec<u16>, 
     Ok(longer)
 }
 
-// How many fibers a report of this text tells of: it has a line for each.
+// The number of fibers in the text of a report, which has a line for each fiber.
 fn fibers_of(report: &[u8]) -> u16 {
     let mut fibers = 0u16;
     for byte in report {
@@ -181,7 +181,7 @@ fn fibers_of(report: &[u8]) -> u16 {
     fibers
 }
 
-// The answer of a replay of the text under these entries and rounds behind them, if it is this one.
+// `entries` with rounds after them, if a replay of the text under all of these gives `answer`.
 fn rounds_under(
     alloc: Global,
     text: &[u8],
@@ -203,7 +203,7 @@ fn rounds_under(
     }
 }
 
-// The entries under which reasons are told: those of a longer schedule that comes to the same, where there is one.
+// The entries for the reasons: those of a longer schedule with the same answer, if there is one, or else `entries`.
 fn rested(
     alloc: Global,
     text: &[u8],
@@ -221,7 +221,7 @@ fn rested(
     }
 }
 
-// Says that reasons can't be told, where a fiber hasn't ended: else there are none.
+// If a fiber hasn't ended, writes that there are no reasons. Otherwise there is nothing to explain.
 fn tell_none<E: TextOut>(unended: bool, err: &mut E)
     requires err { (E.seen err.old).failed ≡ false }
     ensures told { Told no_reasons_line (E.seen err.old) (E.seen err.new) ⊎ (E.seen err.new ≡ E.seen err.old) }
@@ -232,7 +232,7 @@ fn tell_none<E: TextOut>(unended: bool, err: &mut E)
     }
 }
 
-// Tells the reasons of what was kept: those of a replay that answers the text so, where there is one.
+// Writes the reasons for a text and its answer: those of a replay with the same answer, if there is one.
 fn tell_kept<E: TextOut>(
     alloc: Global,
     limits: Limits,
@@ -259,12 +259,12 @@ fn tell_kept<E: TextOut>(
     }
 }
 
-/// Reads a text, has workers run its program, and writes what `run` writes of it without reasons. Then it tells on the
-/// last device why the text is refused, or why each fiber hasn't ended under a schedule that comes to the same; or that
-/// this can't be told, where a fiber hasn't ended and no such schedule was found.
+/// Reads a text, has workers run its program, and writes the answer that `run` writes without reasons. Then it writes
+/// to `err` why the text is refused, or why each fiber hasn't ended under a schedule with the same answer. If a fiber
+/// hasn't ended and no such schedule was found, it writes that instead.
 ///
-/// The status is that of `run`. Where there is a fault, it is told as ever, and nothing else is. Where memory runs out
-/// for the reasons, they are left out, and where the last device fails, nothing more is said.
+/// The status is that of `run`. If there is a fault, only its line goes to `err`. If memory runs out for the reasons,
+/// they are left out. If `err` fails, nothing more is written.
 pub fn explain_run<R: Threads + Wait + Sync, I: TextIn, O: TextOut, E: TextOut>(
     rt: &R,
     alloc: Global,

@@ -1,4 +1,4 @@
-//! What comes of a text whose program's schedules are sampled.
+//! The sample of the schedules of a text's program.
 
 ghost use Rattle.std.specs.Prelude.{◌≡◌, ◌≢◌, ◌<◌, ◌^◌, false};
 ghost use Rattle.command_line.specs.Samplings.{ObeysSample};
@@ -11,9 +11,9 @@ use outcome_trace::{Status, TextIn, TextOut};
 use reasons::TextReasons;
 use std::alloc::Global;
 
-/// Answers with what schedules of a text's program, drawn at random, lead to. Returns the status of the answer, or
-/// `Status::Fault` if a device failed or memory ran out. All but the answer goes to the last device, also the wanted
-/// outcomes to which no schedule came.
+/// Draws schedules of a text's program at random, and answers with their reports and faults. Returns the status of the
+/// answer, or `Status::Fault` if a device failed or memory ran out. All but the answer goes to `err`, also the wanted
+/// outcomes to which no schedule led.
 pub fn obey_sample<I: TextIn, O: TextOut, E: TextOut>(
     alloc: Global,
     sampling: Sampling,

@@ -12,9 +12,9 @@ use outcome_trace::{Status, TextIn, TextOut};
 use std::alloc::Global;
 use std::time::Clock;
 
-/// Answers the first finding of a text's program, or its exploration if there is none. Returns the status of the
-/// answer, or `Status::Fault` if a device failed or memory ran out. All but the answer goes to the last device. The
-/// clock ends the search if its seconds are limited.
+/// Answers a text's program with its first finding, or with its exploration if there is none. Returns the status of the
+/// answer, or `Status::Fault` if a device failed or memory ran out. All but the answer goes to `err`. The clock ends
+/// the search if its seconds are limited.
 pub fn obey_seek<C: Clock, I: TextIn, O: TextOut, E: TextOut>(
     clock: &C,
     alloc: Global,

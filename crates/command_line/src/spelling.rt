@@ -19,16 +19,16 @@ use std::sync::Wait;
 use std::thread::Threads;
 use steal_pool::{NoSchedule, OpenGate, Options, Recorded, RunEnd, run_recorded};
 
-/// How a recorded run has ended, and the text of its schedule.
+/// The end of a recorded run, and the text of its schedule.
 #[derive(Drop)]
 pub struct Spelled {
     /// The end of the run.
     pub end: Result<RunEnd, RunError>,
-    /// The text of a schedule under which a replay comes to that end, or why there is none.
+    /// The text of a schedule under which a replay has the same end, or why there is none.
     pub schedule: Result<String, NoSchedule>,
 }
 
-/// Runs a program on workers that note their schedule, and spells the schedule that is handed out.
+/// Runs a program on workers that record their schedule, and spells the schedule.
 pub fn run_spelled<R: Threads + Wait + Sync>(
     rt: &R,
     alloc: Global,
@@ -50,7 +50,7 @@ pub fn run_spelled<R: Threads + Wait + Sync>(
     Spelled { end, schedule }
 }
 
-// The text of these entries.
+// The text of the entries of a schedule.
 fn spell(alloc: Global, schedule: Result<Vec<u16>, NoSchedule>) -> Result<String, NoSchedule>
     ensures { IfOk result (λ text. SpellsFound schedule (string_bytes text)) }
 {

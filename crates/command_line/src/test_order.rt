@@ -14,10 +14,10 @@ use std::thread::{Threads, join_mut};
 use std::time::Clock;
 use std::{fs, thread};
 
-/// Tests the models of files, and gives the status: `Status::Succeeded` where all passed, `Status::Errored` where one
-/// failed, `Status::Unended` where none failed and one is undecided, `Status::Refused` where a file has a fault, which
-/// is written to the last device, and `Status::Fault` where a device failed or memory ran out. `colors` is whether
-/// verdicts have colours where the words leave that open.
+/// Tests the models of files. Returns `Status::Succeeded` if all passed, `Status::Errored` if one failed or there is
+/// none, `Status::Unended` if none failed and one is undecided, `Status::Refused` if a file has a fault, which is
+/// written to `err`, and `Status::Fault` if a device failed or memory ran out. `colors` is whether verdicts have
+/// colours if the words leave that open.
 pub fn obey_test<R: Files + Clock + Threads + Wait + Sync, O: TextOut, E: TextOut>(
     rt: &R,
     alloc: Global,
@@ -64,7 +64,7 @@ pub fn obey_test<R: Files + Clock + Threads + Wait + Sync, O: TextOut, E: TextOu
     }
 }
 
-// What is printed of a suite.
+// The form of a suite.
 fn suite_form(form: TestForm) -> SuiteForm {
     match form {
         TestForm::Report => SuiteForm::Report,
@@ -85,7 +85,7 @@ fn has_colors(color: Coloring, colors: bool) -> bool
     }
 }
 
-// How many models are explored side by side: as many as asked for, or one for each processor where that is 0.
+// The number of models that are explored side by side: `asked`, or one for each processor if that is 0.
 fn job_count<R: Threads>(rt: &R, asked: u64) -> usize
     ensures { 0 < asked → result ≡ asked }
 {
@@ -98,10 +98,10 @@ fn job_count<R: Threads>(rt: &R, asked: u64) -> usize
     }
 }
 
-// How many models are explored side by side where nothing says how many, at most.
+// The greatest number of models that are explored side by side if the words give no number.
 const MOST_JOBS: usize = 64;
 
-// Tells the faults of files.
+// Writes the faults of files.
 fn refuse_suite<E: TextOut>(suite: &Suite<'_>, err: &mut E) -> Status
     requires { (E.seen err.old).failed ≡ false }
     ensures { result ≡ Status.Refused }
@@ -110,7 +110,7 @@ fn refuse_suite<E: TextOut>(suite: &Suite<'_>, err: &mut E) -> Status
     Status::Refused
 }
 
-// Where the reports of a test go, besides what is printed: the paths of their files.
+// The paths of the files to which the reports of a test are written.
 #[derive(Clone, Copy)]
 struct Reports<'a> {
     // The report for CI.
@@ -164,7 +164,7 @@ fn write_models<R: Clock + Threads + Wait + Sync, O: TextOut>(
     }
 }
 
-// The same behind what is written before all models. This thread does a part of the jobs.
+// The same, after the opening is written. This thread tests models, too.
 fn write_jobs<R: Clock + Threads + Wait + Sync, O: TextOut>(
     rt: &R,
     suite: &Suite<'_>,
@@ -190,7 +190,7 @@ fn write_jobs<R: Clock + Threads + Wait + Sync, O: TextOut>(
     written
 }
 
-// Writes the report of each model in its turn, and takes no more models where a write fails.
+// Writes the report of each model in its turn. If a write fails, no more models are taken.
 fn write_tested<R: Clock + Wait, O: TextOut>(
     rt: &R,
     suite: &Suite<'_>,
@@ -231,7 +231,7 @@ fn write_each<R: Clock + Wait, O: TextOut>(
     Ok(())
 }
 
-// What is printed of a model at once.
+// The text that is printed as soon as a model is tested.
 fn tell_next<R: Clock + Wait>(
     rt: &R,
     suite: &Suite<'_>,
@@ -243,7 +243,7 @@ fn tell_next<R: Clock + Wait>(
     suite.tell(told, tested)
 }
 
-// Writes what is printed behind all models, and the reports that are asked for.
+// Writes what is printed after all models, and the reports that are asked for.
 #[tactic(auto, using(crate::proofs::TestLemmas::suite_status))]
 fn end_suite<R: Files, O: TextOut, E: TextOut>(
     rt: &R,
@@ -276,7 +276,7 @@ fn end_suite<R: Files, O: TextOut, E: TextOut>(
 struct ReportFault<'a> {
     // The path of its file.
     path: &'a str,
-    // Why.
+    // The fault of its file, or that memory ran out.
     fault: TextFault,
 }
 
@@ -323,7 +323,7 @@ fn write_file<R: Files>(
     write_text(text.as_slice(), &mut device)
 }
 
-// Writes the line of a report's fault: behind the path, if the file failed.
+// Writes the line of a report's fault, after the path if the file failed.
 fn tell_report<E: TextOut>(report: ReportFault<'_>, err: &mut E) -> Status
     requires { (E.seen err.old).failed ≡ false }
     ensures { result ≡ Status.Fault }
@@ -334,7 +334,7 @@ fn tell_report<E: TextOut>(report: ReportFault<'_>, err: &mut E) -> Status
     }
 }
 
-// Writes the line of a fault behind the path of a file. If this device fails too, nothing more is written.
+// Writes the line of a fault after the path of a file. If `err` fails, nothing more is written.
 fn tell_file<E: TextOut>(path: &str, fault: TextFault, err: &mut E) -> Status
     requires { (E.seen err.old).failed ≡ false }
     ensures { result ≡ Status.Fault }
@@ -345,7 +345,7 @@ fn tell_file<E: TextOut>(path: &str, fault: TextFault, err: &mut E) -> Status
     }
 }
 
-// Writes the line of a fault behind a colon.
+// Writes the line of a fault after a colon.
 fn tell_separated<E: TextOut>(fault: TextFault, err: &mut E) -> Status
     requires { (E.seen err.old).failed ≡ false }
     ensures { result ≡ Status.Fault }
@@ -356,7 +356,8 @@ fn tell_separated<E: TextOut>(fault: TextFault, err: &mut E) -> Status
     }
 }
 
-/// Prints the terms of the models of a file, and gives the status, as [`obey_test`] does.
+/// Prints the terms of the models of a file. Returns `Status::Succeeded`, `Status::Refused` if the file has a fault,
+/// which is written to `err`, or `Status::Fault` if a device failed or memory ran out.
 pub fn obey_terms<R: Files, O: TextOut, E: TextOut>(
     rt: &R,
     alloc: Global,

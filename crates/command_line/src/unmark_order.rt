@@ -11,9 +11,9 @@ use outcome_trace::{Status, TextIn, TextOut};
 use std::alloc::Global;
 use std::time::Clock;
 
-/// Answers the outcomes that the fibers of a text's program can have, without their marks. Returns the status of the
-/// answer, or `Status::Fault` if a device failed or memory ran out. All but the answer goes to the last device. The
-/// clock ends the search if its seconds are limited.
+/// Answers a text's program with the outcomes that its fibers can have, without their marks. Returns the status of the
+/// answer, or `Status::Fault` if a device failed or memory ran out. All but the answer goes to `err`. The clock ends
+/// the search if its seconds are limited.
 pub fn obey_unmark<C: Clock, I: TextIn, O: TextOut, E: TextOut>(
     clock: &C,
     alloc: Global,

@@ -1,4 +1,4 @@
-//! An order whose search is watched, with what is asked for beside its answer.
+//! An order with a search, and what is written beside its answer.
 
 ghost use Rattle.std.specs.Prelude.{◌≡◌, ◌<◌, ◌^◌, false, is_some};
 ghost use Rattle.command_line.specs.Explorings.{ObeysBeside};
@@ -12,7 +12,7 @@ use reasons::TextReasons;
 use std::alloc::Global;
 use std::time::Clock;
 
-/// Answers a text by an order whose search ends after these seconds, if they are given.
+/// Answers a text by an order. The search ends after `seconds`, if they are given.
 pub fn obey_form<C: Clock, W: WatchedOrder + Drop, I: TextIn, O: TextOut, E: TextOut>(
     clock: &C,
     alloc: Global,

@@ -31,7 +31,7 @@ const NOTHING_TESTED: &str = "0 models\n\n0 passed, 0 failed, 0 undecided\n";
 // A replay whose schedule is the first line of the input.
 const FROM_INPUT: &[&str] = &["fiber_cli", "replay", "--schedule", "-"];
 
-// A reader that gives one byte for each read, and fails after a number of bytes.
+// A reader that gives one byte for each read. After its last byte it fails if `fails` is set, and ends otherwise.
 #[derive(Drop)]
 struct Drops<'a> {
     left: &'a [u8],
@@ -105,8 +105,8 @@ const WORDS: [(usize, usize); 7] = [
     (58, 61),
 ];
 
-// The refusal of the first `bytes` bytes of `PROGRAM`: a word that is cut isn't a word, except `cancel`; otherwise the
-// text ends too early.
+// The refusal of the first `bytes` bytes of `PROGRAM`. A cut word is an unknown word, except `cancel`; another front
+// ends too early.
 fn cut_at(alloc: Global, bytes: usize) -> Result<String, AllocError> {
     for (begin, end) in WORDS {
         if begin < bytes && bytes < end && (begin, bytes) != (24, 30) {
@@ -167,7 +167,7 @@ fn tells_failed_readers(rt: HostRuntime) {
     expect_of(&rt, FROM_INPUT, Restless, 70, "", "fault 25 TurnBound\n");
 }
 
-// Runs a command line whose output is full after this many bytes, and checks the report of that.
+// Runs a command line whose output is full after `room` bytes, and checks the fault that it reports.
 fn expect_write_fault<R: Abort + AllocGlobal + Clock + Files + Threads + Wait + Sync>(
     rt: &R,
     words: &[&str],
@@ -189,7 +189,8 @@ const WRITING: &[(&[&str], usize)] = &[
     (RUN_WHY, "fiber 0 succeeded 7\n".len()),
 ];
 
-// How many bytes a test writes at first. What it writes behind its models is a text of its own.
+// The number of bytes that a test writes before its models. The text after its models is written separately, and a
+// fault in it counts only its own bytes.
 const HEADING: usize = "0 models\n".len();
 
 #[test]

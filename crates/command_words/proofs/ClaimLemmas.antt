@@ -1,4 +1,4 @@
--- Whether there are claims among the words.
+-- Whether the words have claims.
 use Rattle.std.proofs.Common.{◌≡◌, ◌≢◌, ◌∙◌, Bool, true, false, not, List, [], ◌∷◌, Option, Some, None, map, length, nat_eq, ap, sym}
 use Rattle.std.proofs.lemmas.Bool.{eqb-true}
 use Rattle.std.proofs.lemmas.List.{nil_from_length}

@@ -1,4 +1,4 @@
--- Options that say two forms at once say none.
+-- Options that ask for two forms at once ask for none.
 use Rattle.std.proofs.Common.{Bool, List, codes, false, true}
 use Rattle.clap.specs.Words.{Row}
 use Rattle.command_words.specs.declared.replay.AnswerForm.{AnswerForm}

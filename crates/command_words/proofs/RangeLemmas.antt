@@ -1,4 +1,4 @@
--- What `clap` makes of the ends of a range.
+-- The ends of a range, as `clap` reads them.
 use Rattle.std.proofs.Common.{◌≡◌, ◌∙◌, ◌<◌, ℕ, pos, Some, ap, ap₂, arith}
 use Rattle.std.specs.Ordering.{nat_cmp, ord_max, ord_min}
 use Rattle.std.specs.Int.{saturate_unsigned, w64}

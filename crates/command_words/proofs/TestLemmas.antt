@@ -1,4 +1,4 @@
--- Options of `test` that say two forms at once say none.
+-- Options of `test` that ask for two forms at once ask for none.
 use Rattle.std.proofs.Common.{◌≡◌, ◌∙◌, List, [], Some, ap, codes, map, sym}
 use Rattle.std.specs.Borrow.{Bor}
 use Rattle.clap.specs.Words.{Row, Text}
@@ -29,13 +29,13 @@ json_with_tap options json tap forms.List says = says.1 json
 json_with_tap options json tap forms.Json says = says.2 tap
 json_with_tap options json tap forms.Tap says = says.1 json
 
--- a text that is none of three words says nothing of colours
+-- a text that is none of the three words asks for no colouring
 pub no_color : (text : Text) → (text ≡ codes "auto" → ⊥) → (text ≡ codes "always" → ⊥) → (text ≡ codes "never" → ⊥) → (color : Coloring) →
     SaysColoring (Some text) color → ⊥
 no_color text auto always never Auto says = auto says
 no_color text auto always never Always says = always says
 no_color text auto always never Never says = never says
 
--- where there are no texts, none are copied
+-- if there are no texts, none are copied
 pub nothing_copied : (copy : List (Bor Text)) (texts : List Text) → copy ≡ [] → texts ≡ [] → map (λ s. s.now) copy ≡ texts
 nothing_copied copy texts none nothing = ap (map (λ s. s.now)) none ∙ sym nothing

@@ -20,7 +20,7 @@ front_end front c =
     let less : length (front ++ c ∷ []) - 1 ≡ length front = omega arith in
     ap (λ n. take n (front ++ c ∷ [])) less ∙ take-append_seam front (c ∷ [])
 
--- a letter at the end says the unit
+-- the last letter of a text is its unit
 pub ends_unit : (text front : Text) (c : ℕ) → text ≡ front ++ c ∷ [] → unit_of text ≡ letter_unit (Some c)
 ends_unit text front c is = ap letter_unit (ap (last_or None) is ∙ last_end None front c)
 
@@ -37,7 +37,7 @@ ends x (y ∷ ys) = let rest = ends y ys in (x ∷ rest.0, rest.1, ap (λ t. x �
 other : (c : ℕ) → c ≢ 107 → c ≢ 77 → c ≢ 71 → letter_unit (Some c) ≡ 1
 other c k m g = grind (arith, common_steps)
 
--- a text that ends in none of the letters has no unit
+-- a text that ends in none of the three letters has the unit 1
 pub no_unit : (text : Text) → ((front : Text) → text ≢ front ++ 107 ∷ []) → ((front : Text) → text ≢ front ++ 77 ∷ []) →
     ((front : Text) → text ≢ front ++ 71 ∷ []) → unit_of text ≡ 1
 no_unit [] k m g = refl

@@ -1,9 +1,9 @@
--- Texts that say nothing of marks, or name no fiber.
+-- Texts that are wrong for `--marks` or for `--only`.
 use Rattle.std.proofs.Common.{◌≡◌, Bool, true, false, Some, codes}
 use Rattle.clap.specs.Words.{Text}
 use Rattle.command_words.specs.Flags.{SaysMarks, SaysOnly}
 
--- a text that is neither of two words says nothing of marks
+-- a text that is neither `all` nor `none` says nothing of marks
 pub no_marks : (text : Text) → (text ≡ codes "all" → ⊥) → (text ≡ codes "none" → ⊥) → (marks : Bool) → SaysMarks (Some text) marks → ⊥
 no_marks text all none true says = all says
 no_marks text all none false says = none says

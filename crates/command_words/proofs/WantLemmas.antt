@@ -13,7 +13,7 @@ use Rattle.exploration_text.specs.declared.wants.Want.TheVariants.{Unended}
 use Rattle.exploration_text.specs.Wants.{IsInRange, want_text}
 use Rattle.command_words.specs.Requests.{AreWants, texts_said}
 
--- where one text spells none, there are none for all of them
+-- if one text spells no outcome, there is no list of outcomes for the texts
 pub no_wants : (texts : List Text) (i : ℕ) (d : Text) → i < length texts → ((w : Want) → IsInRange w → get_or texts i d ≡ want_text w → ⊥) →
     (wants : List Want) → AreWants texts wants → ⊥
 no_wants texts i d low none wants are =
@@ -21,13 +21,13 @@ no_wants texts i d low none wants are =
     none (get_or wants i Unended) (All-get_or IsInRange wants i Unended here are.ranges)
     (ap (λ ts. get_or ts i d) (sym are.spelled) ∙ get_or-map want_text wants i Unended d here)
 
--- the same of texts behind references
+-- the same for texts behind references
 pub none_of : (texts : List (Bor Text)) (i : ℕ) (d : Bor Text) → i < length texts →
     ((w : Want) → IsInRange w → (get_or texts i d).now ≡ want_text w → ⊥) → (wants : List Want) → AreWants (map (λ s. s.now) texts) wants → ⊥
 none_of texts i d low none = no_wants (map (λ s. s.now) texts) i d.now (subst (λ n. i < n) (sym (length-map texts (λ s. s.now))) low)
     (λ w good is. none w good (sym (get_or-map (λ (s : Bor Text). s.now) texts i d d.now low) ∙ is))
 
--- the outcomes so far, with that of the next text
+-- `wants` are the outcomes of the first `i` texts
 pub record SoFar (texts : List (Bor Text)) (i : ℕ) (wants : List Want) : Type 0 where
   pub spelled : map want_text wants ++ map (λ s. s.now) (drop i texts) ≡ map (λ s. s.now) texts
   pub ranges : All IsInRange wants
@@ -66,7 +66,7 @@ pub none_given : {A : Type 0} (f : A → List Text) (given : Option A) (name : T
     option_map f given ≡ all_of name rows → texts_said name rows ≡ []
 none_given f given name rows is same = ap (λ (o : Option (List Text)). unwrap_or o []) (sym same ∙ ap (option_map f) is)
 
--- where there are no texts, nothing is wanted
+-- if there are no texts, nothing is wanted
 pub none_wanted : (wants : List Want) (texts : List Text) → wants ≡ [] → texts ≡ [] → AreWants texts wants
 none_wanted wants texts none nothing =
     subst (λ ts. AreWants ts wants) (sym nothing)

@@ -1,4 +1,4 @@
--- The flags that stand in the words, and the forms that they say.
+-- The flags in the words, and the forms that they ask for.
 use Rattle.std.specs.Prelude.{◌≡◌, Bool, true, false, List, None, Option, Some, codes}
 use Rattle.clap.specs.Words.{Row, Text, first_of}
 use Rattle.command_words.specs.declared.exploring.Beside.{Beside}
@@ -14,20 +14,20 @@ use Rattle.command_words.specs.declared.testing.Coloring.TheVariants.{Auto, Alwa
 use Rattle.command_words.specs.declared.testing.TestForm.{TestForm}
 use Rattle.command_words.specs.declared.testing.TestForm.TheVariants as tests
 
--- the flag stands in the words
+-- the flag is given
 abbrev pub IsGiven : Text → List Row → Type 0
 IsGiven name options = first_of name options ≡ Some (codes "true")
 
--- the flag doesn't stand in the words
+-- the flag isn't given
 abbrev pub IsLeftOut : Text → List Row → Type 0
 IsLeftOut name options = IsGiven name options → ⊥
 
--- whether the flag stands in the words
+-- whether the flag is given
 abbrev pub SaysFlag : Text → List Row → Bool → Type 0
 SaysFlag name options true = IsGiven name options
 SaysFlag name options false = IsLeftOut name options
 
--- the form that the options of `replay` say: that of the one flag of these three that is given, or a report
+-- the form that the options of `replay` ask for: that of the only one of three flags that is given, or a report
 abbrev pub SaysForm : List Row → AnswerForm → Type 0
 SaysForm options Report =
     IsLeftOut (codes "timeline") options × IsLeftOut (codes "svg") options × IsLeftOut (codes "json") options
@@ -38,20 +38,21 @@ SaysForm options Picture =
 SaysForm options Json =
     IsLeftOut (codes "timeline") options × IsLeftOut (codes "svg") options × IsGiven (codes "json") options
 
--- the form that the options of `explore` say: that of the one flag of these two that is given, or a list
+-- the form that the options of `explore` ask for: that of the only one of two flags that is given, or a list
 abbrev pub SaysExploreForm : List Row → ExploreForm → Type 0
 SaysExploreForm options explores.Report = IsLeftOut (codes "timeline") options × IsLeftOut (codes "json") options
 SaysExploreForm options explores.Timeline = IsGiven (codes "timeline") options × IsLeftOut (codes "json") options
 SaysExploreForm options explores.Json = IsLeftOut (codes "timeline") options × IsGiven (codes "json") options
 
--- what the options of `explore` say is written beside the answer: what the one flag of these two asks for, or nothing
+-- what is written beside the answer, by the options of `explore`: what the only given one of two flags asks for, or
+-- nothing
 abbrev pub SaysBeside : List Row → Beside → Type 0
 SaysBeside options beside.Nothing = IsLeftOut (codes "progress") options × IsLeftOut (codes "explain") options
 SaysBeside options beside.Progress = IsGiven (codes "progress") options × IsLeftOut (codes "explain") options
 SaysBeside options beside.Reasons = IsLeftOut (codes "progress") options × IsGiven (codes "explain") options
 
--- the form that the options of `run` say, and whether reasons are told, which is so beside a report alone; a
--- timeline is one of the schedule that is recorded
+-- the form that the options of `run` ask for, and whether reasons are written; only a report has reasons, and a
+-- timeline needs a recorded schedule
 abbrev pub SaysRunForm : List Row → RunForm → Bool → Type 0
 SaysRunForm options runs.Report explain =
     IsLeftOut (codes "record") options × IsLeftOut (codes "timeline") options × IsLeftOut (codes "json") options ×
@@ -69,21 +70,21 @@ SaysRunForm options runs.Json false =
     IsLeftOut (codes "explain") options
 SaysRunForm options runs.Json true = ⊥
 
--- whether the text of an option says that reports have marks, which they have unless it says that they have none
+-- whether reports have marks, by the text of an option; they have them if the option isn't given
 abbrev pub SaysMarks : Option Text → Bool → Type 0
 SaysMarks None true = Unit {0}
 SaysMarks None false = ⊥
 SaysMarks (Some text) true = text ≡ codes "all"
 SaysMarks (Some text) false = text ≡ codes "none"
 
--- whether the text of an option names fiber 0 as the only one; it names no other
+-- whether fiber 0 is the only one, by the text of an option; no other fiber can be named
 abbrev pub SaysOnly : Option Text → Bool → Type 0
 SaysOnly None true = ⊥
 SaysOnly None false = Unit {0}
 SaysOnly (Some text) true = text ≡ codes "0"
 SaysOnly (Some text) false = ⊥
 
--- the form that the options of `test` say: that of the one flag of these three that is given, or a report
+-- the form that the options of `test` ask for: that of the only one of three flags that is given, or a report
 abbrev pub SaysTestForm : List Row → TestForm → Type 0
 SaysTestForm options tests.Report =
     IsLeftOut (codes "list") options × IsLeftOut (codes "json") options × IsLeftOut (codes "tap") options
@@ -94,7 +95,7 @@ SaysTestForm options tests.Json =
 SaysTestForm options tests.Tap =
     IsLeftOut (codes "list") options × IsLeftOut (codes "json") options × IsGiven (codes "tap") options
 
--- when the text of an option says that verdicts have colours: where a terminal takes them, unless it says another
+-- when verdicts have colours, by the text of an option: `Auto` if the option isn't given
 abbrev pub SaysColoring : Option Text → Coloring → Type 0
 SaysColoring None Auto = Unit {0}
 SaysColoring None Always = ⊥

@@ -6,7 +6,8 @@ use Rattle.clap.specs.Words.{Text}
 use Rattle.command_words.specs.Numbers.{IsNumberOf}
 use Rattle.command_words.specs.Words.{memory_range}
 
--- what the last letter of a text stands for: k, M or G for 1024, 1024^2 or 1024^3 bytes, any other for one
+-- the bytes of the unit that is the last letter of a text: 1024, 1024^2 or 1024^3 for k, M or G, and 1 for any other
+-- letter
 abbrev pub letter_unit : Option ℕ → ℕ
 letter_unit None = 1
 letter_unit (Some c) =
@@ -15,11 +16,11 @@ letter_unit (Some c) =
 abbrev pub unit_of : Text → ℕ
 unit_of text = letter_unit (last_or None text)
 
--- the text without that letter
+-- the text without the letter of its unit
 abbrev pub number_in : Text → Text
 number_in text = if unit_of text == 1 then text else take (length text - 1) text
 
--- the bytes that an option says: the number of its text times its unit, or the usual ones where the option isn't given
+-- the bytes that an option gives: the number of its text times its unit, or the usual number if the option isn't given
 abbrev pub SaysMemory : Option Text → ℕ → Type 0
 SaysMemory None n = n ≡ memory_range.usual
 SaysMemory (Some text) n = IsNumberOf memory_range (number_in text) ×

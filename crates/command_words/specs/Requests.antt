@@ -1,4 +1,4 @@
--- The request that the words of a command line give.
+-- The request that the words of a command line make.
 use Rattle.std.specs.Prelude.{◌≡◌, ◌≤◌, ⊤, ℕ, true, false, List, [], map, Option, Some, None, codes, option_map}
 use Rattle.std.specs.List.{All}
 use Rattle.std.specs.Option.{unwrap_or}
@@ -36,43 +36,42 @@ use Rattle.command_words.specs.Words.{band_range, budget_range, count_range, ent
 use Rattle.command_words.specs.Words.{jobs_range, model_worlds_range, program, seed_range, times_range, workers_range}
 use Rattle.command_words.specs.Words.{worlds_range}
 
--- the limits that the options of `replay`, of `explore`, of `run` or of `sample` say, with this range of fibers, refs
--- and deferreds
+-- the limits that the options of a subcommand give, with `band` as the range of fibers, refs and deferreds
 pub record SaysLimits (band : NumberRange) (options : List Row) (limits : Limits) : Type 0 where
   pub fibers : SaysNumber band (first_of (codes "fibers") options) limits.fibers
   pub refs : SaysNumber band (first_of (codes "refs") options) limits.refs
   pub deferreds : SaysNumber band (first_of (codes "deferreds") options) limits.deferreds
   pub count : SaysNumber count_range (first_of (codes "count") options) limits.count
 
--- how the options of `run` say that the run goes
+-- the workers, limits, budget and moves that the options of `run` give
 pub record SaysRun (options : List Row) (run : Options) : Type 0 where
   pub workers : SaysNumber workers_range (first_of (codes "workers") options) run.workers
   pub limits : SaysLimits band_range options (limits_of run)
   pub budget : SaysNumber budget_range (first_of (codes "budget") options) run.budget
   pub moves : SaysNumber moves_range (first_of (codes "moves") options) run.moves
 
--- how far the options of `explore` say that the search goes
+-- the bounds that the options of `explore` or of `compare` give
 pub record SaysBounds (options : List Row) (worlds entries memory : ℕ) : Type 0 where
   pub worlds_are : SaysNumber worlds_range (first_of (codes "worlds") options) worlds
   pub entries_are : SaysNumber entries_range (first_of (codes "entries") options) entries
   pub memory_is : SaysMemory (first_of (codes "memory") options) memory
 
--- the texts of an option that may be given more than once, none where it isn't given
+-- the texts of an option that can be given more than once; none if it isn't given
 abbrev pub texts_said : Text → List Row → List Text
 texts_said name options = unwrap_or (all_of name options) []
 
--- the texts spell the outcomes that are wanted, as a report does, in the same order
+-- the texts spell the wanted outcomes, as a report does, in the same order
 pub record AreWants (texts : List Text) (wants : List Want) : Type 0 where
   pub spelled : map want_text wants ≡ texts
   pub ranges : All IsInRange wants
 
--- what the options of `explore` say that the text is explored under
+-- the limits, bounds and wanted outcomes that the options of `explore` give
 pub record SaysExplore (options : List Row) (order : ExploreOrder) : Type 0 where
   pub limits : SaysLimits few_range options order.limits
   pub bounds : SaysBounds options order.bounds.worlds order.bounds.entries order.bounds.memory
   pub wants : AreWants (texts_said (codes "want") options) order.wants.items
 
--- no claim stands in the words
+-- the words have no claim
 abbrev pub HasNoClaims : List Row → Type 0
 HasNoClaims options = (texts_said (codes "always") options ≡ []) × (texts_said (codes "never") options ≡ []) ×
     (texts_said (codes "reach") options ≡ [])
@@ -80,7 +79,7 @@ HasNoClaims options = (texts_said (codes "always") options ≡ []) × (texts_sai
 abbrev pub HasClaims : List Row → Type 0
 HasClaims options = HasNoClaims options → ⊥
 
--- no option is given that claims don't go with
+-- no option is given that conflicts with claims
 abbrev pub AreAlone : List Row → Type 0
 AreAlone options = IsLeftOut (codes "first") options × IsLeftOut (codes "ends") options ×
     IsLeftOut (codes "progress") options × IsLeftOut (codes "explain") options ×
@@ -96,7 +95,8 @@ pub record SaysJudging (options : List Row) (judging : Judging) : Type 0 where
   pub never : map (λ s. s.now) judging.never.items ≡ texts_said (codes "never") options
   pub reach : map (λ s. s.now) judging.reach.items ≡ texts_said (codes "reach") options
 
--- what the options of `sample` say that schedules are drawn by, and how many, under which limits, and what is wanted
+-- the seed, the number of schedules, their entries, the limits and the wanted outcomes that the options of `sample`
+-- give
 pub record SaysSample (options : List Row) (order : SampleOrder) : Type 0 where
   pub seed : SaysNumber seed_range (first_of (codes "seed") options) order.seed
   pub times : SaysNumber times_range (first_of (codes "times") options) order.times
@@ -104,14 +104,14 @@ pub record SaysSample (options : List Row) (order : SampleOrder) : Type 0 where
   pub limits : SaysLimits few_range options order.limits
   pub wants : AreWants (texts_said (codes "want") options) order.wants.items
 
--- the replay that the options of `replay` say
+-- the replay that the options of `replay` ask for
 pub record SaysReplay (options : List Row) (replay : ReplayFields) : Type 0 where
   pub schedule : first_of (codes "schedule") options ≡ Some replay.schedule.now
   pub form : SaysForm options replay.form
   pub explain : SaysFlag (codes "explain") options replay.explain
   pub limits : SaysLimits band_range options replay.limits
 
--- the exploration that the options of `explore` say
+-- the exploration that the options of `explore` ask for
 pub record SaysExploring (options : List Row) (exploring : Exploring) : Type 0 where
   pub order : SaysExplore options exploring.order
   pub form : SaysExploreForm options exploring.form
@@ -119,7 +119,7 @@ pub record SaysExploring (options : List Row) (exploring : Exploring) : Type 0 w
   pub seconds_are : SaysSeconds (first_of (codes "seconds") options) exploring.seconds
   pub beside : SaysBeside options exploring.beside
 
--- the search for the first finding that the options of `explore` say
+-- the search for the first finding that the options of `explore` ask for
 pub record SaysSeeking (options : List Row) (seeking : Seeking) : Type 0 where
   pub first : IsGiven (codes "first") options
   pub claims : HasNoClaims options
@@ -129,7 +129,7 @@ pub record SaysSeeking (options : List Row) (seeking : Seeking) : Type 0 where
   pub seconds_are : SaysSeconds (first_of (codes "seconds") options) seeking.seconds
   pub beside : SaysBeside options seeking.beside
 
--- the decision on fair schedules that the options of `explore` say
+-- the decision on fair schedules that the options of `explore` ask for
 pub record SaysDeciding (options : List Row) (deciding : Deciding) : Type 0 where
   pub ends : IsGiven (codes "ends") options
   pub claims : HasNoClaims options
@@ -139,7 +139,7 @@ pub record SaysDeciding (options : List Row) (deciding : Deciding) : Type 0 wher
   pub seconds_are : SaysSeconds (first_of (codes "seconds") options) deciding.seconds
   pub beside : SaysBeside options deciding.beside
 
--- reports have marks, and are of all fibers
+-- reports have marks, and all fibers are reported
 abbrev pub HasMarks : List Row → Type 0
 HasMarks options = SaysMarks (first_of (codes "marks") options) true × (first_of (codes "only") options ≡ None)
 
@@ -148,7 +148,7 @@ abbrev pub GoWithoutMarks : List Row → Type 0
 GoWithoutMarks options = IsLeftOut (codes "timeline") options × IsLeftOut (codes "first") options ×
     IsLeftOut (codes "ends") options × (first_of (codes "count") options ≡ None)
 
--- the exploration without marks that the options of `explore` say
+-- the exploration without marks that the options of `explore` ask for
 pub record SaysUnmarking (options : List Row) (unmarking : Unmarking) : Type 0 where
   pub marks : SaysMarks (first_of (codes "marks") options) false
   pub only : SaysOnly (first_of (codes "only") options) unmarking.only_first
@@ -159,35 +159,35 @@ pub record SaysUnmarking (options : List Row) (unmarking : Unmarking) : Type 0 w
   pub seconds_are : SaysSeconds (first_of (codes "seconds") options) unmarking.seconds
   pub beside : SaysBeside options unmarking.beside
 
--- the run that the options of `run` say
+-- the run that the options of `run` ask for
 pub record SaysRunning (options : List Row) (running : Running) : Type 0 where
   pub run : SaysRun options running.options
   pub form : SaysRunForm options running.form running.explain
 
--- the sample that the options of `sample` say
+-- the sample that the options of `sample` ask for
 pub record SaysSampling (options : List Row) (sampling : Sampling) : Type 0 where
   pub order : SaysSample options sampling.order
   pub json : SaysFlag (codes "json") options sampling.json
 
--- by what the options of `compare` say that ends are compared
+-- the basis of the comparison, by the options of `compare`
 abbrev pub SaysBasis : List Row → Basis → Type 0
 SaysBasis options AllFibers = IsGiven (codes "all") options
 SaysBasis options FirstFiber = IsLeftOut (codes "all") options
 
--- how the options of `compare` say that programs are compared
+-- the limits, bounds, basis and form of the comparison, by the options of `compare`
 pub record SaysCompare (options : List Row) (order : CompareOrder) : Type 0 where
   pub limits : SaysLimits few_range options order.limits
   pub bounds : SaysBounds options order.bounds.worlds order.bounds.entries order.bounds.memory
   pub basis : SaysBasis options order.basis
   pub json : SaysFlag (codes "json") options order.json
 
--- the comparison that the options of `compare` say
+-- the comparison that the options of `compare` ask for
 pub record SaysComparing (options : List Row) (comparing : Comparing) : Type 0 where
   pub first : first_of (codes "first") options ≡ Some comparing.first.now
   pub second : first_of (codes "second") options ≡ Some comparing.second.now
   pub order : SaysCompare options comparing.order
 
--- the test of model files that the options of `test` say
+-- the test of model files that the options of `test` ask for
 pub record SaysTesting (options : List Row) (testing : Testing) : Type 0 where
   pub files_are : map (λ s. s.now) testing.files.items ≡ texts_said (codes "files") options
   pub filter_is : option_map (λ s. s.now) testing.filter ≡ first_of (codes "filter") options
@@ -200,11 +200,11 @@ pub record SaysTesting (options : List Row) (testing : Testing) : Type 0 where
   pub form_is : SaysTestForm options testing.form
   pub color_is : SaysColoring (first_of (codes "color") options) testing.color
 
--- the translation of a model file that the options of `terms` say
+-- the translation of a model file that the options of `terms` ask for
 pub record SaysTranslating (options : List Row) (translating : Translating) : Type 0 where
   pub file_is : first_of (codes "file") options ≡ Some translating.file.now
 
--- the request that a subcommand with its options says
+-- the request that a subcommand asks for with its options
 abbrev pub Says : Text × List Row → Request → Type 0
 Says said (Check checking) =
     (said.0 ≡ codes "check") × SaysFlag (codes "json") said.1 checking.json ×
@@ -225,14 +225,14 @@ Says said (Compare comparing) = (said.0 ≡ codes "compare") × SaysComparing sa
 Says said (Test testing) = (said.0 ≡ codes "test") × SaysTesting said.1 testing
 Says said (Terms translating) = (said.0 ≡ codes "terms") × SaysTranslating said.1 translating
 
--- the request of the words, where a subcommand with its options stands in them that says one
+-- the request that the words make: the one that their subcommand asks for with its options, if there is one
 abbrev pub GivesRequest : Option (Text × List Row) → Option Request → Type 0
 GivesRequest None (Some request) = ⊥
 GivesRequest None None = Unit {0}
 GivesRequest (Some said) (Some request) = Says said request
 GivesRequest (Some said) None = (request : Request) → Says said request → ⊥
 
--- whether the words are right is known only when the input is read: it has the schedule, or the refs that claims name
+-- only the input shows whether the words are right: it has the schedule, or the refs that claims name
 abbrev pub IsSettledByInput : Request → Type 0
 IsSettledByInput (Check checking) = ⊥
 IsSettledByInput (Show showing) = ⊥
@@ -248,7 +248,7 @@ IsSettledByInput (Compare comparing) = ⊥
 IsSettledByInput (Test testing) = ⊥
 IsSettledByInput (Terms translating) = ⊥
 
--- the words give such a request
+-- the words make a request that only the input shows to be right
 pub record AreSettledByInput (words : List Text) : Type 0 where
   pub request : Request
   pub gives : GivesRequest (subcommand_of program words) (Some request)

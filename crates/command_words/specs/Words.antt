@@ -1,4 +1,4 @@
--- What the words of a command line may be.
+-- The words that the command line accepts.
 use Rattle.std.specs.Prelude.{true, codes, Some}
 use Rattle.clap.specs.declared.builder.action.ArgAction.TheVariants.{Append, Set, SetTrue}
 use Rattle.clap.specs.declared.builder.value_parser.ValueParser.TheVariants.{Unsigned}
@@ -6,65 +6,65 @@ use Rattle.clap.specs.Simple.{on_top}
 use Rattle.clap.specs.Words.{App, Rule, Text, new_app, new_rule, with_rule, with_subcommand}
 use Rattle.command_words.specs.declared.ranges.NumberRange.{NumberRange}
 
--- ---- the numbers that the options take: the least, the greatest, and the one where the option isn't given
--- of fibers, of refs or of deferreds
+-- ---- the ranges of the numbers that options take: the least, the greatest, and the one if the option isn't given
+-- the greatest number of fibers, of refs or of deferreds
 abbrev pub band_range : NumberRange
 band_range = record { least = 1; most = 1000; usual = 1000 }
 
--- the same of an exploration
+-- the same for `explore`, `sample` and `compare`
 abbrev pub few_range : NumberRange
 few_range = record { least = 1; most = 1000; usual = 16 }
 
--- of changes that a fiber makes of its own state
+-- the greatest number of changes that a fiber makes to its own cell
 abbrev pub count_range : NumberRange
 count_range = record { least = 1; most = 1099511627775; usual = 1099511627775 }
 
 abbrev pub workers_range : NumberRange
 workers_range = record { least = 1; most = 16; usual = 4 }
 
--- of moves that a turn has at most
+-- the greatest number of moves of a turn
 abbrev pub budget_range : NumberRange
 budget_range = record { least = 2; most = 10000; usual = 64 }
 
--- of moves that fiber 0 may make
+-- the greatest number of moves of fiber 0, and of another fiber counted with its parent's moves before it
 abbrev pub moves_range : NumberRange
 moves_range = record { least = 1; most = 1000000; usual = 100000 }
 
--- of worlds that an exploration keeps
+-- the greatest number of worlds that an exploration keeps
 abbrev pub worlds_range : NumberRange
 worlds_range = record { least = 1; most = 100000000; usual = 10000000 }
 
--- of worlds that are kept of a model that sets no bound of its own
+-- the greatest number of worlds that are kept of a model without a bound of its own
 abbrev pub model_worlds_range : NumberRange
 model_worlds_range = record { least = 1; most = 100000000; usual = 1000000 }
 
--- of models that are explored side by side
+-- the number of models that are explored side by side
 abbrev pub jobs_range : NumberRange
 jobs_range = record { least = 0; most = 64; usual = 0 }
 
--- before the unit of the bytes at which an exploration stops; the usual number is of bytes
+-- the number before the unit of the bytes at which an exploration stops; the usual number is in bytes
 abbrev pub memory_range : NumberRange
 memory_range = record { least = 1; most = 10000000000; usual = 4294967296 }
 
--- of seconds after which an exploration ends, or the searches of a model; the usual number has no use, since no option
--- means no such bound
+-- the seconds after which an exploration or the searches of a model end; without the option they have no bound, and the
+-- usual number is unused
 abbrev pub seconds_range : NumberRange
 seconds_range = record { least = 1; most = 1000000000; usual = 1000000000 }
 
--- of entries that the schedules of an exploration have, and those of a sample
+-- the greatest number of entries of a schedule in an exploration or a sample
 abbrev pub entries_range : NumberRange
 entries_range = record { least = 1; most = 1000000; usual = 10000 }
 
--- what the schedules of a sample are drawn by
+-- the seed of a sample's schedules
 abbrev pub seed_range : NumberRange
 seed_range = record { least = 0; most = 9223372036854775807; usual = 0 }
 
--- of schedules that a sample draws
+-- the number of schedules that a sample draws
 abbrev pub times_range : NumberRange
 times_range = record { least = 1; most = 1000000; usual = 1000 }
 
 -- ---- the options
--- an option that takes a whole number of this range
+-- an option that takes a whole number of `range`
 abbrev pub number_option : Text → NumberRange → Rule
 number_option id range = record (new_rule id) {
   long = Some id;
@@ -133,7 +133,7 @@ claim_option id = record (new_rule id) {
   action = Some Append;
 }
 
--- with the options for the limits of a run
+-- with the options for the limits on fibers, refs and deferreds, and on the changes that a fiber makes to its own cell
 abbrev pub with_limits : App → App
 with_limits app =
     with_rule (with_rule (with_rule (with_rule app
@@ -142,7 +142,7 @@ with_limits app =
     (number_option (codes "deferreds") band_range))
     (number_option (codes "count") count_range)
 
--- with the flags that ask for another form than a report
+-- with the flags of `replay` for a form other than a report
 abbrev pub with_forms : App → App
 with_forms app =
     with_rule (with_rule (with_rule app (flag (codes "timeline"))) (flag (codes "svg"))) (flag (codes "json"))
@@ -159,7 +159,7 @@ replay_command =
     with_rule (with_forms (with_limits (with_rule (new_app (codes "replay")) schedule_option)))
     (flag (codes "explain"))
 
--- with the flags that ask for another form of an exploration than a list
+-- with the flags of `explore` other than `--explain`
 abbrev pub with_explore_forms : App → App
 with_explore_forms app =
     with_rule (with_rule (with_rule (with_rule (with_rule app
@@ -177,7 +177,7 @@ explore_bounds =
     (number_option (codes "entries") entries_range))
     memory_option
 
--- without its flags
+-- `explore` without its flags and its options for claims and marks
 abbrev pub explore_options : App
 explore_options =
     with_rule (with_rule explore_bounds (number_option (codes "seconds") seconds_range)) want_option
@@ -188,14 +188,14 @@ with_claims app =
     with_rule (with_rule (with_rule app (claim_option (codes "always"))) (claim_option (codes "never")))
     (claim_option (codes "reach"))
 
--- with the options that say whether reports have marks, and of which fiber alone they are
+-- with the option for whether reports have marks, and the option for the only fiber that is reported
 abbrev pub with_marks : App → App
 with_marks app = with_rule (with_rule app (text_option (codes "marks"))) (text_option (codes "only"))
 
 abbrev pub explore_command : App
 explore_command = with_rule (with_explore_forms (with_marks (with_claims explore_options))) (flag (codes "explain"))
 
--- with the flags that ask for another form of a run than a report
+-- with the flags of `run` for a form other than a report
 abbrev pub with_run_forms : App → App
 with_run_forms app =
     with_rule (with_rule (with_rule app (flag (codes "record"))) (flag (codes "timeline"))) (flag (codes "json"))
@@ -211,7 +211,7 @@ run_options =
 abbrev pub run_command : App
 run_command = with_rule (with_run_forms run_options) (flag (codes "explain"))
 
--- `sample` with what its schedules are drawn by, and under which limits
+-- `sample` with its seed, its number of schedules, their entries, and the limits
 abbrev pub sample_bounds : App
 sample_bounds =
     with_limits (with_rule (with_rule (with_rule (new_app (codes "sample"))
@@ -226,7 +226,7 @@ sample_options = with_rule sample_bounds want_option
 abbrev pub sample_command : App
 sample_command = with_rule sample_options (flag (codes "json"))
 
--- `compare` with its files, and under which limits
+-- `compare` with its files and limits
 abbrev pub compare_files : App
 compare_files =
     with_limits (with_rule (with_rule (new_app (codes "compare"))
@@ -244,7 +244,7 @@ compare_options =
 abbrev pub compare_command : App
 compare_command = with_rule (with_rule compare_options (flag (codes "all"))) (flag (codes "json"))
 
--- `test` with its files, and which models of them
+-- `test` with its files, the filter of their models, and the files to which reports are written
 abbrev pub test_files : App
 test_files =
     with_rule (with_rule (with_rule (with_rule (new_app (codes "test")) files_argument)
@@ -252,7 +252,7 @@ test_files =
     (text_option (codes "junit")))
     (text_option (codes "html"))
 
--- `test` without its flags
+-- `test` without its flags and `--color`
 abbrev pub test_bounds : App
 test_bounds =
     with_rule (with_rule (with_rule (with_rule test_files
@@ -261,7 +261,7 @@ test_bounds =
     (number_option (codes "seconds") seconds_range))
     (number_option (codes "jobs") jobs_range)
 
--- with the flags that ask for another form of a test than a report
+-- with the flags of `test` for a form other than a report
 abbrev pub with_test_forms : App → App
 with_test_forms app =
     with_rule (with_rule (with_rule app (flag (codes "list"))) (flag (codes "json"))) (flag (codes "tap"))
@@ -272,11 +272,11 @@ test_command = with_rule (with_test_forms test_bounds) (text_option (codes "colo
 abbrev pub terms_command : App
 terms_command = with_rule (new_app (codes "terms")) (file_argument (codes "file"))
 
--- the command, which wants a subcommand, and tells its version
+-- the command without its subcommands: it requires one, and it has a version
 abbrev pub bare_program : App
 bare_program = on_top (λ s. record s { subcommand_required = true; has_version = true }) (new_app (codes "fiber_cli"))
 
--- with its nine subcommands
+-- the command with its nine subcommands
 abbrev pub program : App
 program =
     with_subcommand (with_subcommand (with_subcommand (with_subcommand (with_subcommand

@@ -14,7 +14,7 @@ use crate::requests::{bounds_of, limits_of};
 use clap::ArgMatches;
 use comparison_answers::{Basis, CompareOrder};
 
-// By what the options of `compare` say that ends are compared.
+// The basis of the comparison, by the options of `compare`.
 fn basis_of(compare: &ArgMatches<'_>) -> Basis
     ensures { SaysBasis (rows_of (found_of compare.now)) result }
 {
@@ -25,7 +25,7 @@ fn basis_of(compare: &ArgMatches<'_>) -> Basis
     }
 }
 
-// How the options of `compare` say that programs are compared.
+// The limits, bounds, basis and form of the comparison, by the options of `compare`.
 fn compare_order(compare: &ArgMatches<'_>) -> Option<CompareOrder>
     ensures said { IfSome result (SaysCompare (rows_of (found_of compare.now))) }
     ensures none { IfNone result ((order : CompareOrder) → SaysCompare (rows_of (found_of compare.now)) order → ⊥) }
@@ -40,7 +40,7 @@ fn compare_order(compare: &ArgMatches<'_>) -> Option<CompareOrder>
     })
 }
 
-/// The comparison that the options of `compare` say.
+/// The comparison that the options of `compare` ask for, or `None` if a value is wrong.
 pub(crate) fn comparing_of<'a>(compare: &ArgMatches<'a>) -> Option<Comparing<'a>>
     ensures said { IfSome result (SaysComparing (rows_of (found_of compare.now))) }
     ensures none { IfNone result ((said : Comparing) → SaysComparing (rows_of (found_of compare.now)) said → ⊥) }

@@ -1,4 +1,4 @@
-//! What the words of `compare` may be.
+//! The words that `compare` accepts.
 
 ghost use Rattle.std.specs.Prelude.{◌≡◌, false, IfOk};
 ghost use Rattle.clap.specs.Words.{app_of, rule_of};
@@ -11,7 +11,7 @@ use crate::words::{memory_option, new_command, number_option, with_flag, with_li
 use clap::{Arg, ArgAction, Command};
 use std::alloc::{AllocError, Global};
 
-/// The path of a file, which must be given.
+/// The path of a file. It must be given.
 pub(crate) fn file_argument<'a>(alloc: Global, name: &'a str, help: &'a str) -> Arg<'a>
     ensures rule { rule_of result ≡ file_argument name.entry.now }
     ensures local { result.global ≡ false }
@@ -23,7 +23,7 @@ pub(crate) fn file_argument<'a>(alloc: Global, name: &'a str, help: &'a str) -> 
         .action(ArgAction::Set)
 }
 
-// `compare` with its files, and under which limits.
+// `compare` with its files and limits.
 fn compare_files<'a>(alloc: Global) -> Result<Command<'a>, AllocError>
     ensures shape { IfOk result (λ c. app_of c ≡ compare_files) }
     ensures local { IfOk result (λ c. (out-Command c).has_globals ≡ false) }
@@ -45,7 +45,7 @@ fn compare_options<'a>(alloc: Global) -> Result<Command<'a>, AllocError>
     command.arg(memory_option(alloc))
 }
 
-/// `compare`, with all that its words may be.
+/// `compare` with all its arguments and options.
 pub(crate) fn compare_command<'a>(alloc: Global) -> Result<Command<'a>, AllocError>
     ensures shape { IfOk result (λ c. app_of c ≡ compare_command) }
     ensures local { IfOk result (λ c. (out-Command c).has_globals ≡ false) }

@@ -1,4 +1,4 @@
-//! What a comparison is told.
+//! The request to compare two programs.
 
 use comparison_answers::CompareOrder;
 
@@ -9,6 +9,6 @@ pub struct Comparing<'a> {
     pub first: &'a str,
     /// The path of the second file.
     pub second: &'a str,
-    /// Under which limits, how far, by what, and in what form.
+    /// The limits, the bounds, the basis, and the form of the answer.
     pub order: CompareOrder,
 }

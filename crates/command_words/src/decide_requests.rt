@@ -12,7 +12,8 @@ use crate::requests::{explore_order, seconds_of};
 use clap::ArgMatches;
 use std::alloc::{AllocError, Global};
 
-/// The decision on fair schedules that the options of `explore` say, if they ask for it.
+/// The decision on fair schedules that the options of `explore` ask for, or `None` if they conflict or a value is
+/// wrong.
 pub(crate) fn deciding_of(
     alloc: Global,
     explore: &ArgMatches<'_>,

@@ -6,11 +6,11 @@ use exploration_text::ExploreOrder;
 /// To explore the text's program, and to decide whether every fair schedule of it ends.
 #[derive(Drop)]
 pub struct Deciding {
-    /// What is explored, how far, and what is wanted.
+    /// The limits, the bounds and the wanted outcomes.
     pub order: ExploreOrder,
     /// Whether the answer is JSON.
     pub json: bool,
-    /// After how many seconds the search ends, if it does.
+    /// The seconds after which the search stops; `None` means no bound.
     pub seconds: Option<u64>,
     /// What is written beside the answer.
     pub beside: Beside,

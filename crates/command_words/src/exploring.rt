@@ -1,15 +1,15 @@
-//! What an exploration is told.
+//! The request to explore a program.
 
 use exploration_text::ExploreOrder;
 
-/// In what form it is told what can come of a program.
+/// The form of the answer to an exploration.
 #[derive(Clone, Copy)]
 pub enum ExploreForm {
-    /// As a list of its reports and faults.
+    /// A list of the reports and faults.
     Report,
-    /// As that list, with a timeline behind each of them.
+    /// That list, with a timeline after each report and each fault.
     Timeline,
-    /// As JSON.
+    /// JSON.
     Json,
 }
 
@@ -18,20 +18,20 @@ pub enum ExploreForm {
 pub enum Beside {
     /// Nothing.
     Nothing,
-    /// How far the search has come, while it goes.
+    /// The progress of the search, while it runs.
     Progress,
-    /// The reasons of what isn't plain in the answer.
+    /// The reasons that `--explain` asks for.
     Reasons,
 }
 
 /// To explore every schedule of the text's program.
 #[derive(Drop)]
 pub struct Exploring {
-    /// What is explored, how far, and what is wanted.
+    /// The limits, the bounds and the wanted outcomes.
     pub order: ExploreOrder,
-    /// In what form it is told.
+    /// The form of the answer.
     pub form: ExploreForm,
-    /// After how many seconds the search ends, if it does.
+    /// The seconds after which the search stops; `None` means no bound.
     pub seconds: Option<u64>,
     /// What is written beside the answer.
     pub beside: Beside,

@@ -1,4 +1,4 @@
-//! The flags that stand in the words, and the forms that they say.
+//! The flags in the words, and the forms that they ask for.
 
 ghost use Rattle.std.specs.Prelude.{◌≡◌, Bool, codes, IfSome, IfNone, false, option_map, true};
 ghost use Rattle.clap.specs.Words.{first_of, found_of, rows_of};
@@ -13,7 +13,7 @@ use crate::replay::AnswerForm;
 use crate::running::RunForm;
 use clap::ArgMatches;
 
-/// The text of an option, where it is given.
+/// The text of an option, or `None` if the option isn't given.
 pub fn text_of<'a>(matches: &ArgMatches<'a>, name: &str) -> Option<&'a str>
     ensures { option_map (λ s. s.now) result ≡ first_of name.now (rows_of (found_of matches.now)) }
 {
@@ -32,7 +32,7 @@ pub fn given(options: &ArgMatches<'_>, name: &str) -> bool
     }
 }
 
-/// The form that the options of `replay` say, where they say no two.
+/// The form that the options of `replay` ask for, or `None` if they ask for two.
 #[tactic(auto, using(crate::proofs::FormLemmas::timeline_with_svg, crate::proofs::FormLemmas::timeline_with_json, crate::proofs::FormLemmas::svg_with_json))]
 pub fn replay_form(options: &ArgMatches<'_>) -> Option<AnswerForm>
     ensures said { IfSome result (SaysForm (rows_of (found_of options.now))) }
@@ -60,7 +60,7 @@ pub fn replay_form(options: &ArgMatches<'_>) -> Option<AnswerForm>
     }
 }
 
-/// The form that the options of `explore` say, where they say no two.
+/// The form that the options of `explore` ask for, or `None` if they ask for two.
 #[tactic(auto, using(crate::proofs::FormLemmas::explored_timeline_with_json))]
 pub fn explore_form(options: &ArgMatches<'_>) -> Option<ExploreForm>
     ensures said { IfSome result (SaysExploreForm (rows_of (found_of options.now))) }
@@ -81,7 +81,7 @@ pub fn explore_form(options: &ArgMatches<'_>) -> Option<ExploreForm>
     }
 }
 
-/// What the options of `explore` say is written beside the answer, where they say no two things.
+/// What is written beside the answer, by the options of `explore`, or `None` if they ask for two things.
 #[tactic(auto, using(crate::proofs::FormLemmas::progress_with_reasons))]
 pub fn beside(options: &ArgMatches<'_>) -> Option<Beside>
     ensures said { IfSome result (SaysBeside (rows_of (found_of options.now))) }
@@ -102,7 +102,7 @@ pub fn beside(options: &ArgMatches<'_>) -> Option<Beside>
     }
 }
 
-/// The form that the options of `run` say, and whether reasons are told, where these go together.
+/// The form that the options of `run` ask for, and whether reasons are written. `None` if the flags conflict.
 #[tactic(auto, using(crate::proofs::FormLemmas::record_with_json, crate::proofs::FormLemmas::record_with_reasons, crate::proofs::FormLemmas::timeline_without_record, crate::proofs::FormLemmas::json_with_reasons))]
 pub fn run_form(options: &ArgMatches<'_>) -> Option<(RunForm, bool)>
     ensures said { IfSome result (λ said. SaysRunForm (rows_of (found_of options.now)) said.0 said.1) }

@@ -1,17 +1,17 @@
-//! The help: of the program, of each subcommand and of each option. No line of it is longer than 100 columns.
+//! The help of the program, of each subcommand and of each option. No line is longer than 100 columns.
 
 /// The help of a command.
 #[derive(Clone, Copy)]
 pub struct CommandHelp<'a> {
     /// What the command does, in one line.
     pub about: &'a str,
-    /// The usage line of a command that reads a text from standard input. The others have the one that `clap` makes.
+    /// The usage line of a command that reads a text from standard input. With `None`, `clap` makes the line.
     pub usage: Option<&'a str>,
-    /// The text behind the options.
+    /// The text after the options.
     pub after: &'a str,
 }
 
-/// The program itself, with the legend of the marks.
+/// The help of the program itself, with the legend of the marks.
 pub const PROGRAM: CommandHelp<'static> = CommandHelp {
     about: "Runs effect programs on fibers",
     usage: None,
@@ -267,14 +267,14 @@ pub struct LimitsHelp<'a> {
     pub deferreds: &'a str,
 }
 
-/// Of `replay` and of `run`.
+/// The help of the limits of `replay` and of `run`.
 pub const MANY: LimitsHelp<'static> = LimitsHelp {
     fibers: "The greatest number of fibers, 1 to 1000 [default: 1000]",
     refs: "The greatest number of refs, 1 to 1000 [default: 1000]",
     deferreds: "The greatest number of deferreds, 1 to 1000 [default: 1000]",
 };
 
-/// Of `explore`, of `sample` and of `compare`.
+/// The help of the limits of `explore`, of `sample` and of `compare`.
 pub const FEW: LimitsHelp<'static> = LimitsHelp {
     fibers: "The greatest number of fibers, 1 to 1000 [default: 16]",
     refs: "The greatest number of refs, 1 to 1000 [default: 16]",

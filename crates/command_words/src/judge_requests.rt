@@ -13,7 +13,7 @@ use crate::unmark_requests::has_text;
 use clap::ArgMatches;
 use std::alloc::{AllocError, Global};
 
-/// Whether the options of `explore` have claims.
+/// Whether the options of `explore` have a claim.
 pub(crate) fn has_claims(explore: &ArgMatches<'_>) -> bool
     ensures claims { result ≡ true → HasClaims (rows_of (found_of explore.now)) }
     ensures none { result ≡ false → HasNoClaims (rows_of (found_of explore.now)) }
@@ -21,7 +21,7 @@ pub(crate) fn has_claims(explore: &ArgMatches<'_>) -> bool
     has_texts(explore, "always") || has_texts(explore, "never") || has_texts(explore, "reach")
 }
 
-// Whether an option is given that can be given several times.
+// Whether an option that can be given several times is given.
 fn has_texts(options: &ArgMatches<'_>, name: &str) -> bool
     ensures some { result ≡ true → texts_said name.now (rows_of (found_of options.now)) ≢ [] }
     ensures none { result ≡ false → texts_said name.now (rows_of (found_of options.now)) ≡ [] }
@@ -32,7 +32,7 @@ fn has_texts(options: &ArgMatches<'_>, name: &str) -> bool
     }
 }
 
-/// The verdicts that the options of `explore` ask for, if they go together.
+/// The verdicts that the options of `explore` ask for, or `None` if they conflict or a value is wrong.
 pub(crate) fn judging_of<'a>(
     alloc: Global,
     explore: &ArgMatches<'a>,
@@ -60,7 +60,7 @@ pub(crate) fn judging_of<'a>(
     }))
 }
 
-// Whether an option is given that claims don't go with.
+// Whether an option is given that conflicts with claims.
 fn is_with_others(explore: &ArgMatches<'_>) -> bool
     ensures others { result ≡ true → AreAlone (rows_of (found_of explore.now)) → ⊥ }
     ensures alone { result ≡ false → AreAlone (rows_of (found_of explore.now)) }

@@ -3,17 +3,17 @@
 use crate::exploring::ExploreForm;
 use exploration_text::ExploreOrder;
 
-/// To explore the text's program, and to judge claims of each moment.
+/// To explore every schedule of the text's program, and to judge claims on its moments.
 #[derive(Drop)]
 pub struct Judging<'a> {
-    /// What is explored, how far, and what is wanted.
+    /// The limits, the bounds and the wanted outcomes.
     pub order: ExploreOrder,
-    /// In what form it is told.
+    /// The form of the answer.
     pub form: ExploreForm,
-    /// The texts of the claims on every moment.
+    /// The texts of the claims that must hold at every moment.
     pub always: Vec<&'a str>,
-    /// The texts of the claims on no moment.
+    /// The texts of the claims that must hold at no moment.
     pub never: Vec<&'a str>,
-    /// The texts of the claims on some moment.
+    /// The texts of the claims that must hold at some moment.
     pub reach: Vec<&'a str>,
 }

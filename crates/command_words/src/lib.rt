@@ -1,9 +1,9 @@
-//! The words of a command line: which words there are, the request that given words make, and what is said of words
-//! that make none.
+//! The words of a command line: which words are accepted, which request they make, and the message for words that make
+//! none.
 //!
 //! `clap` reads the words. A request is a value: the order to obey, its form and its limits. Nothing here reads a text
-//! or runs a program. The crate promises that the request is the one that the words say, each option with its own
-//! number or its usual one.
+//! or runs a program. The crate promises that the request is the one that the words ask for, and that each option has
+//! the value given in the words, or its usual one.
 #![tactic(auto)]
 
 mod checking;

@@ -7,7 +7,7 @@ ghost use Rattle.command_words.specs.Memory.{SaysMemory, number_in, unit_of};
 use crate::ranges::MEMORY;
 use crate::requests::number;
 
-/// The bytes that a text says: those of its number, times its unit.
+/// The number of bytes that a text spells: its number times its unit.
 #[tactic(auto, using(crate::proofs::UnitLemmas::small_product))]
 pub(crate) fn bytes_of(text: &str) -> Option<u64>
     ensures spelled { IfSome result (SaysMemory (Some text.now)) }
@@ -18,7 +18,7 @@ pub(crate) fn bytes_of(text: &str) -> Option<u64>
     Some(number * unit)
 }
 
-// The number in a text, and the unit behind it.
+// The number in a text, and the bytes of the unit after it, 1 without a unit.
 fn parted(text: &str) -> (&str, u64)
     ensures number { result.0.now ≡ number_in text.now }
     ensures unit { result.1 ≡ unit_of text.now }
@@ -36,7 +36,7 @@ fn parted(text: &str) -> (&str, u64)
     (text, 1)
 }
 
-// What is before this letter, where the text ends in it. The letter is an ASCII one.
+// The text without its last letter, if that is `letter`, which is ASCII.
 fn before(text: &str, letter: char) -> Option<&str>
     requires { letter < 128 }
     ensures { MatchOption result ((front : List ℕ) → text.now ≢ front ++ (letter ∷ []))

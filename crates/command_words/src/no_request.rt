@@ -1,4 +1,4 @@
-//! Why words that `clap` takes give no request.
+//! Why words that `clap` accepts give no request.
 
 use crate::flags::{given, text_of};
 use crate::judge_requests::has_claims;
@@ -91,8 +91,7 @@ const CONFLICTS: &[Conflict] = &[
     },
 ];
 
-/// Why words that `clap` takes give no request: two flags that cannot be used together, one that needs another, or a
-/// value that is wrong.
+/// Why words that `clap` accepts give no request: two flags conflict, a flag needs another, or a value is wrong.
 pub fn no_request_reason(alloc: Global, matches: &ArgMatches<'_>) -> Result<String, AllocError> {
     let Some((subcommand, options)) = matches.subcommand() else {
         return String::from_str(alloc, "a subcommand is needed");
@@ -130,7 +129,7 @@ pub fn no_request_reason(alloc: Global, matches: &ArgMatches<'_>) -> Result<Stri
     memory_reason(alloc, options)
 }
 
-// The first two flags that cannot be used together and are given.
+// The first conflict whose two flags are given.
 fn first_conflict(subcommand: &str, options: &ArgMatches<'_>) -> Option<Conflict> {
     for conflict in CONFLICTS {
         if conflict.subcommand == subcommand
@@ -143,7 +142,7 @@ fn first_conflict(subcommand: &str, options: &ArgMatches<'_>) -> Option<Conflict
     None
 }
 
-// Why claims cannot be used with other options that are given, if they cannot.
+// Why claims conflict with another given option, or `None` if they don't.
 fn claims_conflict(
     alloc: Global,
     subcommand: &str,
@@ -163,7 +162,7 @@ fn claims_conflict(
     Ok(None)
 }
 
-// That claims cannot be used with an option.
+// The reason that claims cannot be used with an option.
 fn claims_reason(alloc: Global, other: &str) -> Result<String, AllocError> {
     let mut text = String::from_str(
         alloc,
@@ -174,7 +173,7 @@ fn claims_reason(alloc: Global, other: &str) -> Result<String, AllocError> {
     Ok(text)
 }
 
-// Why the options that say whether reports have marks give no request, if they don't.
+// Why `--marks` and `--only` give no request, or `None` if they give one.
 fn marks_reason(alloc: Global, explore: &ArgMatches<'_>) -> Result<Option<String>, AllocError> {
     let marks = text_of(explore, "marks").unwrap_or("all");
     match marks_said(marks) {
@@ -187,7 +186,7 @@ fn marks_reason(alloc: Global, explore: &ArgMatches<'_>) -> Result<Option<String
     }
 }
 
-// Why the options of an exploration with marks give no request, if one of them needs `--marks none`.
+// The reason if `--only` is given without `--marks none`.
 fn only_reason(alloc: Global, explore: &ArgMatches<'_>) -> Result<Option<String>, AllocError> {
     if text_of(explore, "only").is_none() {
         return Ok(None);
@@ -196,7 +195,7 @@ fn only_reason(alloc: Global, explore: &ArgMatches<'_>) -> Result<Option<String>
     Ok(Some(reason))
 }
 
-// Why the options of an exploration without marks give no request, if they don't.
+// Why the options of an exploration without marks give no request, or `None` if they give one.
 fn unmarked_reason(alloc: Global, explore: &ArgMatches<'_>) -> Result<Option<String>, AllocError> {
     if has_claims(explore) {
         return Ok(Some(claims_reason(alloc, "marks none")?));
@@ -220,12 +219,12 @@ fn unmarked_reason(alloc: Global, explore: &ArgMatches<'_>) -> Result<Option<Str
     }
 }
 
-// That two flags cannot be used together.
+// The reason that two flags cannot be used together.
 fn conflict_reason(alloc: Global, conflict: Conflict) -> Result<String, AllocError> {
     reason_of_two(alloc, conflict.first, conflict.second)
 }
 
-// That one argument cannot be used with another.
+// The reason that one argument cannot be used with another.
 fn reason_of_two(alloc: Global, first: &str, second: &str) -> Result<String, AllocError> {
     let mut text = String::from_str(alloc, "the argument '--")?;
     text.push_str(first)?;
@@ -235,7 +234,7 @@ fn reason_of_two(alloc: Global, first: &str, second: &str) -> Result<String, All
     Ok(text)
 }
 
-// The first wanted outcome that is none.
+// The first text of `--want` that spells no outcome.
 fn wrong_want<'a>(options: &ArgMatches<'a>) -> Option<&'a str> {
     let texts = options.get_strs("want")?;
     for text in texts {
@@ -246,7 +245,7 @@ fn wrong_want<'a>(options: &ArgMatches<'a>) -> Option<&'a str> {
     None
 }
 
-// The text of `--color`, where it says nothing of colours.
+// The text of `--color`, if it isn't one of the three that are accepted.
 fn wrong_color<'a>(options: &ArgMatches<'a>) -> Option<&'a str> {
     let text = text_of(options, "color")?;
     if coloring(text).is_none() {
@@ -256,7 +255,7 @@ fn wrong_color<'a>(options: &ArgMatches<'a>) -> Option<&'a str> {
     }
 }
 
-// That a number of bytes is none.
+// The reason that the text of `--memory` is wrong, or else that the arguments ask for nothing.
 fn memory_reason(alloc: Global, options: &ArgMatches<'_>) -> Result<String, AllocError> {
     let expected = "expected 1 to 10000000000, and behind it nothing, k, M or G";
     match text_of(options, "memory") {
@@ -267,7 +266,7 @@ fn memory_reason(alloc: Global, options: &ArgMatches<'_>) -> Result<String, Allo
     }
 }
 
-/// That the value of an option is wrong, and what was expected.
+/// The reason that the value of an option is wrong, with what was expected.
 pub fn value_reason(
     alloc: Global,
     value: &str,

@@ -1,32 +1,32 @@
-//! What a replay is told.
+//! The request to replay a program.
 
 ghost use Rattle.cell_registry.specs.Cells.{AreLimits};
 
 use outcome_trace::Limits;
 
-/// In what form it is told what a program came to.
+/// The form of the answer to a replay.
 #[derive(Clone, Copy)]
 pub enum AnswerForm {
-    /// As a report.
+    /// A report.
     Report,
-    /// As a report with a timeline behind it.
+    /// A report, then a timeline.
     Timeline,
-    /// As a picture.
+    /// A picture in SVG.
     Picture,
-    /// As JSON.
+    /// JSON.
     Json,
 }
 
-/// To run the text's program under a schedule, and tell what each fiber came to.
+/// To run the text's program under a schedule, and to print its report.
 #[derive(Clone, Copy)]
 pub struct Replay<'a> {
-    /// The schedule's text, or `-`, where it is the first line of the input.
+    /// The schedule's text, or `-` if the schedule is the first line of the input.
     pub schedule: &'a str,
-    /// In what form it is told.
+    /// The form of the answer.
     pub form: AnswerForm,
-    /// Whether reasons are written.
+    /// Whether reasons are written to standard error.
     pub explain: bool,
-    /// How many fibers, refs and deferreds there may be, and how often a fiber may change its own state.
+    /// The limits on fibers, refs and deferreds, and on the changes that a fiber makes to its own cell.
     pub limits: Limits,
     pub ghost ranges: { AreLimits limits },
 }

@@ -1,4 +1,4 @@
-//! The request that the words of a command line give.
+//! The request that the words of a command line make.
 
 ghost use Rattle.std.specs.Prelude.{◌≡◌, ◌≢◌, ◌≤◌, ◌<◌, ℕ, codes, IfOk, IfSome, IfNone, List, Option, Some, false};
 ghost use Rattle.std.specs.Prelude.{map, true};
@@ -55,25 +55,25 @@ use steal_pool::Options;
 /// What the words of a command line ask for.
 #[derive(Drop)]
 pub enum Request<'a> {
-    /// To tell whether the text is a program.
+    /// To check whether the text is a program.
     Check(Checking),
     /// To print the expansion of the text's program.
     Show(Showing),
-    /// To run the text's program under a schedule, and tell what each fiber came to.
+    /// To run the text's program under a schedule, and to print its report.
     Replay(Replay<'a>),
     /// To explore every schedule of the text's program.
     Explore(Exploring),
-    /// To look for the first finding of the text's program.
+    /// To search for the first finding of the text's program.
     Seek(Seeking),
-    /// To explore every schedule of the text's program, and to decide whether every fair one ends.
+    /// To explore every schedule of the text's program, and to decide whether every fair schedule ends.
     Decide(Deciding),
-    /// To explore every schedule of the text's program, and to judge claims of each moment.
+    /// To explore every schedule of the text's program, and to judge claims on its moments.
     Judge(Judging<'a>),
     /// To explore every schedule of the text's program for the outcomes of its fibers, without their marks.
     Unmark(Unmarking),
-    /// To run the text's program on workers, and tell what each fiber came to.
+    /// To run the text's program on workers, and to print its report.
     Run(Running),
-    /// To tell what schedules of the text's program come to that are drawn at random.
+    /// To draw schedules of the text's program at random, and to count the reports and faults.
     Sample(Sampling),
     /// To compare the programs of two files.
     Compare(Comparing<'a>),
@@ -83,7 +83,7 @@ pub enum Request<'a> {
     Terms(Translating<'a>),
 }
 
-/// The number of the range that a text spells.
+/// The number that a text spells, if it is in `range`.
 pub(crate) fn number(text: &str, range: NumberRange) -> Option<u64>
     ensures spelled { IfSome result (SaysNumber range (Some text.now)) }
     ensures none { IfNone result (IsNumberOf range text.now → ⊥) }
@@ -94,7 +94,7 @@ pub(crate) fn number(text: &str, range: NumberRange) -> Option<u64>
     }
 }
 
-/// The number that an option says, which is the usual one where the option isn't given.
+/// The number of an option, or `range.usual` if the option isn't given. `None` if its text is no number of `range`.
 pub(crate) fn number_of(matches: &ArgMatches<'_>, name: &str, range: NumberRange) -> Option<u64>
     requires { (range.least ≤ range.usual) × (range.usual ≤ range.most) }
     ensures said { IfSome result (SaysNumber range (first_of name.now (rows_of (found_of matches.now)))) }
@@ -109,7 +109,7 @@ pub(crate) fn number_of(matches: &ArgMatches<'_>, name: &str, range: NumberRange
     }
 }
 
-/// The limits that the options of a subcommand say, with this range of fibers, of refs and of deferreds.
+/// The limits that the options of a subcommand give, with `band` as the range of fibers, of refs and of deferreds.
 pub(crate) fn limits_of(options: &ArgMatches<'_>, band: NumberRange) -> Option<Limits>
     requires least { band.least ≡ 1 }
     requires most { band.most ≡ 1000 }
@@ -130,7 +130,7 @@ pub(crate) fn limits_of(options: &ArgMatches<'_>, band: NumberRange) -> Option<L
     })
 }
 
-// How the options of `run` say that the run goes.
+// The workers, limits, budget and moves that the options of `run` give.
 fn run_options(run: &ArgMatches<'_>) -> Option<Options>
     ensures said { IfSome result (SaysRun (rows_of (found_of run.now))) }
     ensures none { IfNone result ((options : Options) → SaysRun (rows_of (found_of run.now)) options → ⊥) }
@@ -152,7 +152,7 @@ fn run_options(run: &ArgMatches<'_>) -> Option<Options>
     })
 }
 
-// The run that the options of `run` say.
+// The run that the options of `run` ask for.
 fn running_of(run: &ArgMatches<'_>) -> Option<Running>
     ensures said { IfSome result (SaysRunning (rows_of (found_of run.now))) }
     ensures none { IfNone result ((said : Running) → SaysRunning (rows_of (found_of run.now)) said → ⊥) }
@@ -166,7 +166,7 @@ fn running_of(run: &ArgMatches<'_>) -> Option<Running>
     })
 }
 
-// The replay that the options of `replay` say.
+// The replay that the options of `replay` ask for.
 fn replay_of<'a>(replay: &ArgMatches<'a>) -> Option<Replay<'a>>
     ensures said { IfSome result (SaysReplay (rows_of (found_of replay.now))) }
     ensures none { IfNone result ((said : Replay) → SaysReplay (rows_of (found_of replay.now)) said → ⊥) }
@@ -182,7 +182,7 @@ fn replay_of<'a>(replay: &ArgMatches<'a>) -> Option<Replay<'a>>
     })
 }
 
-/// The bytes at which the options of a subcommand say that the search stops.
+/// The bytes at which a search stops, by the options of a subcommand.
 pub(crate) fn memory_of(explore: &ArgMatches<'_>) -> Option<u64>
     ensures said { IfSome result (SaysMemory (first_of (codes "memory") (rows_of (found_of explore.now)))) }
     ensures none { IfNone result ((n : ℕ) →
@@ -194,7 +194,7 @@ pub(crate) fn memory_of(explore: &ArgMatches<'_>) -> Option<u64>
     }
 }
 
-/// The seconds after which the options of `explore` or of `test` say that a search ends, if they say so.
+/// The seconds after which a search ends, by the options of `explore` or of `test`. `Some(None)` means no bound.
 pub(crate) fn seconds_of(explore: &ArgMatches<'_>) -> Option<Option<u64>>
     ensures said { IfSome result (SaysSeconds (first_of (codes "seconds") (rows_of (found_of explore.now)))) }
     ensures none { IfNone result ((seconds : Option ℕ) →
@@ -206,7 +206,7 @@ pub(crate) fn seconds_of(explore: &ArgMatches<'_>) -> Option<Option<u64>>
     }
 }
 
-/// How far the options of `explore` or of `compare` say that the search goes.
+/// The bounds of a search, by the options of `explore` or of `compare`.
 pub(crate) fn bounds_of(explore: &ArgMatches<'_>) -> Option<Bounds>
     ensures said { IfSome result (λ b. SaysBounds (rows_of (found_of explore.now)) b.worlds b.entries b.memory) }
     ensures none { IfNone result ((worlds : ℕ) (entries : ℕ) (memory : ℕ) →
@@ -223,7 +223,7 @@ pub(crate) fn bounds_of(explore: &ArgMatches<'_>) -> Option<Bounds>
     })
 }
 
-// The outcomes that texts spell, where each spells one.
+// The outcomes that `texts` spell, or `None` if one of the texts spells none.
 fn wants_of(alloc: Global, texts: &[&str]) -> Result<Option<Vec<Want>>, AllocError>
     ensures said { IfOk result (λ found. IfSome found (λ wants. AreWants (map (λ s. s.now) texts.now) wants.items)) }
     ensures none { IfOk result (λ found. IfNone found ((wants : List Want) →
@@ -240,7 +240,7 @@ fn wants_of(alloc: Global, texts: &[&str]) -> Result<Option<Vec<Want>>, AllocErr
     Ok(Some(wants))
 }
 
-// The outcomes that the options of `explore` or of `sample` say are wanted, where each text spells one.
+// The wanted outcomes, by the options of `explore` or of `sample`, or `None` if one of the texts spells none.
 fn wants_said(alloc: Global, explore: &ArgMatches<'_>) -> Result<Option<Vec<Want>>, AllocError>
     ensures said { IfOk result (λ found. IfSome found (λ wants.
         AreWants (texts_said (codes "want") (rows_of (found_of explore.now))) wants.items)) }
@@ -253,7 +253,7 @@ fn wants_said(alloc: Global, explore: &ArgMatches<'_>) -> Result<Option<Vec<Want
     }
 }
 
-/// What the options of `explore` say that the text is explored under.
+/// The limits, bounds and wanted outcomes that the options of `explore` give.
 pub(crate) fn explore_order(
     alloc: Global,
     explore: &ArgMatches<'_>,
@@ -278,7 +278,7 @@ pub(crate) fn explore_order(
     }))
 }
 
-// The exploration that the options of `explore` say.
+// The exploration that the options of `explore` ask for.
 fn exploring_of(alloc: Global, explore: &ArgMatches<'_>) -> Result<Option<Exploring>, AllocError>
     requires { HasNoClaims (rows_of (found_of explore.now)) }
     ensures said { IfOk result (λ found. IfSome found (SaysExploring (rows_of (found_of explore.now)))) }
@@ -305,7 +305,7 @@ fn exploring_of(alloc: Global, explore: &ArgMatches<'_>) -> Result<Option<Explor
     }
 }
 
-// What the options of `sample` say that schedules are drawn by, and how many, under which limits, and what is wanted.
+// The seed, the number of schedules, their entries, the limits and the wanted outcomes, by the options of `sample`.
 fn sample_order(alloc: Global, sample: &ArgMatches<'_>) -> Result<Option<SampleOrder>, AllocError>
     ensures said { IfOk result (λ found. IfSome found (SaysSample (rows_of (found_of sample.now)))) }
     ensures none { IfOk result (λ found. IfNone found ((order : SampleOrder) →
@@ -335,7 +335,7 @@ fn sample_order(alloc: Global, sample: &ArgMatches<'_>) -> Result<Option<SampleO
     }))
 }
 
-// The sample that the options of `sample` say.
+// The sample that the options of `sample` ask for.
 fn sampling_of(alloc: Global, sample: &ArgMatches<'_>) -> Result<Option<Sampling>, AllocError>
     ensures said { IfOk result (λ found. IfSome found (SaysSampling (rows_of (found_of sample.now)))) }
     ensures none { IfOk result (λ found. IfNone found ((said : Sampling) →
@@ -401,7 +401,7 @@ fn explore_request<'a>(
     }
 }
 
-// The request of `explore` whose options say that reports have no marks.
+// The request of `explore` for reports without marks.
 fn unmarked_request<'a>(
     alloc: Global,
     options: &ArgMatches<'a>,
@@ -415,7 +415,7 @@ fn unmarked_request<'a>(
     }
 }
 
-// The request of `explore` whose options say that reports have marks.
+// The request of `explore` for reports with marks.
 fn whole_request<'a>(
     alloc: Global,
     options: &ArgMatches<'a>,
@@ -429,7 +429,7 @@ fn whole_request<'a>(
     marked_request(alloc, options)
 }
 
-// The same, where the options name no fiber as the only one.
+// The request of `explore` for reports with marks, without `--only`.
 fn marked_request<'a>(
     alloc: Global,
     options: &ArgMatches<'a>,
@@ -487,7 +487,7 @@ fn test_request<'a>(
     }
 }
 
-/// The request that the words give. `AllocError` where memory ran out.
+/// Returns the request that the words make, or `None` if they make none. `AllocError` if memory ran out.
 pub fn request_of<'a>(
     alloc: Global,
     matches: &ArgMatches<'a>,

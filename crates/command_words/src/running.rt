@@ -1,4 +1,4 @@
-//! What a run on workers is told.
+//! The request to run a program on workers.
 
 ghost use Rattle.std.specs.Prelude.{◌≡◌, ◌<◌};
 ghost use Rattle.cell_registry.specs.Cells.{AreLimits};
@@ -7,27 +7,27 @@ ghost use Rattle.steal_pool.specs.Runs.{limits_of};
 use outcome_trace::Limits;
 use steal_pool::Options;
 
-/// In what form it is told what a program came to on workers.
+/// The form of the answer to a run on workers.
 #[derive(Clone, Copy)]
 pub enum RunForm {
-    /// As a report.
+    /// A report.
     Report,
-    /// As a report with the line of a schedule behind it.
+    /// A report, then the line of a schedule.
     Record,
-    /// As a report with the line of a schedule and a timeline behind it.
+    /// A report, then the line of a schedule and a timeline.
     Timeline,
-    /// As JSON.
+    /// JSON.
     Json,
 }
 
-/// To run the text's program on workers, and tell what each fiber came to.
+/// To run the text's program on workers, and to print its report.
 #[derive(Clone, Copy)]
 pub struct Running {
-    /// How the run goes.
+    /// The workers, limits, budget and moves of the run.
     pub options: Options,
-    /// In what form it is told.
+    /// The form of the answer.
     pub form: RunForm,
-    /// Whether reasons are written; only beside a report.
+    /// Whether reasons are written to standard error. Only the form `Report` has reasons.
     pub explain: bool,
     pub ghost ranges: { AreLimits (limits_of options) },
     pub ghost room: { 1 < options.budget },

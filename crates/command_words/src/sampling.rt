@@ -1,11 +1,11 @@
-//! What a sample is told.
+//! The request to sample a program.
 
 use exploration_text::SampleOrder;
 
-/// To tell what schedules of the text's program come to that are drawn at random.
+/// To draw schedules of the text's program at random, and to count the reports and faults.
 #[derive(Drop)]
 pub struct Sampling {
-    /// What is sampled, by which seed, how often and how far.
+    /// The seed, the number of schedules, their entries, the limits and the wanted outcomes.
     pub order: SampleOrder,
     /// Whether the answer is JSON.
     pub json: bool,

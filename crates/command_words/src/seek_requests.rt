@@ -12,7 +12,8 @@ use crate::seeking::Seeking;
 use clap::ArgMatches;
 use std::alloc::{AllocError, Global};
 
-/// The search for the first finding that the options of `explore` say, where they ask for it.
+/// The search for the first finding that the options of `explore` ask for, or `None` if they conflict or a value is
+/// wrong.
 pub(crate) fn seeking_of(
     alloc: Global,
     explore: &ArgMatches<'_>,

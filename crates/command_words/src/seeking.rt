@@ -1,16 +1,16 @@
-//! The request to look for the first finding.
+//! The request to search for the first finding.
 
 use crate::exploring::Beside;
 use exploration_text::ExploreOrder;
 
-/// To look for the first fault, or the first outcome that is not wanted, of the text's program.
+/// To search the text's program for its first finding: a fault, or an outcome of fiber 0 that is not wanted.
 #[derive(Drop)]
 pub struct Seeking {
-    /// What is explored, how far, and what is wanted.
+    /// The limits, the bounds and the wanted outcomes.
     pub order: ExploreOrder,
     /// Whether the answer is JSON.
     pub json: bool,
-    /// After how many seconds the search ends, if it does.
+    /// The seconds after which the search stops; `None` means no bound.
     pub seconds: Option<u64>,
     /// What is written beside the answer.
     pub beside: Beside,

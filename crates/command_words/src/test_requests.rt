@@ -16,7 +16,7 @@ use crate::testing::{Coloring, TestForm, Testing, Translating};
 use clap::ArgMatches;
 use std::alloc::{AllocError, Global};
 
-// The form that the options of `test` say, where they say no two.
+// The form that the options of `test` ask for, or `None` if they ask for two.
 #[tactic(auto, using(crate::proofs::TestLemmas::list_with_json, crate::proofs::TestLemmas::list_with_tap, crate::proofs::TestLemmas::json_with_tap))]
 fn test_form(test: &ArgMatches<'_>) -> Option<TestForm>
     ensures said { IfSome result (SaysTestForm (rows_of (found_of test.now))) }
@@ -40,7 +40,7 @@ fn test_form(test: &ArgMatches<'_>) -> Option<TestForm>
     }
 }
 
-// These texts once more.
+// A copy of `texts`.
 fn copied<'a>(alloc: Global, texts: &[&'a str]) -> Result<Vec<&'a str>, AllocError>
     ensures { IfOk result (λ copy. map (λ s. s.now) copy.items ≡ map (λ s. s.now) texts.now) }
 {
@@ -51,7 +51,7 @@ fn copied<'a>(alloc: Global, texts: &[&'a str]) -> Result<Vec<&'a str>, AllocErr
     Ok(copy)
 }
 
-/// The texts of an option, none where it isn't given.
+/// The texts of an option; none if it isn't given.
 pub(crate) fn texts_of<'a>(
     alloc: Global,
     options: &ArgMatches<'a>,
@@ -66,7 +66,7 @@ pub(crate) fn texts_of<'a>(
     }
 }
 
-/// When a text says that verdicts have colours, if it says so.
+/// When verdicts have colours, by a text, or `None` if the text is none of the three that are accepted.
 #[tactic(auto, using(crate::proofs::TestLemmas::no_color))]
 pub(crate) fn coloring(text: &str) -> Option<Coloring>
     ensures said { IfSome result (SaysColoring (Some text.now)) }
@@ -80,7 +80,7 @@ pub(crate) fn coloring(text: &str) -> Option<Coloring>
     }
 }
 
-// When the options of `test` say that verdicts have colours.
+// When verdicts have colours, by the options of `test`.
 fn coloring_of(test: &ArgMatches<'_>) -> Option<Coloring>
     ensures said { IfSome result (SaysColoring (first_of (codes "color") (rows_of (found_of test.now)))) }
     ensures none { IfNone result ((color : Coloring) →
@@ -92,7 +92,7 @@ fn coloring_of(test: &ArgMatches<'_>) -> Option<Coloring>
     }
 }
 
-/// The test that the options of `test` say.
+/// The test that the options of `test` ask for, or `None` if they conflict or a value is wrong.
 pub(crate) fn testing_of<'a>(
     alloc: Global,
     test: &ArgMatches<'a>,
@@ -137,7 +137,7 @@ pub(crate) fn testing_of<'a>(
     }))
 }
 
-/// The translation that the options of `terms` say.
+/// The translation that the options of `terms` ask for.
 pub(crate) fn translating_of<'a>(terms: &ArgMatches<'a>) -> Option<Translating<'a>>
     ensures said { IfSome result (SaysTranslating (rows_of (found_of terms.now))) }
     ensures none { IfNone result ((said : Translating) → SaysTranslating (rows_of (found_of terms.now)) said → ⊥) }

@@ -1,4 +1,4 @@
-//! What the words of `test` and of `terms` may be.
+//! The words that `test` and `terms` accept.
 
 ghost use Rattle.std.specs.Prelude.{◌≡◌, codes, false, IfOk};
 ghost use Rattle.clap.specs.Words.{app_of, rule_of, with_rule};
@@ -52,7 +52,7 @@ pub(crate) fn with_text<'a>(
     command.arg(option)
 }
 
-// `test` with its files, and which models of them.
+// `test` with its files, the filter of their models, and the files to which reports are written.
 fn test_files<'a>(alloc: Global) -> Result<Command<'a>, AllocError>
     ensures shape { IfOk result (λ c. app_of c ≡ test_files) }
     ensures local { IfOk result (λ c. (out-Command c).has_globals ≡ false) }
@@ -63,7 +63,7 @@ fn test_files<'a>(alloc: Global) -> Result<Command<'a>, AllocError>
     with_text(alloc, command, "html", "FILE", help::HTML)
 }
 
-// `test` without its flags.
+// `test` without its flags and `--color`.
 fn test_bounds<'a>(alloc: Global) -> Result<Command<'a>, AllocError>
     ensures shape { IfOk result (λ c. app_of c ≡ test_bounds) }
     ensures local { IfOk result (λ c. (out-Command c).has_globals ≡ false) }
@@ -76,7 +76,7 @@ fn test_bounds<'a>(alloc: Global) -> Result<Command<'a>, AllocError>
     command.arg(number_option(alloc, "jobs", help::JOBS, JOBS))
 }
 
-// Adds the flags that ask for another form of a test than a report.
+// Adds the flags of `test` for a form other than a report.
 fn with_test_forms<'a>(alloc: Global, command: Command<'a>) -> Result<Command<'a>, AllocError>
     ensures shape { IfOk result (λ c. app_of c ≡ with_test_forms (app_of command.entry)) }
     ensures local { IfOk result (λ c. (out-Command c).has_globals ≡ (out-Command command.entry).has_globals) }
@@ -86,7 +86,7 @@ fn with_test_forms<'a>(alloc: Global, command: Command<'a>) -> Result<Command<'a
     with_flag(alloc, spelled, "tap", help::TAP)
 }
 
-/// `test`, with all that its words may be.
+/// `test` with all its arguments and options.
 pub(crate) fn test_command<'a>(alloc: Global) -> Result<Command<'a>, AllocError>
     ensures shape { IfOk result (λ c. app_of c ≡ test_command) }
     ensures local { IfOk result (λ c. (out-Command c).has_globals ≡ false) }
@@ -95,7 +95,7 @@ pub(crate) fn test_command<'a>(alloc: Global) -> Result<Command<'a>, AllocError>
     with_text(alloc, command, "color", "WHEN", help::COLOR)
 }
 
-/// `terms`, with all that its words may be.
+/// `terms` with its argument.
 pub(crate) fn terms_command<'a>(alloc: Global) -> Result<Command<'a>, AllocError>
     ensures shape { IfOk result (λ c. app_of c ≡ terms_command) }
     ensures local { IfOk result (λ c. (out-Command c).has_globals ≡ false) }

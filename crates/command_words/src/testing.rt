@@ -1,11 +1,11 @@
-//! What is asked of a test of model files.
+//! The requests to test model files and to print their terms.
 
-/// What is printed of a test of model files.
+/// The form of the answer to a test of model files.
 #[derive(Clone, Copy)]
 pub enum TestForm {
-    /// A line for each model, and behind them what failed.
+    /// A line for each model, then what failed.
     Report,
-    /// A line for each model, of which none is explored.
+    /// A line for each model; no model is explored.
     List,
     /// One line of JSON.
     Json,
@@ -16,7 +16,7 @@ pub enum TestForm {
 /// When the words of verdicts have colours.
 #[derive(Clone, Copy)]
 pub enum Coloring {
-    /// Where the output is a terminal that takes them.
+    /// If the output is a terminal that takes colours.
     Auto,
     /// Always.
     Always,
@@ -29,21 +29,21 @@ pub enum Coloring {
 pub struct Testing<'a> {
     /// The paths of the files, at least one.
     pub files: Vec<&'a str>,
-    /// A text that the name of a model contains, if it is to be tested.
+    /// The text that the name of each tested model contains, if it is given.
     pub filter: Option<&'a str>,
     /// The path of the file to which a report for CI is written.
     pub junit: Option<&'a str>,
     /// The path of the file to which a page of HTML is written.
     pub html: Option<&'a str>,
-    /// How many worlds are kept of a model that sets no bound of its own.
+    /// The greatest number of worlds that are kept of a model without a bound of its own.
     pub worlds: u64,
-    /// At how many bytes of memory the search stops, for each model.
+    /// The bytes of memory at which the search stops, for each model.
     pub memory: u64,
-    /// After how many seconds the searches of each model stop, if they do.
+    /// The seconds after which the searches of each model stop; `None` means no bound.
     pub seconds: Option<u64>,
-    /// How many models are explored side by side; 0: one for each processor.
+    /// The number of models that are explored side by side; 0 means one for each processor.
     pub jobs: u64,
-    /// What is printed.
+    /// The form of the answer.
     pub form: TestForm,
     /// When the words of verdicts have colours.
     pub color: Coloring,

@@ -13,7 +13,7 @@ use crate::unmarking::Unmarking;
 use clap::ArgMatches;
 use std::alloc::{AllocError, Global};
 
-/// Whether the options of `explore` say that reports have marks, if their words are right.
+/// Whether the options of `explore` ask for reports with marks, or `None` if the text of `--marks` is wrong.
 pub(crate) fn marks_of(explore: &ArgMatches<'_>) -> Option<bool>
     ensures said { IfSome result (SaysMarks (first_of (codes "marks") (rows_of (found_of explore.now)))) }
     ensures none { IfNone result ((marks : Bool) →
@@ -25,7 +25,7 @@ pub(crate) fn marks_of(explore: &ArgMatches<'_>) -> Option<bool>
     }
 }
 
-/// Whether a text says that reports have marks, if it says that they have or that they don't.
+/// Whether a text asks for reports with marks, or `None` if it is neither `all` nor `none`.
 #[tactic(auto, using(crate::proofs::UnmarkLemmas::no_marks))]
 pub(crate) fn marks_said(text: &str) -> Option<bool>
     ensures said { IfSome result (SaysMarks (Some text.now)) }
@@ -38,7 +38,7 @@ pub(crate) fn marks_said(text: &str) -> Option<bool>
     }
 }
 
-/// Whether the options of `explore` name fiber 0 as the only one, if they name no other.
+/// Whether the options of `explore` name fiber 0 as the only one, or `None` if they name another.
 pub(crate) fn only_of(explore: &ArgMatches<'_>) -> Option<bool>
     ensures said { IfSome result (SaysOnly (first_of (codes "only") (rows_of (found_of explore.now)))) }
     ensures none { IfNone result ((only : Bool) →
@@ -50,7 +50,7 @@ pub(crate) fn only_of(explore: &ArgMatches<'_>) -> Option<bool>
     }
 }
 
-// Whether a text is the number of fiber 0, if it is.
+// `Some(true)` if a text is the number of fiber 0, `None` if it isn't.
 #[tactic(auto, using(crate::proofs::UnmarkLemmas::no_fiber))]
 fn only_said(text: &str) -> Option<bool>
     ensures said { IfSome result (SaysOnly (Some text.now)) }
@@ -70,7 +70,7 @@ pub(crate) fn has_text(options: &ArgMatches<'_>, name: &str) -> bool
     text_of(options, name).is_some()
 }
 
-/// The exploration without marks that the options of `explore` ask for, if they go together.
+/// The exploration without marks that the options of `explore` ask for, or `None` if they conflict or a value is wrong.
 pub(crate) fn unmarking_of(
     alloc: Global,
     explore: &ArgMatches<'_>,

@@ -1,4 +1,4 @@
-//! What the words of a command line may be.
+//! The words that the command line accepts.
 
 ghost use Rattle.std.specs.Prelude.{◌≡◌, ◌<◌, ◌^◌, codes, false, IfOk};
 ghost use Rattle.clap.specs.Words.{app_of, new_app, rule_of, with_rule};
@@ -20,10 +20,10 @@ use crate::test_words::{terms_command, test_command, with_text};
 use clap::{Arg, ArgAction, Command, value_parser};
 use std::alloc::{AllocError, Global};
 
-// What `--version` tells behind the name.
+// The version that `--version` prints after the name.
 const VERSION: &str = "0.1.0";
 
-/// A command without words of its own, with its help.
+/// A command with its help, without arguments and options.
 pub(crate) fn new_command<'a>(alloc: Global, name: &'a str, help: CommandHelp<'a>) -> Command<'a>
     ensures shape { app_of result ≡ new_app name.entry.now }
     ensures local { (out-Command result).has_globals ≡ false }
@@ -37,7 +37,7 @@ pub(crate) fn new_command<'a>(alloc: Global, name: &'a str, help: CommandHelp<'a
     }
 }
 
-/// An option that takes a whole number of this range.
+/// An option that takes a whole number of `range`.
 pub(crate) fn number_option<'a>(
     alloc: Global,
     name: &'a str,
@@ -90,7 +90,7 @@ fn with_reasons<'a>(alloc: Global, command: Command<'a>) -> Result<Command<'a>, 
     with_flag(alloc, command, "explain", help::EXPLAIN)
 }
 
-// Adds the flags that ask for another form than a report.
+// Adds the flags of `replay` for a form other than a report.
 fn with_forms<'a>(alloc: Global, command: Command<'a>) -> Result<Command<'a>, AllocError>
     ensures shape { IfOk result (λ c. app_of c ≡ with_forms (app_of command.entry)) }
     ensures local { IfOk result (λ c. (out-Command c).has_globals ≡ (out-Command command.entry).has_globals) }
@@ -100,7 +100,7 @@ fn with_forms<'a>(alloc: Global, command: Command<'a>) -> Result<Command<'a>, Al
     with_flag(alloc, command, "json", help::JSON)
 }
 
-// Adds the flags that ask for another form of an exploration than a list.
+// Adds the flags of `explore` other than `--explain`.
 fn with_explore_forms<'a>(alloc: Global, command: Command<'a>) -> Result<Command<'a>, AllocError>
     ensures shape { IfOk result (λ c. app_of c ≡ with_explore_forms (app_of command.entry)) }
     ensures local { IfOk result (λ c. (out-Command c).has_globals ≡ (out-Command command.entry).has_globals) }
@@ -112,7 +112,7 @@ fn with_explore_forms<'a>(alloc: Global, command: Command<'a>) -> Result<Command
     with_flag(alloc, found, "ends", help::ENDS)
 }
 
-// Adds the flags that ask for another form of a run than a report.
+// Adds the flags of `run` for a form other than a report.
 fn with_run_forms<'a>(alloc: Global, command: Command<'a>) -> Result<Command<'a>, AllocError>
     ensures shape { IfOk result (λ c. app_of c ≡ with_run_forms (app_of command.entry)) }
     ensures local { IfOk result (λ c. (out-Command c).has_globals ≡ (out-Command command.entry).has_globals) }
@@ -122,7 +122,7 @@ fn with_run_forms<'a>(alloc: Global, command: Command<'a>) -> Result<Command<'a>
     with_flag(alloc, timed, "json", help::JSON)
 }
 
-// The option that takes a schedule's text, which must be given.
+// The option that takes a schedule's text. It must be given.
 fn schedule_option<'a>(alloc: Global) -> Arg<'a>
     ensures rule { rule_of result ≡ schedule_option }
     ensures local { result.global ≡ false }
@@ -135,7 +135,7 @@ fn schedule_option<'a>(alloc: Global) -> Arg<'a>
         .action(ArgAction::Set)
 }
 
-/// The option that takes a number of bytes, with a unit or without.
+/// The option that takes a number of bytes, with or without a unit.
 pub(crate) fn memory_option<'a>(alloc: Global) -> Arg<'a>
     ensures rule { rule_of result ≡ memory_option }
     ensures local { result.global ≡ false }
@@ -147,7 +147,7 @@ pub(crate) fn memory_option<'a>(alloc: Global) -> Arg<'a>
         .action(ArgAction::Set)
 }
 
-// The option that takes an outcome of fiber 0 that is wanted, as often as there are such.
+// The option that takes a wanted outcome of fiber 0. It can be given several times.
 fn want_option<'a>(alloc: Global) -> Arg<'a>
     ensures rule { rule_of result ≡ want_option }
     ensures local { result.global ≡ false }
@@ -159,7 +159,7 @@ fn want_option<'a>(alloc: Global) -> Arg<'a>
         .action(ArgAction::Append)
 }
 
-// An option that takes a claim, as often as there are such.
+// An option that takes a claim. It can be given several times.
 fn claim_option<'a>(alloc: Global, name: &'a str, help: &'a str) -> Arg<'a>
     ensures rule { rule_of result ≡ claim_option name.entry.now }
     ensures local { result.global ≡ false }
@@ -183,7 +183,7 @@ fn with_claims<'a>(alloc: Global, command: Command<'a>) -> Result<Command<'a>, A
     command.arg(claim_option(alloc, "reach", help::REACH))
 }
 
-// Adds the options that say whether reports have marks, and of which fiber alone they are.
+// Adds the option for whether reports have marks, and the option for the only fiber that is reported.
 fn with_marks<'a>(alloc: Global, command: Command<'a>) -> Result<Command<'a>, AllocError>
     ensures shape { IfOk result (λ c. app_of c ≡ with_marks (app_of command.entry)) }
     ensures local { IfOk result (λ c. (out-Command c).has_globals ≡ (out-Command command.entry).has_globals) }
@@ -192,7 +192,8 @@ fn with_marks<'a>(alloc: Global, command: Command<'a>) -> Result<Command<'a>, Al
     with_text(alloc, marked, "only", "FIBER", help::ONLY)
 }
 
-/// Adds the options for the limits of a run.
+/// Adds the options for the limits on fibers, refs and deferreds, and on the changes that a fiber makes to its own
+/// cell.
 pub(crate) fn with_limits<'a>(
     alloc: Global,
     command: Command<'a>,
@@ -249,7 +250,7 @@ fn explore_bounds<'a>(alloc: Global) -> Result<Command<'a>, AllocError>
     command.arg(memory_option(alloc))
 }
 
-// `explore` without its flags.
+// `explore` without its flags and its options for claims and marks.
 fn explore_options<'a>(alloc: Global) -> Result<Command<'a>, AllocError>
     ensures shape { IfOk result (λ c. app_of c ≡ explore_options) }
     ensures local { IfOk result (λ c. (out-Command c).has_globals ≡ false) }
@@ -288,7 +289,7 @@ fn run_command<'a>(alloc: Global) -> Result<Command<'a>, AllocError>
     with_reasons(alloc, with_run_forms(alloc, command)?)
 }
 
-// `sample` with what its schedules are drawn by, and under which limits.
+// `sample` with its seed, its number of schedules, their entries, and the limits.
 fn sample_bounds<'a>(alloc: Global) -> Result<Command<'a>, AllocError>
     ensures shape { IfOk result (λ c. app_of c ≡ sample_bounds) }
     ensures local { IfOk result (λ c. (out-Command c).has_globals ≡ false) }
@@ -326,7 +327,7 @@ fn bare_program<'a>(alloc: Global) -> Command<'a>
         .subcommand_required(true)
 }
 
-/// The command, with all that its words may be.
+/// The whole command: its subcommands with all their arguments and options.
 pub fn all_words<'a>(alloc: Global) -> Result<Command<'a>, AllocError>
     ensures { IfOk result (λ c. app_of c ≡ program) }
 {

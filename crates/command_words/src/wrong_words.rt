@@ -1,4 +1,4 @@
-//! What is wrong with words, in `clap`'s form.
+//! The message for wrong words, in `clap`'s form.
 
 ghost use Rattle.std.specs.Prelude.{◌≡◌, ◌⊎◌, false};
 ghost use Rattle.command_words.specs.Telling.{LacksMemory, TellsWrong};
@@ -8,7 +8,8 @@ use clap::error::ErrorKind;
 use outcome_trace::{Status, TextFault, TextOut, tell_fault, write_text};
 use std::alloc::Global;
 
-/// Tells what is wrong with words that `clap` doesn't see, or that it takes and that give no request.
+/// Writes `message` to `err`, in `clap`'s form. This is for words that `clap` doesn't read, or that it accepts but that
+/// give no request. Returns `Usage`, or `Fault` if memory ran out.
 pub fn refuse_words<E: TextOut>(alloc: Global, message: &str, err: &mut E) -> Status
     requires { (E.seen err.old).failed ≡ false }
     ensures { TellsWrong (E.seen err.old) (E.seen err.new) result ⊎

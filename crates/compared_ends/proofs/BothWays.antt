@@ -1,4 +1,4 @@
--- What two explorations say of two programs under every schedule.
+-- What two explorations show of two programs under every schedule.
 use Rattle.std.proofs.Common.{◌≡◌, ℕ, List, sym, ap, ◌∙◌, subst}
 use Rattle.std.specs.Prelude.{true, Some, Result, Ok, Err, IfOk}
 use Rattle.std.specs.List.{All, slice_get}
@@ -19,7 +19,7 @@ use Rattle.compared_ends.specs.Comparisons.{AreSeenIn, CanEnd, EndsWithin, IsExp
 use Rattle.compared_ends.specs.Private.Found.{IsFound}
 use Rattle.compared_ends.specs.Views.{View, viewed}
 
--- where a schedule has led to a settled world or a fault, that is listed
+-- if a schedule led to a settled world or a fault, its report or fault is listed
 listed : (k : Limits) (answers : List Answer) (x : Result World RunError) → IsCovered k answers x → IfOk x (IsSettled k) →
     IsListed answers (reported x)
 listed k answers (Ok w) covered settled = covered settled
@@ -36,14 +36,14 @@ can_end basis code k answers each i a at end seen =
 
 module _ (basis : Basis) (c d : Tree) (k : Limits) (bounds : Bounds) (one other : Exploration) (first : IsExplored c k bounds one)
     (second : IsExplored d k bounds other) where
-  -- all that was found of the one program was found of the other, and nothing is missing
+  -- if all ends of a complete exploration are in the other one, the other program has all ends of the first
   within : one.complete ≡ true → AreSeenIn basis one.answers other.answers → EndsWithin basis c d k
   within complete seen = λ end can.
       let found = listed k one.answers (core c k can.schedule) (first.all complete can.schedule) can.ends.settled in
       let there = seen found.0 found.1 found.2 in
       can_end basis d k other.answers second.each there.0 there.1 there.2 end (there.3 ∙ ap (viewed basis) found.3 ∙ can.ends.seen)
 
-  -- what wasn't found of the other program, of which nothing is missing, doesn't come of it
+  -- an end that is missing in a complete exploration is no end of its program
   never : other.complete ≡ true → (end : Result View RunError) →
       ((i : ℕ) (a : Answer) → slice_get other.answers i ≡ Some a → viewed basis a.end ≡ end → ⊥) → CanEnd basis d k end → ⊥
   never complete end unseen can =

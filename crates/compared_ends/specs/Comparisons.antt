@@ -1,4 +1,4 @@
--- What the comparison of two programs says of them under every schedule.
+-- What the comparison of two programs reports of them under every schedule.
 use Rattle.std.specs.Prelude.{◌≡◌, ◌⊎◌, ◌↔◌, ℕ, ◌<◌, ◌≤◌, true, false, List, length, max, Some, Result, Ok, Err, IfOk}
 use Rattle.std.specs.List.{All, slice_get}
 use Rattle.derived_ops.specs.Tree.{Tree}
@@ -17,7 +17,7 @@ use Rattle.compared_ends.specs.declared.comparison.Extra.{Extra}
 use Rattle.compared_ends.specs.declared.comparison.Extra.TheVariants as extra
 use Rattle.compared_ends.specs.Views.{View, viewed}
 
--- a schedule that led to x has this end: the view of a settled world's report, or this fault
+-- the result x of a schedule has this end: the view of a settled world's report, or this fault
 pub record IsEnd (basis : Basis) (k : Limits) (x : Result World RunError) (end : Result View RunError) : Type 0 where
   pub settled : IfOk x (IsSettled k)
   pub seen : viewed basis (reported x) ≡ end

@@ -1,6 +1,6 @@
-//! What the ends of two programs are compared by.
+//! The basis of a comparison of two programs' ends.
 
-/// What the ends of two programs are compared by. A fault is an end of its own, and equal only to the same fault.
+/// The basis of a comparison of ends. A fault is an end of its own, equal only to the same fault.
 #[derive(Clone, Copy, PartialEq, Eq, Debug)]
 pub enum Basis {
     /// The outcome of fiber 0, if it has ended, and the values that it said, in their order.

@@ -1,4 +1,4 @@
-//! Two programs, compared.
+//! The comparison of two programs.
 ghost use Rattle.std.specs.Prelude.{◌≡◌, IfErr, IfOk};
 ghost use Rattle.derived_ops.specs.Expansion.{code_of};
 ghost use Rattle.derived_ops.specs.Reading.{source_of};
@@ -17,12 +17,12 @@ use std::alloc::Global;
 /// Compares two programs by the ends that they can have under every schedule: the reports that no further entry
 /// changes, as far as the basis looks at them, and the faults.
 ///
-/// Both are explored under the same limits, each within the bounds. An end that only one of them has is the end of one
-/// of its answers, whose schedule leads there; no schedule leads the other program to an end that is equal by the
-/// basis. If neither has such an end, the two have the same ends. An exploration that met a bound can leave either
-/// question undecided. Whether the first program has more ends than the second is known in two cases: the exploration
-/// of the second is complete and one of these ends is missing in it, or that of the first is complete and none is
-/// missing.
+/// Both are explored under the same limits, each within the bounds. An end that the result names for one of them is the
+/// end of one of its answers, whose schedule leads there; no schedule leads the other program to an end that is equal
+/// by the basis. If both results are [`Extra::Nothing`](crate::Extra::Nothing), the programs have the same ends. An
+/// exploration that met a bound can leave either question undecided. Whether the first program has more ends than the
+/// second is known in two cases: the exploration of the second is complete and an end of the first is missing in it, or
+/// the exploration of the first is complete and none is missing.
 ///
 /// The limits are in their ranges ([`Limits`]). [`RunError::NoMemory`] is the only error.
 pub fn compare_ends(

@@ -9,7 +9,7 @@ pub enum Extra {
     Answer(usize),
     /// None: each end of the program is also one of the other program.
     Nothing,
-    /// An exploration met a bound, and what was found doesn't decide.
+    /// An exploration met a bound, and the ends that were found don't decide.
     Undecided,
 }
 

@@ -24,7 +24,7 @@ pub(crate) fn extra(basis: Basis, one: &Exploration, other: &Exploration) -> Ext
     }
 }
 
-// The first answer whose end none of the others has.
+// The index of the first answer whose end none of the others has.
 fn first_unseen(basis: Basis, ones: &[Answer], others: &[Answer]) -> Option<usize>
     ensures some { IfSome result (λ i. (a : TheAnswer) × (slice_get ones.now i ≡ Some a) ×
         (IsSeenIn basis others.now (viewed basis a.end) → ⊥)) }

@@ -1,10 +1,9 @@
 //! Two programs, compared by the ends that they can have under every schedule.
 //!
-//! The crate uses the exploration of a program (`every_schedule`). Two programs are explored under the same limits, and
-//! their ends are compared by the outcome of fiber 0 and what it says, or by the outcomes of all fibers. The crate
-//! promises that programs which are reported to have the same ends have them under every schedule, and that an end
-//! which only one program is reported to have is reached by the reported schedule there, and by no schedule of the
-//! other program.
+//! The crate uses the exploration of a program (`every_schedule`). It explores two programs under the same limits, and
+//! compares their ends by the outcome of fiber 0 and what it says, or by the outcomes of all fibers. The crate promises
+//! that two programs that are reported to have the same ends have them under every schedule. If only one program is
+//! reported to have an end, the reported schedule leads there, and no schedule of the other program does.
 //!
 //! By the outcome of fiber 0, a race against a side that never ends has the same ends as the other side alone. By the
 //! outcomes of all fibers the ends differ, since only the race starts fibers:

@@ -64,7 +64,7 @@ fn same_fiber(one: &FiberReport, other: &FiberReport) -> bool
     one.outcome == other.outcome && same_said(one.marks.as_slice(), other.marks.as_slice())
 }
 
-// Whether the fibers are equally many, with the same outcomes.
+// Whether both lists have the same number of fibers, with the same outcomes.
 fn same_outcomes(one: &[FiberReport], other: &[FiberReport]) -> bool
     ensures same { result ≡ true → outcomes_view one.now ≡ outcomes_view other.now }
     ensures other { result ≡ false → outcomes_view one.now ≢ outcomes_view other.now }

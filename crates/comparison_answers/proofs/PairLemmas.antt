@@ -28,7 +28,7 @@ use Rattle.comparison_answers.specs.ComparisonData.{IsComparisonData, IsExtraDat
 use Rattle.comparison_answers.specs.PairAnswers.{IsComparedAnswer, IsPairAnswer, IsSecondAnswer, Refuses, compares, first_read, first_refused}
 use Rattle.comparison_answers.specs.PairAnswers.{second_refused}
 
--- an end that one program has alone is that of one of its answers
+-- an end that only one program has is that of one of its answers
 pub within : (basis : Basis) (c d : Tree) (k : Limits) (one other : Exploration) (x : Extra) → IsExtra basis c d k one other x → (i : ℕ) →
     x ≡ extra.Answer i → i < length one.answers
 within basis c d k one other x is i same =
@@ -59,14 +59,14 @@ pub pair_compared : {E : Type 0} (json : Bool) (k : Limits) (bounds : Bounds) (b
 pair_compared json k bounds basis t second u (Ok a) reads program h = compares u reads program h
 pair_compared json k bounds basis t second u (Err e) reads program h = tt
 
--- the line of a refusal, behind the name of its side
+-- the line of a refusal, after the name of its side
 pub line_refused : {E : Type 0} (side text line : List ℕ) (status : Status) (a : Result Answer E) → IsRefusalAnswer text line status →
     IfOk a (λ a. a.text.items ≡ side ++ (codes ": " ++ line)) → IfOk a (λ a. a.status ≡ status) →
     IfOk a (λ a. Refuses false side text a.text.items a.status)
 line_refused side text line status (Ok a) is text_is same = (line, subst (IsRefusalAnswer text line) (sym same) is, text_is)
 line_refused side text line status (Err e) is text_is same = tt
 
--- no value of a comparison holds a number with a point
+-- no value of a comparison holds a floating-point number
 end_plain : (schedule : List ℕ) (end : Result Report RunError) → has_float (end_data schedule end) ≡ false
 end_plain schedule (Ok r) = or_plain (has_float (report_data r.fibers)) false (report_plain r.fibers) refl
 end_plain schedule (Err e) = or_plain (has_float (fault_data e)) false (fault_plain e) refl

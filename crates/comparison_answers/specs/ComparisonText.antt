@@ -9,7 +9,7 @@ use Rattle.compared_ends.specs.declared.comparison.Comparison.{Comparison}
 use Rattle.compared_ends.specs.declared.comparison.Extra.{Extra}
 use Rattle.compared_ends.specs.declared.comparison.Extra.TheVariants as extra
 
--- the verdict, by the ends that only the first program has, and those that only the second has
+-- the verdict, by the ends that only the first program has, and the ends that only the second program has
 abbrev pub verdict : Extra → Extra → List ℕ
 verdict extra.Nothing extra.Nothing = codes "the same ends"
 verdict (extra.Answer i) extra.Nothing = codes "the first can do more"
@@ -21,7 +21,7 @@ verdict extra.Nothing extra.Undecided = codes "undecided whether the second can 
 verdict extra.Undecided extra.Nothing = codes "undecided whether the first can do more"
 verdict extra.Undecided extra.Undecided = codes "undecided"
 
--- this heading and an answer that shows an end of only one program; empty if there is none
+-- the heading and an answer that shows an end of only one program; empty if there is none
 abbrev pub IsExtraText : List ℕ → List Answer → Extra → List ℕ → Type 0
 IsExtraText heading answers (extra.Answer i) text = (a : Answer) × (part : List ℕ) × (slice_get answers i ≡ Some a) ×
     IsAnswerText false a part × (text ≡ heading ++ part)
@@ -41,7 +41,7 @@ pub record IsComparisonText (it : Comparison) (text : List ℕ) : Type 0 where
   pub first_is : IsExtraText (10 ∷ codes "only the first:") it.first.answers it.first_extra first
   pub second_is : IsExtraText (10 ∷ codes "only the second:") it.second.answers it.second_extra second
 
--- the status of a success if the programs have the same ends, that of an error if one has an end that the other lacks,
+-- the status of success if the programs have the same ends, that of an error if one has an end that the other lacks,
 -- and that of an unended run if this is undecided
 abbrev pub extras_status : Extra → Extra → Status
 extras_status (extra.Answer i) second = ends.Errored

@@ -25,7 +25,7 @@ abbrev pub Shows : Bool → Comparison → List ℕ → Type 0
 Shows false it answer = IsComparisonText it answer
 Shows true it answer = (d : Data) × IsComparisonData it d × (answer ≡ line_of_data d)
 
--- the answer, in words or as JSON, is the refusal of one of the texts, whose side has this name
+-- the answer, in words or as JSON, is the refusal of one of the texts, with the name of its side
 abbrev pub Refuses : Bool → List ℕ → List ℕ → List ℕ → Status → Type 0
 Refuses false side text answer status = (line : List ℕ) × IsRefusalAnswer text line status ×
     (answer ≡ side ++ (codes ": " ++ line))
@@ -41,8 +41,8 @@ pub record IsComparedAnswer (json : Bool) (t u : Term) (limits : Limits) (bounds
     pub shows : Shows json comparison answer
     pub status_is : status ≡ comparison_status comparison
 
--- the answer to a program and a second text: the refusal of the text, or the comparison of the program with the one
--- that the text spells
+-- the answer to a program and a second text: the refusal of the text, or the comparison of the program with that of the
+-- text
 pub data IsSecondAnswer (json : Bool) (limits : Limits) (bounds : Bounds) (basis : Basis) (t : Term) (second : List ℕ)
     (answer : List ℕ) (status : Status) : Type 0
   where
@@ -52,8 +52,7 @@ pub data IsSecondAnswer (json : Bool) (limits : Limits) (bounds : Bounds) (basis
         IsComparedAnswer json t u limits bounds basis answer status →
         IsSecondAnswer json limits bounds basis t second answer status
 
--- the answer of `compare` to two texts: the refusal of the first refused text, or the comparison of the programs that
--- they spell
+-- the answer of `compare` to two texts: the refusal of the first refused text, or the comparison of their programs
 pub data IsPairAnswer (json : Bool) (limits : Limits) (bounds : Bounds) (basis : Basis) (first second : List ℕ)
     (answer : List ℕ) (status : Status) : Type 0
   where

@@ -1,8 +1,8 @@
-//! From two texts that spell programs to the answer to their comparison, in words or as JSON.
+//! The answer to the comparison of the programs of two texts, in words or as JSON.
 //!
 //! The crate uses comparisons (`compared_ends`), and texts and their answers (`outcome_trace`, `exploration_text`,
-//! `json_answers`). The crate promises that what is written is exactly the text of a comparison of the two programs
-//! that the texts spell, with its status, or the refusal of the first text that spells none.
+//! `json_answers`). The crate promises that the answer is exactly the text of a comparison of the two programs, with
+//! its status, or the refusal of the first text that spells no program.
 #![tactic(auto)]
 
 mod pairs;

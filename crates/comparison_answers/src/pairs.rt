@@ -23,7 +23,7 @@ pub struct CompareOrder {
     /// For each program, the greatest numbers of kept worlds and of entries of a schedule (0 to 1,000,000), and the
     /// number of bytes at which the search stops.
     pub bounds: Bounds,
-    /// What the ends are compared by.
+    /// The basis of the comparison of ends.
     pub basis: Basis,
     /// Whether the answer is JSON.
     pub json: bool,
@@ -31,9 +31,9 @@ pub struct CompareOrder {
     pub ghost entries: { bounds.entries ≤ 1000000 },
 }
 
-/// The answer to two texts: the text of the comparison of the programs that they spell ([`text_of_comparison`]), with
-/// the status of [`comparison_status`], or the refusal of the first refused text, with `Status::Refused`, both in words
-/// or as JSON. Returns `AllocError` if memory ran out.
+/// The answer to two texts, in words or as JSON: the text of the comparison of their programs ([`text_of_comparison`]),
+/// with the status of [`comparison_status`], or the refusal of the first refused text, with `Status::Refused`. Returns
+/// `AllocError` if memory ran out.
 pub fn answer_pair(
     alloc: Global,
     order: &CompareOrder,
@@ -103,7 +103,7 @@ fn second_refusal(
     }
 }
 
-// The same answer behind the name of its side.
+// The answer after the name of its side.
 fn sided(alloc: Global, side: &[u8], answer: Answer) -> Result<Answer, AllocError>
     ensures text { IfOk result (λ a. a.text.items ≡ side.now ++ (codes ": " ++ answer.text.items)) }
     ensures status { IfOk result (λ a. a.status ≡ answer.status) }

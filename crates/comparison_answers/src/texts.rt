@@ -12,11 +12,11 @@ use exploration_text::{first_line, text_of_answer};
 use outcome_trace::Status;
 use std::alloc::{AllocError, Global};
 
-/// The text of a comparison: the verdict, how far both explorations came, and for each program that has an end of its
-/// own an answer that shows it, as in the text of an exploration.
+/// The text of a comparison: the verdict, how far both explorations came, and for each program with an end of its own
+/// an answer that shows this end, as in the text of an exploration.
 ///
-/// An extra end is that of one of the answers. The entries of each schedule are at most 999, and it has at most
-/// 1,000,000. Returns `AllocError` if memory is refused.
+/// An extra end is that of one of the answers. Each schedule has at most 1,000,000 entries, each at most 999. Returns
+/// `AllocError` if memory ran out.
 pub fn text_of_comparison(alloc: Global, it: &Comparison) -> Result<Vec<u8>, AllocError>
     requires first { All IsSpellable it.now.first.answers }
     requires second { All IsSpellable it.now.second.answers }
@@ -56,7 +56,7 @@ fn heads(alloc: Global, it: &Comparison) -> Result<String, AllocError>
     Ok(text)
 }
 
-// This heading and the answer that shows an end of only one program, or nothing.
+// The heading and the answer that shows an end of only one program, or nothing.
 fn extra_text(
     alloc: Global,
     heading: &[u8],

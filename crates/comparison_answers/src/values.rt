@@ -19,8 +19,8 @@ use std::alloc::{AllocError, Global};
 /// A comparison as JSON: the verdict, and for each program whether all of it was explored, the ends that only it has,
 /// and the number of worlds found.
 ///
-/// An extra end is that of one of the answers. The entries of each schedule are at most 999, and it has at most
-/// 1,000,000. Returns `AllocError` if memory ran out.
+/// An extra end is that of one of the answers. Each schedule has at most 1,000,000 entries, each at most 999. Returns
+/// `AllocError` if memory ran out.
 pub fn comparison_json(alloc: Global, it: &Comparison) -> Result<Value, AllocError>
     requires first { All IsSpellable it.now.first.answers }
     requires second { All IsSpellable it.now.second.answers }

@@ -22,7 +22,7 @@ use Rattle.ending_answers.specs.DecidedData.{IsDecidedData, IsEndingData, cycle_
 use Rattle.ending_answers.specs.DecidedText.{decided_status}
 use Rattle.ending_answers.specs.Decisions.{IsEndingOf}
 
--- the answer, where the wants are those of the order
+-- the answer, with the wants of the order
 pub answered : (json : Bool) (t : Term) (limits : Limits) (bounds : Bounds) (timed : Bool) (wants ws : List Want) (note answer : List ℕ)
     (status : Status) (it : Decided) → ws ≡ wants → IsExplorationOf (code_of (source_of t)) limits bounds timed it.exploration →
     IsEndingOf (code_of (source_of t)) limits it.ending → Shows json ws it answer → status ≡ decided_status ws it →
@@ -36,7 +36,7 @@ answered json t limits bounds timed wants ws note answer status it same explored
   note_is = note_is ∙ ap (λ l. missing_of_exploration l it.exploration) same;
 }
 
--- ---- no value holds a number with a point
+-- ---- no value holds a floating-point number
 ending_plain : (e : Ending) (d : Data) → IsEndingData e d → has_float d ≡ false
 ending_plain decided.Ends d h = ap has_float h
 ending_plain (decided.Repeats c) d h = ap has_float h.4

@@ -1,4 +1,4 @@
--- What is decided of fair schedules, from what a search says.
+-- Decisions on fair schedules, from the contract of a search.
 use Rattle.std.proofs.Common.{◌≡◌, ◌⊎◌, ◌≤◌, ◌<◌, ℕ, List, length, refl, sym, subst, arith, inl, inr}
 use Rattle.std.specs.List.{All}
 use Rattle.cell_registry.specs.declared.limits.Limits.{Limits}
@@ -17,12 +17,12 @@ ending_is code k decided.Ends ends repeats = ends refl
 ending_is code k (decided.Repeats c) ends repeats = repeats c refl
 ending_is code k decided.Undecided ends repeats = tt
 
--- the same ending, or that it is undecided
+-- the same ending, or an undecided one
 pub ending_short : (code : Tree) (k : Limits) (e r : Ending) → (r ≡ e) ⊎ (r ≡ decided.Undecided) → IsEndingOf code k e → IsEndingOf code k r
 ending_short code k e r (inl same) h = subst (IsEndingOf code k) (sym same) h
 ending_short code k e r (inr same) h = subst (IsEndingOf code k) (sym same) tt
 
--- what is short is no longer than a greater number of entries
+-- a short ending is short for a greater number of entries
 pub short_more : (m n : ℕ) → m ≤ n → (e : Ending) → IsShort m e → IsShort n e
 short_more m n more decided.Ends h = tt
 short_more m n more (decided.Repeats c) h = record {

@@ -1,4 +1,4 @@
--- What is answered to a program whose fair schedules are decided.
+-- The answer to a program whose fair schedules are decided.
 use Rattle.std.specs.Prelude.{◌≡◌, ℕ, Bool, true, false, List}
 use Rattle.cell_registry.specs.declared.limits.Limits.{Limits}
 use Rattle.derived_ops.specs.Expansion.{code_of}
@@ -21,8 +21,9 @@ abbrev pub Shows : Bool → List Want → Decided → List ℕ → Type 0
 Shows false wants it answer = IsDecidedText wants it answer
 Shows true wants it answer = (d : Data) × IsDecidedData wants it d × (answer ≡ line_of_data d)
 
--- the answer and the status of an exploration of the program within the bounds, whose time was limited or wasn't, and of
--- what is decided of its fair schedules; the note has the lines of the wanted outcomes to which no answer comes
+-- the answer and the status of an exploration of the program within the bounds, and of the decision on its fair
+-- schedules; `timed` is whether the time of the search was limited, and the note has the lines of the wanted outcomes
+-- to which no answer leads
 pub record IsDecidedAnswer (json : Bool) (t : Term) (limits : Limits) (bounds : Bounds) (timed : Bool)
     (wants : List Want) (note answer : List ℕ) (status : Status) : Type 0
   where

@@ -1,4 +1,4 @@
--- What is decided of fair schedules, as JSON. The members of an object are in the order of their keys.
+-- Decisions on fair schedules, as JSON. The members of an object are in the order of their keys.
 use Rattle.std.specs.Prelude.{◌≡◌, ℕ, List, codes}
 use Rattle.fair_ends.specs.declared.ending.Ending.{Ending}
 use Rattle.fair_ends.specs.declared.ending.Ending.TheVariants as decided
@@ -8,7 +8,7 @@ use Rattle.json_answers.specs.ExplorationData.{IsExplorationData}
 use Rattle.exploration_text.specs.declared.wants.Want.{Want}
 use Rattle.ending_answers.specs.declared.decided.Decided.{Decided}
 
--- the texts of a cycle's schedules: of the entries that come again and again, and of those before
+-- the texts of a cycle's schedules: of the entries that repeat, and of those before them
 abbrev pub cycle_data : List ℕ → List ℕ → Data
 cycle_data stem cycle =
     object (member (codes "again") (string cycle) (member (codes "first") (string stem) no_members))
@@ -20,7 +20,7 @@ IsEndingData (decided.Repeats c) d = (stem : List ℕ) × (cycle : List ℕ) × 
     SpellsEntries cycle c.cycle.items × (d ≡ cycle_data stem cycle)
 IsEndingData decided.Undecided d = d ≡ string (codes "undecided")
 
--- the exploration, and what is decided of the fair schedules
+-- the exploration, and the decision on the fair schedules
 pub record IsDecidedData (wants : List Want) (it : Decided) (d : Data) : Type 0 where
   pub explored : Data
   pub ending : Data

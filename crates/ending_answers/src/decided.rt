@@ -1,4 +1,4 @@
-//! An exploration of a program, and what is decided of its fair schedules.
+//! An exploration of a program, with the decision on its fair schedules.
 ghost use Rattle.std.specs.Prelude.{◌≡◌, ◌<◌, ◌≤◌, ◌⊎◌, ℕ, IfOk, length, true};
 ghost use Rattle.std.specs.List.{All};
 ghost use Rattle.derived_ops.specs.Expansion.{code_of};
@@ -15,16 +15,16 @@ use std::alloc::{AllocError, Global};
 /// An exploration of a program, and whether every fair schedule of the program ends.
 #[derive(Drop)]
 pub struct Decided {
-    /// All that can come of the program.
+    /// The exploration.
     pub exploration: Exploration,
-    /// Whether every fair schedule ends. Undecided where the exploration isn't complete.
+    /// Whether every fair schedule ends. It is undecided if the exploration isn't complete.
     pub ending: Ending,
 }
 
-/// Explores a program, and where that is complete decides whether every fair schedule ends.
+/// Explores a program. If the exploration is complete, decides whether every fair schedule ends.
 ///
-/// Both searches are within the bounds of the order: where a bound is met, or the schedules of a cycle are together
-/// longer than a schedule can be, it is undecided. `AllocError` where memory is refused.
+/// Both searches are within the bounds of the order. If the second one meets a bound, or the two schedules of a cycle
+/// have together more entries than a schedule can have, the ending is undecided. `AllocError` if memory ran out.
 pub fn decide<V: Watcher>(
     alloc: Global,
     program: &Program,
@@ -48,7 +48,7 @@ pub fn decide<V: Watcher>(
     })
 }
 
-// Whether every fair schedule of a program ends. Undecided where its exploration isn't complete.
+// Whether every fair schedule of a program ends. It is undecided if the exploration isn't complete.
 fn ending_of<V: Watcher>(
     alloc: Global,
     program: &Program,
@@ -68,7 +68,7 @@ fn ending_of<V: Watcher>(
     Ok(shortened(ending, order.bounds.entries))
 }
 
-// The same ending, unless its schedules are together longer than this number of entries: then it is undecided.
+// The same ending, but undecided if its schedules have together more than `entries` entries.
 fn shortened(ending: Ending, entries: usize) -> Ending
     ensures same { (result ≡ ending) ⊎ (result ≡ Ending.Undecided) }
     ensures short { IsShort entries result }
@@ -86,7 +86,7 @@ fn shortened(ending: Ending, entries: usize) -> Ending
     }
 }
 
-// Whether the schedules of a cycle have entries of fibers alone, and together no more than this number.
+// Whether the schedules of a cycle have only numbers of fibers, and together at most `entries` entries.
 fn is_short(cycle: &Cycle, entries: usize) -> bool
     ensures stem { result ≡ true → All (λ f. f < 1000) cycle.now.stem.items }
     ensures cycle { result ≡ true → All (λ f. f < 1000) cycle.now.cycle.items }

@@ -1,9 +1,9 @@
-//! From a text that spells a program to the answer whether every fair schedule of it ends, in words or as JSON.
+//! The answer whether every fair schedule of a text's program ends, in words or as JSON.
 //!
-//! The crate uses what is decided of fair schedules (`every_schedule`), and explorations and their answers
-//! (`exploration_text`, `json_answers`, `outcome_trace`). The crate promises that what is written is exactly the text of
-//! an exploration of the program that the text spells, and behind it what was decided of its fair schedules, with the
-//! status of both, or the refusal of a text that spells no program.
+//! The crate uses decisions on fair schedules (`every_schedule`), and explorations and their answers
+//! (`exploration_text`, `json_answers`, `outcome_trace`). The crate promises that the answer is exactly the text of an
+//! exploration of the program, followed by the decision on its fair schedules, with the status of both. A text that
+//! spells no program is answered by its refusal.
 #![tactic(auto)]
 
 mod decided;

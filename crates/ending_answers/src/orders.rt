@@ -1,4 +1,4 @@
-//! Orders to explore the program of a text, and to decide whether every fair schedule of it ends.
+//! Orders to explore a text's program, and to decide whether every fair schedule of it ends.
 ghost use Rattle.std.specs.Prelude.{true, false};
 ghost use Rattle.ending_answers.specs.DecidedAnswers.{IsDecidedAnswer};
 
@@ -12,11 +12,12 @@ use json_answers::{InJson, value_answer};
 use outcome_trace::{Answer, InWords};
 use std::alloc::{AllocError, Global};
 
-/// Answers what [`ExploreOrder`] answers, and behind it whether every fair schedule ends ([`text_of_decided`]), with the
-/// status of [`decided_status`]. A text that is refused is answered by the line of its refusal, with `Status::Refused`.
+/// Answers with the exploration of [`ExploreOrder`], and then with whether every fair schedule ends
+/// ([`text_of_decided`]). The status is that of [`decided_status`]. A refused text is answered by the line of its
+/// refusal, with `Status::Refused`.
 #[derive(Drop)]
 pub struct EndsOrder {
-    /// What is explored, how far, and what is wanted.
+    /// The limits, the bounds and the wanted outcomes.
     pub order: ExploreOrder,
 }
 
@@ -47,7 +48,7 @@ impl WatchedOrder for EndsOrder {
 /// Answers in JSON as [`EndsOrder`] does in words, with the same status.
 #[derive(Drop)]
 pub struct EndsJson {
-    /// What is explored, how far, and what is wanted.
+    /// The limits, the bounds and the wanted outcomes.
     pub order: ExploreOrder,
 }
 

@@ -1,4 +1,4 @@
-//! The text of what is decided of fair schedules, and its exit status.
+//! The text of a decision on fair schedules, and its exit status.
 ghost use Rattle.std.specs.Prelude.{◌≡◌, ◌≤◌, IfOk, string_bytes};
 ghost use Rattle.std.specs.List.{All};
 ghost use Rattle.exploration_text.specs.ExplorationText.{IsSpellable};
@@ -11,9 +11,9 @@ use exploration_text::{Want, exploration_status, text_of_exploration};
 use outcome_trace::{Status, schedule_text};
 use std::alloc::{AllocError, Global};
 
-/// The text of an exploration, and behind a blank line what was decided of the fair schedules.
+/// The text of an exploration, then a blank line and the decision on the fair schedules.
 ///
-/// The entries of each schedule are at most 999, and it has at most 1,000,000. `AllocError` where memory is refused.
+/// Each schedule has at most 1,000,000 entries, each at most 999. `AllocError` if memory ran out.
 pub fn text_of_decided(alloc: Global, it: &Decided, wants: &[Want]) -> Result<Vec<u8>, AllocError>
     requires answers { All IsSpellable it.now.exploration.answers }
     requires short { IsShort 1000000 it.now.ending }
@@ -25,7 +25,7 @@ pub fn text_of_decided(alloc: Global, it: &Decided, wants: &[Want]) -> Result<Ve
     Ok(text)
 }
 
-// A blank line, and what was decided.
+// A blank line and the decision.
 fn ending_text(alloc: Global, ending: &Ending) -> Result<String, AllocError>
     requires { IsShort 1000000 ending.now }
     ensures { IfOk result (λ text. IsEndingText ending.now (string_bytes text)) }
@@ -39,7 +39,7 @@ fn ending_text(alloc: Global, ending: &Ending) -> Result<String, AllocError>
     }
 }
 
-// A blank line, and a cycle that goes on for ever.
+// A blank line and a cycle that goes on for ever.
 fn cycle_text(alloc: Global, cycle: &Cycle) -> Result<String, AllocError>
     requires { IsShortCycle 1000000 cycle.now }
     ensures { IfOk result (λ text. IsEndingText (Ending.Repeats cycle.now) (string_bytes text)) }
@@ -49,7 +49,7 @@ fn cycle_text(alloc: Global, cycle: &Cycle) -> Result<String, AllocError>
     repeats_text(alloc, stem.as_str(), again.as_str())
 }
 
-// The same, by the texts of its schedules.
+// The same, from the texts of its schedules.
 fn repeats_text(alloc: Global, stem: &str, again: &str) -> Result<String, AllocError>
     ensures { IfOk result (λ text. string_bytes text ≡ repeats_line stem.now again.now) }
 {
@@ -61,8 +61,8 @@ fn repeats_text(alloc: Global, stem: &str, again: &str) -> Result<String, AllocE
     Ok(text)
 }
 
-/// The exit status: that of the exploration ([`exploration_status`]) where every fair schedule ends, `Status::Errored`
-/// where one doesn't, and `Status::Unended` where this is undecided and the exploration shows nothing wrong.
+/// The exit status: that of the exploration ([`exploration_status`]) if every fair schedule ends, `Status::Errored` if
+/// one doesn't end, and `Status::Unended` if this is undecided and the exploration shows nothing wrong.
 pub fn decided_status(it: &Decided, wants: &[Want]) -> Status
     ensures { result ≡ decided_status wants.now it.now }
 {

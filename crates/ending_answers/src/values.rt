@@ -1,4 +1,4 @@
-//! What is decided of fair schedules, as JSON.
+//! Decisions on fair schedules, as JSON.
 ghost use Rattle.std.specs.Prelude.{◌≡◌, IfOk};
 ghost use Rattle.std.specs.List.{All};
 ghost use Rattle.serde_json.specs.View.{view};
@@ -14,9 +14,9 @@ use outcome_trace::schedule_text;
 use serde_json::{Value, json};
 use std::alloc::{AllocError, Global};
 
-/// An exploration as JSON, beside what was decided of the fair schedules.
+/// An exploration as JSON, beside the decision on the fair schedules.
 ///
-/// The entries of each schedule are at most 999, and it has at most 1,000,000. `AllocError` where memory is refused.
+/// Each schedule has at most 1,000,000 entries, each at most 999. `AllocError` if memory ran out.
 pub fn decided_json(alloc: Global, it: &Decided, wants: &[Want]) -> Result<Value, AllocError>
     requires answers { All IsSpellable it.now.exploration.answers }
     requires short { IsShort 1000000 it.now.ending }
@@ -27,7 +27,7 @@ pub fn decided_json(alloc: Global, it: &Decided, wants: &[Want]) -> Result<Value
     json!(in alloc; {"answer": "fair schedules", "exploration": exploration, "fair": fair})
 }
 
-// What was decided.
+// The decision.
 fn ending_value(alloc: Global, ending: &Ending) -> Result<Value, AllocError>
     requires { IsShort 1000000 ending.now }
     ensures { IfOk result (λ value. IsEndingData ending.now (view value)) }
@@ -49,7 +49,7 @@ fn cycle_value(alloc: Global, cycle: &Cycle) -> Result<Value, AllocError>
     repeats_value(alloc, stem.as_str(), again.as_str())
 }
 
-// The same, by the texts of its schedules.
+// The same, from the texts of its schedules.
 fn repeats_value(alloc: Global, stem: &str, again: &str) -> Result<Value, AllocError>
     ensures { IfOk result (λ value. view value ≡ cycle_data stem.now again.now) }
 {

@@ -1,4 +1,4 @@
--- Counts of changes and notes of joins change nothing but whether a count is used up.
+-- Counts of changes and notes of joins have no effect but that a count can be used up.
 use Rattle.std.proofs.Common.{◌≡◌, ◌<◌, ◌≤◌, ℕ, zero, suc, ◌+◌, Bool, true, false, cond, ◌==◌, List, [], ◌∷◌, get_or, map, set, Option, Some, None, refl, sym, ap, ap₂, ◌∙◌, arith}
 use Rattle.std.proofs.lemmas.List.{map-set}
 use Rattle.std.proofs.Math.ListN as lists
@@ -32,7 +32,7 @@ plain_is s = ap (λ (l : List Cell). record s { cells = l }) (map_both s.cells)
 pub plain_cell : (s : Cells) (f : ℕ) → cell_of (plain_cells s) f ≡ plain (cell_of s f)
 plain_cell s f = lists.get_or-map plain s.cells f fresh
 
--- what a call is answered
+-- the reply to a call
 pub plain_reply : (s : Cells) (by : ℕ) (c : Call) → reply_of (plain_cells s) by c ≡ reply_of s by c
 unfolding reply_of
 plain_reply s by call.Start = refl
@@ -51,7 +51,7 @@ plain_reply s by (call.Modify r v) = refl
 plain_reply s by (call.Complete d v) = refl
 plain_reply s by (call.Read d) = refl
 
--- how it is refused: in the same way, but for a count that is used up
+-- how a call is refused: in the same way, unless a count is used up
 abbrev pub Refused : ℕ → ℕ → Option CellError → Option CellError → Type 0
 Refused count most None y = y ≡ None
 Refused count most (Some (cell.Full b m)) y = y ≡ Some (cell.Full b m)
@@ -61,7 +61,7 @@ full_refused : (count most : ℕ) (b : Band) (next limit : ℕ) → Refused coun
 full_refused count most b next limit = elim (next == limit) as (λ t. Refused count most (cond t (Some (cell.Full b limit)) None) (cond t (Some (cell.Full b limit)) None)) [ true ↦ refl | false ↦ refl ]
 
 module _ (k : Limits) (n : ℕ) (some : 0 < k.count) where
-  -- no change is counted
+  -- a count of 0 isn't used up
   none_spent : spent 0 k.count ≡ None
   none_spent = ap (λ (t : Bool). cond t (Some (cell.Spent 0)) None) (ne_eqb 0 k.count (λ e. absurd (omega arith)))
 
@@ -107,7 +107,7 @@ uncounted_refusal k s by call.Cut e = uncounted_spent k s by e
 uncounted_refusal k s by (call.Finish o) e = uncounted_spent k s by e
 uncounted_refusal k s by _ e = refl
 
--- ---- what it leaves
+-- ---- the cells after a call
 plain_again : (cs : List Cell) → map plain (map plain cs) ≡ map plain cs
 plain_again [] = refl
 plain_again (c ∷ cs) = ap (λ (l : List Cell). plain c ∷ l) (plain_again cs)
@@ -146,7 +146,7 @@ plain_after s by (call.Modify r v) = plain_twice (after s by (call.Modify r v))
 plain_after s by (call.Complete d v) = plain_twice (after s by (call.Complete d v))
 plain_after s by (call.Read d) = plain_twice s
 
--- ---- counts grow by one at most
+-- ---- counts grow by at most 1
 set_one : (P : Cell → Type 0) (cs : List Cell) (i f : ℕ) (y d : Cell) → P (get_or cs f d) → P y → P (get_or (set cs i y) f d)
 set_one P [] i f y d h k = h
 set_one P (c ∷ cs) zero zero y d h k = k

@@ -1,4 +1,4 @@
--- A fiber's own move commutes with each move of another fiber, also without marks, the numbers of masks, counts and notes.
+-- A fiber's own move commutes with each move of another fiber, also without marks, numbers of masks, counts and notes.
 use Rattle.std.proofs.Common.{◌≡◌, ◌≢◌, ℕ, true, [], ◌++◌, set, map, Some, None, Option, Result, Ok, Err, refl, sym, ap, ◌∙◌, subst, append-nil}
 use Rattle.std.specs.List.{slice_get}
 use Rattle.std.proofs.lemmas.Option.{same_Some}
@@ -36,7 +36,7 @@ after_placed : (k : Limits) (x : Result World RunError) → unmarked_after k x �
 after_placed k (Ok w) = refl
 after_placed k (Err e) = refl
 
--- an entry is the core's, after which marks, numbers, counts and notes are forgotten
+-- an entry is the core's, without marks, numbers of masks, counts and notes after it
 pub step_is : (p : Place) (f : ℕ) → stepped p f ≡ unmarked_of (entering p f)
 step_is p f = after_placed p.limits (entered p.limits (Ok p.world) f)
 
@@ -47,7 +47,7 @@ unmarked_led : (y : Result Place RunError) (q : Place) → unmarked_of y ≡ Ok 
 unmarked_led (Ok x) q e = (x, refl, (let h : unmarked_of (Ok x) ≡ Ok q = e in cc))
 unmarked_led (Err d) q e = absurd (cc)
 
--- where an entry leads there are no marks
+-- an entry leads to a place without marks
 pub led_unmarked : (p : Place) (f : ℕ) (q : Place) → stepped p f ≡ Ok q → unmarked_place q ≡ q
 led_unmarked p f q e =
     let on = unmarked_led (entering p f) q (sym (step_is p f) ∙ e) in
@@ -68,7 +68,7 @@ module _ (p : Place) (none : unmarked_place p ≡ p) where
       ∙ ap (λ (c : Cell). c.count) (plain_cell p.world.cells f)
 
 -- ---- the entry of one fiber leaves the others as they are
--- those that were born, and all counts but its own
+-- all fibers that were started before, and all counts but its own
 record Leaves (w : World) (g : ℕ) (v : World) : Type 0 where
   pub others : (f : ℕ) → g ≢ f → (a : Fiber) → slice_get w.fibers f ≡ Some a → slice_get v.fibers f ≡ Some a
   pub counts : (f : ℕ) → g ≢ f → (cell_of v.cells f).count ≡ (cell_of w.cells f).count
@@ -146,7 +146,7 @@ born_of w f None e = absurd (cc)
 born_of w f (Some a) e = (a, refl)
 
 -- ---- own moves are free
--- the place has no marks, and the fiber's next move is an own one whose call isn't refused
+-- the place has no marks, and the fiber's next move is an own move whose call isn't refused
 pub record IsFree (p : Place) (f : ℕ) : Type 0 where
   pub none : unmarked_place p ≡ p
   pub own : IsOwn p f
@@ -157,7 +157,7 @@ free_from p f q none own e =
     let on = unmarked_led (entering p f) q (sym (step_is p f) ∙ e) in
     record { none = none; own = record { own = own; next = on.0; goes = on.1 } }
 
--- an entry where nothing was counted for the fiber, and it has no marks
+-- an entry of a fiber that has a count of 0 and goes on alike
 plain_step : (p : Place) (f : ℕ) → (cell_of p.world.cells f).count ≡ 0 → ((g : Fiber) → slice_get p.world.fibers f ≡ Some g → GoesAlike g) →
     stepped (unmarked_place p) f ≡ unmarked_of (entering p f)
 plain_step p f count alike = step_alike p.limits p.world f count alike ∙ after_placed p.limits (entered p.limits (Ok p.world) f)
@@ -182,7 +182,7 @@ module _ (p : Place) (f : ℕ) (h : IsFree p f) where
     back : f ≢ g
     back e = apart (sym e)
 
-    -- behind the own move the other fiber is as it was
+    -- after the own move the other fiber is as before
     other_alike : (b : Fiber) → slice_get x.world.fibers g ≡ Some b → GoesAlike b
     other_alike b e =
         unmarked_alike b (fiber_none p h.none g b

@@ -1,4 +1,4 @@
--- Outcomes grow: each entry leaves them as they are, or adds to them.
+-- Outcomes grow: each entry keeps them or adds to them.
 use Rattle.std.proofs.Common.{◌≡◌, ◌⊎◌, inl, inr, ℕ, zero, suc, ◌+◌, ◌<◌, List, [], ◌∷◌, ◌++◌, map, set, Some, None, Option, Result, Ok, Err, refl, sym, ap, ◌∙◌, arith}
 use Rattle.std.specs.List.{slice_get}
 use Rattle.effect_term.specs.declared.reply.Outcome.{Outcome}
@@ -22,7 +22,7 @@ use Rattle.every_outcome.specs.Places.{Place, outcomes_at, stepped, unmarked_aft
 use Rattle.every_outcome.proofs.Stepping.{outcomes_stay}
 
 -- ---- one fiber
--- a fiber counts, and so does its outcome
+-- 1 for the fiber, and 1 more for its outcome
 abbrev one_size : Option Outcome → ℕ
 one_size None = 1
 one_size (Some o) = 2
@@ -30,7 +30,7 @@ one_size (Some o) = 2
 abbrev GrowsOne : Fiber → Fiber → Type 0
 GrowsOne a b = (outcome_of b ≡ outcome_of a) ⊎ (one_size (outcome_of a) < one_size (outcome_of b))
 
--- what goes on hasn't ended
+-- a fiber that goes on hasn't ended
 going : (w : Running) (up : List Mask) (l : Look) (c : Move_case) → case_in w up l ≡ c → (c ≡ Rests → ⊥) → outcome_in w ≡ None
 going (Runs t) up l c e h = refl
 going (Final m gs) up l c e h = refl

@@ -1,4 +1,4 @@
--- Entries with own moves behind them: the search makes own moves behind each entry, and no others.
+-- Entries with own moves after them: the search makes own moves after each entry, and no others.
 use Rattle.std.proofs.Common.{◌≡◌, ℕ, zero, suc, ◌≤◌, Bool, true, false, length, Some, None, Option, Result, Ok, Err, refl, sym, ap, ◌∙◌}
 use Rattle.std.specs.List.{slice_get}
 use Rattle.cell_registry.specs.declared.limits.Limits.{Limits}
@@ -24,7 +24,7 @@ pushed_more n p = refl
 pub pushed_next : (n m : ℕ) (p q : Place) → n ≡ suc m → q ≡ pushed_once p → pushed n p ≡ pushed m q
 pushed_next n m p q e h = ap (λ i. pushed i p) e ∙ pushed_more m p ∙ ap (pushed m) (sym h)
 
--- where no own move is made, none is made later
+-- if no own move is made, none is made later
 pub pushed_stays : (n : ℕ) (p : Place) → pushed_once p ≡ p → pushed n p ≡ p
 unfolding pushed
 pushed_stays zero p e = refl
@@ -49,7 +49,7 @@ module _ (p : Place) (f : ℕ) where
   pub fiber_made : (q : Place) → owns_next p.world f ≡ true → stepped p f ≡ Ok q → after_own p f ≡ q
   fiber_made q e goes = ap (λ t. if_own t p f) e ∙ ap (or_stays p) goes
 
--- ---- they are free
+-- ---- own moves are free
 abbrev Lead : Place → Place → Type 0
 Lead p q = Leads stepped IsFree p q
 
@@ -100,16 +100,16 @@ leaps_by : (p : Place) (f : ℕ) (o : Option Fiber) → Leaps stepped IsFree (st
 leaps_by p f None = alone_leaps (stepped p f)
 leaps_by p f (Some g) = behind_leaps p f (stepped p f) refl
 
--- it is a reduced system
+-- entries with own moves after them are a reduced system
 pub leaps : (p : Place) (f : ℕ) → Leaps stepped IsFree (stepped p f) (leapt p f)
 leaps p f = leaps_by p f (slice_get p.world.fibers f)
 
--- ---- who is born
+-- ---- fibers that weren't started
 module _ (k : Limits) (w : World) (f : ℕ) where
   abbrev place : Place
   place = record { limits = k; world = unmarked_world w }
 
-  -- an unborn fiber leaves all as it is
+  -- an entry of a fiber that wasn't started changes nothing
   pub leapt_rests : length w.fibers ≤ f → leapt place f ≡ Ok place
   leapt_rests past =
       ap (leapt_by place f) (get_unmarked w.fibers f None (get_past w.fibers f past)) ∙ unborn_stays k w f past

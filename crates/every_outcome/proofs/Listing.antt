@@ -1,4 +1,4 @@
--- Lists that are told one by one.
+-- Answers that are listed one by one.
 use Rattle.std.proofs.Common.{◌≡◌, inl, inr, ℕ, zero, suc, ◌+◌, List, [], ◌∷◌, ◌++◌, length, refl, sym, ap, ◌∙◌, subst, arith, append_assoc, append-nil, length-append}
 use Rattle.std.specs.Prelude.{Some}
 use Rattle.std.specs.List.{All, slice_get}
@@ -10,7 +10,7 @@ use Rattle.every_outcome.specs.Places.{Kept, Place}
 use Rattle.every_outcome.specs.Private.Telling.{AreTold, IsTold, IsWithin}
 use Rattle.every_outcome.proofs.Told.{all_at}
 
--- those before the rest are told
+-- the answers before the rest are listed
 pub record SoFar (kept : Kept) (first : Place) (all rest : List Found) (answers : List OutcomeAnswer) : Type 0 where
   pub before : List Found
   pub is : before ++ rest ≡ all
@@ -60,7 +60,7 @@ module _ (kept : Kept) (first : Place) where
   pub all_told : (all : List Found) (bs : List OutcomeAnswer) → SoFar kept first all [] bs → AreTold kept first all bs
   all_told all bs far = subst (λ l. AreTold kept first l bs) (sym (append-nil far.before) ∙ far.is) far.told
 
-  -- the next one is one of all
+  -- the next answer is one of all
   pub next_within : (all rest : List Found) (bs : List OutcomeAnswer) (f : Found) → SoFar kept first all (f ∷ rest) bs → All (λ a. IsWithin kept a.end) all →
       IsWithin kept f.end
   next_within all rest bs f far h =

@@ -1,4 +1,4 @@
--- An own move is one without marks, the numbers of masks, counts and notes, too.
+-- An own move is also an own move without marks, numbers of masks, counts and notes.
 use Rattle.std.proofs.Common.{◌≡◌, ℕ, suc, ◌+◌, Bool, true, false, not, ◌&&◌, ◌||◌, nat_eq, nat_lt, if◌then◌else◌, List, [], ◌∷◌, map, option_map, Option, Some, None, refl, sym, ap, ap₂, ◌∙◌}
 use Rattle.std.specs.List.{slice_get}
 use Rattle.derived_ops.specs.Naming as naming
@@ -186,7 +186,7 @@ module _ (i n : ℕ) (r : Reply) where
   row_wants (Over o) = refl
   row_wants Broken = refl
 
--- what looks or is cut goes on
+-- a fiber that doesn't rest goes on
 goes : (w : Running) (up : List Mask) (l : Look) (c : Move_case) → case_in w up l ≡ c → (c ≡ Rests → ⊥) → goes_on w ≡ true
 goes (Runs t) up l c e h = refl
 goes (Final m gs) up l c e h = refl
@@ -330,7 +330,7 @@ module _ (g : Fiber) (h : Reached g) where
     own_so Alone e = ap not (waits_unmarked e)
     own_so Nothing e = refl
 
-    -- the next move of a fiber that a program's can become
+    -- the next move of a reached fiber is an own move without marks exactly if it is one with them
     pub own_unmarked : slice_get w.fibers f ≡ Some g → owns_next (unmarked_world w) f ≡ has_own w f (Some g)
     own_unmarked e =
         ap (has_own (unmarked_world w) f) (get_unmarked w.fibers f (Some g) e)

@@ -1,4 +1,4 @@
--- A schedule leads on from a world of the core as from the same world without marks, counts and notes.
+-- A schedule leads from a world of the core where it leads from the same world without marks, counts and notes.
 use Rattle.std.proofs.Common.{◌≡◌, ◌⊎◌, inl, inr, ◌<◌, ◌≤◌, ℕ, zero, suc, ◌+◌, List, [], ◌∷◌, ◌++◌, length, set, Option, Some, None, Result, Ok, Err, refl, sym, ap, ◌∙◌, subst, arith, get_or, replicate, length-append}
 use Rattle.std.specs.List.{fold, slice_get}
 use Rattle.std.proofs.lemmas.Option.{same_Some, slice_get_within}
@@ -26,7 +26,7 @@ use Rattle.every_outcome.specs.Places.{Place, first_place, stepped, unmarked_wor
 use Rattle.every_outcome.proofs.Cells.{AtMost, count_after}
 use Rattle.every_outcome.proofs.Stepping.{Same, step_same}
 
--- each fiber is one that a program's can become, under its own number, and the registry has given as many numbers
+-- each fiber is reached and has its own number, and the registry has given one number for each fiber
 pub record Lawful (w : World) : Type 0 where
   pub reached : (f : ℕ) (g : Fiber) → slice_get w.fibers f ≡ Some g → Reached g
   pub own : (f : ℕ) (g : Fiber) → slice_get w.fibers f ≡ Some g → g.number ≡ f
@@ -41,7 +41,7 @@ move_number g r = go (move_case g)
     go Reduces = refl
     go Rests = refl
 
--- ---- one fiber changes, and some are born
+-- ---- one fiber changes, and some are started
 set_get : (gs : List Fiber) (f i : ℕ) (x g : Fiber) → slice_get (set gs f x) i ≡ Some g → (slice_get gs i ≡ Some g) ⊎ ((i ≡ f) × (x ≡ g))
 set_get [] f i x g e = inl e
 set_get (y ∷ gs) zero zero x g e = inr (refl, same_Some x g e)
@@ -117,7 +117,7 @@ module _ (w : World) (f : ℕ) (g : Fiber) (h : Lawful w) (at : slice_get w.fibe
   none_more : (r : Reply) → length (set w.fibers f (move g r) ++ []) ≡ w.cells.next_fiber
   none_more r = length-append (set w.fibers f (move g r)) [] ∙ ap (λ n. n + 0) (length_set w.fibers f (move g r)) ∙ omega (arith, h.many)
 
-  -- as many are born as numbers are given
+  -- one fiber is started for each number that is given
   many_born : (c : Call) (r : Reply) → length (set w.fibers f (move g r) ++ born g c r) ≡ (after w.cells f c).next_fiber
   unfolding after
   many_born call.Start r = length-append (set w.fibers f (move g r)) (child g (number_in r) ∷ []) ∙ ap (λ n. n + 1) (length_set w.fibers f (move g r) ∙ h.many)
@@ -220,7 +220,7 @@ module _ (k : Limits) (n : ℕ) (some : 0 < k.count) where
   core_stays e [] = refl
   core_stays e (f ∷ s) = core_stays e s
 
-  -- where a schedule of the core has led, without marks, counts and notes; nothing is said where a count is used up
+  -- where a schedule of the core has led, without marks, counts and notes; nothing is said if a count is used up
   abbrev pub Led : Result World RunError → Result Place RunError → Type 0
   Led (Ok v) y = y ≡ Ok (bare_place v)
   Led (Err (run.Full b m)) y = y ≡ Err (run.Full b m)

@@ -1,4 +1,4 @@
--- An entry leads on from a world as from the same world without marks, counts and notes.
+-- An entry leads from a world where it leads from the same world without marks, counts and notes.
 use Rattle.std.proofs.Common.{◌≡◌, ◌<◌, ◌≤◌, ℕ, zero, suc, length, arith, List, [], ◌∷◌, ◌++◌, map, set, option_map, Option, Some, None, Result, Ok, Err, refl, sym, ap, ap₂, ◌∙◌, subst}
 use Rattle.std.specs.List.{slice_get}
 use Rattle.std.proofs.lemmas.List.{map-append, map-set}
@@ -59,7 +59,7 @@ world_again w =
     ∙ ap₂ (λ (gs : List Fiber) (c : Cells). let w : World = record { fibers = gs; cells = c } in w) (unmark_again w.fibers) (plain_twice w.cells)
     ∙ sym (plain_world w.fibers w.cells)
 
--- the fiber goes on as without its marks and the numbers of its masks
+-- the fiber asks and moves as it does without its marks and the numbers of its masks
 pub record GoesAlike (g : Fiber) : Type 0 where
   pub asks : ask_of (unmarked g) ≡ ask_of g
   pub moves : (r : Reply) → unmarked (move (unmarked g) r) ≡ unmarked (move g r)
@@ -68,7 +68,7 @@ pub record GoesAlike (g : Fiber) : Type 0 where
 reached_alike : (g : Fiber) → Reached g → GoesAlike g
 reached_alike g h = record { asks = ask_unmarked g h; moves = move_unmarked g h; children = child_unmarked g h }
 
--- so does one that has none
+-- so does a fiber that has none
 pub unmarked_alike : (g : Fiber) → unmarked g ≡ g → GoesAlike g
 unmarked_alike g e = record {
   asks = ap ask_of e;
@@ -149,14 +149,13 @@ module _ (k : Limits) (w : World) (f : ℕ) (none : (cell_of w.cells f).count �
       ap (λ (a : Ask). unmarked_after k (wished k (bare w f) f (unmarked g) (wish_of a))) (h g refl).asks
       ∙ wished_alike g (h g refl) (wish_of (ask_of g))
 
-  -- where the fiber has changed nothing and goes on alike, an entry leads on as without marks, counts and notes
+  -- if the fiber has a count of 0 and goes on alike, an entry leads where it leads without marks, counts and notes
   pub step_alike : ((g : Fiber) → slice_get w.fibers f ≡ Some g → GoesAlike g) →
       stepped record { limits = k; world = unmarked_world w } f ≡ unmarked_after k (entered k (Ok w) f)
   step_alike h = stepped_bare w f k ∙ turned_alike (slice_get w.fibers f) h
 
 module _ (k : Limits) (n : ℕ) (some : 0 < k.count) (w : World) (f : ℕ) where
-  -- what comes of an entry, and what comes of it without marks, counts and notes: the count of the fiber was used up, or
-  -- both are the same
+  -- an entry has the same result without marks, counts and notes, unless the count of the fiber was used up
   abbrev pub Same : Result World RunError → Result Place RunError → Type 0
   Same (Ok v) y = y ≡ Ok record { limits = k; world = unmarked_world v }
   Same (Err (run.Full b m)) y = y ≡ Err (run.Full b m)
@@ -207,7 +206,7 @@ module _ (k : Limits) (some : 0 < k.count) (w : World) (f : ℕ) (h : (g : Fiber
   step_full (run.Lost g) full e = absurd full
   step_full run.NoWorker full e = absurd full
 
--- a fiber that isn't born changes nothing
+-- an entry of a fiber that wasn't started changes nothing
 pub get_past : (gs : List Fiber) (f : ℕ) → length gs ≤ f → slice_get gs f ≡ None
 get_past [] f l = refl
 get_past (g ∷ gs) zero l = absurd (omega arith)

@@ -1,4 +1,4 @@
--- What a search promises of its answers, said of the answers that are told.
+-- What a search promises of its answers holds of the answers that are listed.
 use Rattle.std.proofs.Common.{◌≡◌, ◌≢◌, inl, inr, ℕ, ◌+◌, ◌<◌, List, [], ◌∷◌, ◌++◌, length, map, refl, Option, Result, Ok, Err, sym, ap, ◌∙◌, subst, arith, get_or}
 use Rattle.std.specs.Prelude.{Some}
 use Rattle.std.specs.List.{All, fold, slice_get}
@@ -47,7 +47,7 @@ at_within xs i h = elim ((slice_get_cases xs i).1) [
   | inr past ↦ absurd (omega arith)
 ]
 
--- what is right of an answer of a search has numbers that are there
+-- the end of a right answer of a search is a world or fault of the store
 within : (kept : Kept) (first : Place) (s : List ℕ) (l : Landing) → search.LeadsTo leapt outcomes_at kept.places kept.faults first s l → IsWithin kept l
 within kept first s (to.World j) h = slice_get_within kept.places j h.0 h.1
 within kept first s (to.Fault j) h = slice_get_within kept.faults j h.0 h.1
@@ -57,7 +57,7 @@ pub all_within : (kept : Kept) (first : Place) (found : List Found) → All (sea
 all_within kept first found right = all_from (λ a. IsWithin kept a.end) found (λ i f e.
     within kept first f.schedule.items f.end (all_at (search.IsRight leapt outcomes_at kept.places kept.faults first) found i f e right))
 
--- ---- ends that are apart are told otherwise
+-- ---- ends that are apart are listed differently
 same_ok : (r s : List (Option Outcome)) → (let x : Result (List (Option Outcome)) RunError = Ok r in x) ≡ Ok s → r ≡ s
 same_ok r s e = cc
 
@@ -103,7 +103,7 @@ module _ (k : Limits) (n : ℕ) (some : 0 < k.count) where
   settles : (w : World) → Lawful w → IsSettled (counted k n) w → systems.IsSettled stepped outcomes_at (bare w)
   settles w law h = λ s. settled_at w (fold (entered (counted k n)) (Ok w) s) (systems.run stepped (Ok (bare w)) s) (led k n some s w law) (h s)
 
-  -- so do outcomes that stay
+  -- a world whose outcomes stay has settled outcomes, too
   kept_at : (w : World) (x : Result World RunError) (y : Result Place RunError) → Fully k n some x y → Agrees (outcomes (Ok w)) x →
       systems.reported stepped outcomes_at y ≡ Ok (outcomes_at (bare w))
   kept_at w (Ok v) y h e =
@@ -125,7 +125,7 @@ keeps k n some w law h = λ s.
 abbrev End : Type 0
 End = Result (List (Option Outcome)) RunError
 
--- an end of the search is the end that is told
+-- the end that is listed for an end of the search
 abbrev end_of : Result Place RunError → End
 end_of (Ok p) = Ok (outcomes_at p)
 end_of (Err e) = Err e
@@ -140,7 +140,7 @@ module _ (kept : Kept) (start : Place) (found : List Found) (answers : List Outc
   ends_as (to.Fault j) (Ok p) end h e = absurd h
   ends_as (to.Fault j) (Err d) end h e = e.2 ∙ ap Err (same_Some e.0 d (sym e.1 ∙ h))
 
-  -- what is found is told
+  -- what is found is listed
   listed : (y : Result Place RunError) → search.IsAnswered stepped outcomes_at kept.places kept.faults found y → IsListed answers (end_of y)
   listed y h =
       let i = h.1.0 in
@@ -148,7 +148,7 @@ module _ (kept : Kept) (start : Place) (found : List Found) (answers : List Outc
       let a = at_within answers i low in
       (i, a.0, a.1, ends_as h.0.end y a.0.end h.2 (told.each i h.0 a.0 h.1.1 a.1).ends)
 
-  -- an answer that is told was found
+  -- an answer that is listed was found
   found_at : (i : ℕ) (a : OutcomeAnswer) → slice_get answers i ≡ Some a → (f : Found) × (slice_get found i ≡ Some f) × IsTold kept start f a
   found_at i a e =
       let low : i < length found = subst (λ n. i < n) told.many (slice_get_within answers i a e) in
@@ -164,7 +164,7 @@ module _ (kept : Kept) (start : Place) (found : List Found) (answers : List Outc
       let g = found_at j b atj in
       ends_apart kept single f.0.end g.0.end a.end b.end (h i j f.0 g.0 less f.1 g.1) f.2.ends g.2.ends
 
--- what covers the search covers all single entries
+-- answers that cover the search cover all single entries
 every_entry : (kept : Kept) (start : Place) (found : List Found) →
     ((t : List ℕ) → search.IsCovered leapt outcomes_at kept.places kept.faults found (systems.run leapt (Ok start) t)) →
     (s : List ℕ) → search.IsCovered stepped outcomes_at kept.places kept.faults found (systems.run stepped (Ok start) s)
@@ -190,7 +190,7 @@ module _ (kept : Kept) (code : Tree) (k : Limits) (found : List Found) (answers 
     abbrev AllCovered : Type 0
     AllCovered = (t : List ℕ) → search.IsCovered leapt outcomes_at kept.places kept.faults found (systems.run leapt (Ok start) t)
 
-    -- what stays is listed
+    -- outcomes that stay are listed
     listed_at : (n : ℕ) (w : World) (y : Result Place RunError) → y ≡ Ok (bare_place k n some w) → Covers y →
         systems.IsSettled stepped outcomes_at (bare_place k n some w) → IsListed answers (outcomes (Ok w))
     listed_at n w y h c settled =
@@ -218,7 +218,7 @@ module _ (kept : Kept) (code : Tree) (k : Limits) (found : List Found) (answers 
         listed_at n w (systems.run stepped (Ok start) s) (subst (λ x. Led k n some x (systems.run stepped (Ok start) s)) e (core_led code k some first n s))
         (every_entry kept start found c s) (settles k n some w (core_lawful code k some first n s w e) h)
 
-    -- where a schedule leads that is found
+    -- the end that a found schedule leads to
     leads_at : (n : ℕ) (s : List ℕ) (l : Landing) (end : End) → search.LeadsTo stepped outcomes_at kept.places kept.faults start s l → IsEnd kept l end →
         (x : Result World RunError) → Fully k n some x (systems.run stepped (Ok start) s) → outcomes x ≡ end
     leads_at n s (to.World j) end h e (Ok v) f =
@@ -236,7 +236,7 @@ module _ (kept : Kept) (code : Tree) (k : Limits) (found : List Found) (answers 
     leads_at n s l end h e (Err (run.Lost g)) f = absurd f
     leads_at n s l end h e (Err run.NoWorker) f = absurd f
 
-    -- and what more entries lead to
+    -- further entries keep a fault
     fault_stays : (e : RunError) (t : List ℕ) → systems.run stepped (Err e) t ≡ Err e
     fault_stays e [] = refl
     fault_stays e (g ∷ t) = fault_stays e t
@@ -278,7 +278,7 @@ module _ (kept : Kept) (code : Tree) (k : Limits) (found : List Found) (answers 
           stays = λ n more. stays_at n s more it.0.end a.end h it.2.ends (core code (counted k n) (s ++ more)) (core_led code k some first n (s ++ more));
         })
 
--- ---- the count of the limits plays no part
+-- ---- the count of the limits has no effect
 pub covered_under : (k : Limits) (n : ℕ) (answers : List OutcomeAnswer) (x : Result World RunError) → IsCovered (counted k n) answers x → IsCovered k answers x
 covered_under k n answers (Ok w) h = h
 covered_under k n answers (Err (run.Full b m)) h = h

@@ -1,4 +1,4 @@
--- Trails that go on.
+-- Trails that are extended.
 use Rattle.std.proofs.Common.{◌≡◌, ◌⊎◌, inl, inr, ℕ, ◌<◌, List, [], ◌∷◌, ◌++◌, Result, Ok, refl, sym, ap, ◌∙◌, subst, arith, append-nil, append_assoc}
 use Rattle.std.specs.List.{All}
 use Rattle.std.proofs.lemmas.List.Elements.{All-push}
@@ -41,7 +41,7 @@ pub trail_whole : (first : Place) (schedule new : List ℕ) (y : Result Place Ru
     run leapt (Ok first) schedule ≡ y → IsUnfolded first schedule new
 trail_whole first schedule new y t e = subst (IsUnfolded first schedule) (sym t.is) (record { leads = t.leads ∙ sym e; few = t.few })
 
--- what isn't that memory ran out is the fault
+-- an error other than `e` is the fault
 pub refused_with : (d e : RunError) (P : Type 0) → (d ≡ e → ⊥) → (d ≡ e) ⊎ P → P
 refused_with d e P apart (inl memory) = absurd (apart memory)
 refused_with d e P apart (inr told) = told

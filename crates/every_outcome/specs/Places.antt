@@ -1,5 +1,5 @@
--- Worlds as a search of outcomes keeps them: without marks, the numbers of masks, the counts of changes, and the notes of
--- who was joined.
+-- Worlds as a search of outcomes keeps them: without marks, the numbers of masks, the counts of changes, and the notes
+-- of who was joined.
 use Rattle.std.specs.Prelude.{ℕ, List, Option, Result, Ok, Err, map}
 use Rattle.effect_term.specs.declared.reply.Outcome.{Outcome}
 use Rattle.derived_ops.specs.Tree.{Tree}
@@ -26,7 +26,7 @@ unmarked_after k (Err e) = Err e
 abbrev pub first_place : Tree → Limits → Place
 first_place code k = record { limits = k; world = unmarked_world (first_world code k) }
 
--- the entry of a fiber, after which marks, numbers, counts and notes are forgotten again
+-- the result of a fiber's entry, without marks, numbers of masks, counts and notes
 abbrev pub stepped : Place → ℕ → Result Place RunError
 stepped p f = unmarked_after p.limits (entered p.limits (Ok p.world) f)
 
@@ -34,7 +34,7 @@ stepped p f = unmarked_after p.limits (entered p.limits (Ok p.world) f)
 abbrev pub outcomes_at : Place → List (Option Outcome)
 outcomes_at p = map outcome_of p.world.fibers
 
--- all that is kept, and how many bytes are counted for it
+-- the worlds and faults that are kept, and the number of bytes that are counted for them
 pub record Kept : Type 0 where
   pub places : List Place
   pub faults : List RunError

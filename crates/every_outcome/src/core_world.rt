@@ -18,7 +18,7 @@ use scheduled_core::{enter, first_fibers};
 use std::alloc::{AllocError, Global};
 use std::marker::Model;
 
-/// The born fibers, beside the registry that they share.
+/// The fibers that were started, and the registry that they share.
 #[derive(Drop)]
 pub(crate) struct CoreWorld {
     fibers: Vec<Config>,
@@ -67,7 +67,7 @@ impl CoreWorld {
         Ok(CoreWorld { fibers, registry })
     }
 
-    /// The same world once more.
+    /// Returns a copy of the world.
     pub(crate) fn copy(&self, alloc: Global) -> Result<CoreWorld, AllocError>
         ensures { IfOk result (λ copy. copy ≡ self.now) }
     {
@@ -76,8 +76,8 @@ impl CoreWorld {
         Ok(CoreWorld { fibers, registry })
     }
 
-    /// Makes the entry of a fiber. [`RunError::NoMemory`] where memory is refused, or where the fiber has changed its
-    /// cell as often as a count can tell, 2^40 times. After an error nothing is known of the world.
+    /// Makes the entry of a fiber. [`RunError::NoMemory`] where memory is refused, or where the fiber has used up its
+    /// count of changes, which is at most 2^40 - 1. After an error nothing is known of the world.
     pub(crate) fn enter(&mut self, fiber: u16) -> Result<(), RunError>
         requires { AllFit self.old.world }
         ensures fits { OnOk result (AllFit self.new.world) }
@@ -85,7 +85,7 @@ impl CoreWorld {
         ensures stops { IfErr result (λ e. (e ≡ RunError.NoMemory) ⊎
             (stepped (unmarked_place self.old) fiber ≡ Fails e)) }
     {
-        // The registry is within its limits, and the fiber is one that a program's can become.
+        // The registry is within its limits, and the fiber is reached.
         facts_of(self.registry.limits());
         reaches(self.fibers.as_slice(), fiber);
         match enter(&mut self.fibers, &mut self.registry, fiber) {
@@ -95,21 +95,21 @@ impl CoreWorld {
         Ok(())
     }
 
-    /// Its fibers.
+    /// The fibers of the world.
     pub(crate) fn fibers(&self) -> &[Config]
         ensures { result.now ≡ self.now.world.fibers }
     {
         self.fibers.as_slice()
     }
 
-    /// Its registry.
+    /// The registry of the world.
     pub(crate) fn registry(&self) -> &PlainRegistry
         ensures { result.now ≡ record { limits = self.now.limits; state = self.now.world.cells } }
     {
         &self.registry
     }
 
-    /// About how many bytes it takes.
+    /// The approximate number of bytes that the world takes.
     pub(crate) fn size(&self) -> usize {
         let mut size = size_of_registry(self.registry.limits());
         for fiber in self.fibers.iter() {
@@ -120,15 +120,15 @@ impl CoreWorld {
     }
 }
 
-// About how many bytes a fiber takes without its marks.
+// The approximate number of bytes that a fiber takes without its marks.
 const FIBER: usize = 480;
 
-// About how many bytes a registry takes.
+// The approximate number of bytes that a registry takes.
 fn size_of_registry(limits: Limits) -> usize {
     160 + 32 * limits.fibers as usize + 8 * limits.refs as usize + 16 * limits.deferreds as usize
 }
 
-// The fault, if the numbers of a band are used up, and else that memory ran out.
+// Returns the fault if the numbers of a band are used up, and `NoMemory` otherwise.
 fn full_or_memory(fault: RunError) -> RunError
     ensures { (result ≡ RunError.NoMemory) ⊎ ((result ≡ fault) × IsFull fault) }
 {
@@ -140,7 +140,7 @@ fn full_or_memory(fault: RunError) -> RunError
     }
 }
 
-// The fiber of this number, if it is born, is one that a program's can become.
+// Shows that the fiber of this number, if there is one, is reached.
 fn reaches(fibers: &[Config], fiber: u16)
     ensures { (g : Fiber) → slice_get fibers.now fiber ≡ Some g → Reached g }
 {
@@ -150,7 +150,7 @@ fn reaches(fibers: &[Config], fiber: u16)
     }
 }
 
-// The same fibers once more.
+// Copies the fibers.
 fn copy_fibers(alloc: Global, fibers: &[Config]) -> Result<Vec<Config>, AllocError>
     ensures { IfOk result (λ copies. copies.items ≡ fibers.now) }
 {

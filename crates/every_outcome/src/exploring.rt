@@ -1,4 +1,4 @@
-//! The outcomes that a program can have under every schedule.
+//! Lists the outcomes that a program can have under every schedule.
 ghost use Rattle.std.specs.Prelude.{◌≡◌, ◌<◌, ◌≤◌, ◌++◌, ℕ, List, [], ◌∷◌, max, IfOk, IfErr, OnOk, true, false};
 ghost use Rattle.std.specs.Prelude.{Ok as GoesWell};
 ghost use Rattle.std.specs.List.{All};
@@ -22,25 +22,24 @@ use effect_term::{Program, facts_of};
 use std::alloc::{AllocError, Global};
 use world_search::{Bounds, Landing, Watcher, search};
 
-/// The outcomes that a program can have, whatever the schedule and whatever the count of changes: those that no further
-/// entry changes, and the bands of numbers that can be used up, each with a schedule under which it comes.
+/// Lists the outcomes that a program can have under every schedule and every count of changes: the outcomes that no
+/// further entry changes, and the bands of numbers that can be used up. Each comes with a schedule that leads to it.
 ///
-/// Where the exploration is complete, the outcomes of every world that any schedule leads to are listed, if no entries
-/// that follow change them, under whatever count (`all`); so are those of every settled world (`settled`), and so is
-/// each [`RunError::Full`]. Where it isn't complete, as many worlds were kept as there may be, or more than a schedule
-/// may have entries, or as many bytes were counted as may be kept, or the watcher has ended the search; each answer is
-/// right all the same (`each`). A loop that says a value in each turn has outcomes that stay, and no settled report.
+/// A complete exploration lists each [`RunError::Full`], the outcomes of every settled world (`settled`), and the
+/// outcomes of each world that a schedule leads to, if no further entries change them under any count (`all`). If the
+/// exploration isn't complete, it met the bound on worlds or on bytes, it has more worlds than the bound on entries, or
+/// the watcher ended it; each answer is still right (`each`). A loop that says a value in each turn has outcomes that
+/// stay, but no settled report.
 ///
-/// The bound on entries counts those of the search, each of which can have further moves behind it. The schedule of an
-/// answer has every move as an entry, so it can be longer than that bound.
+/// The bound on entries counts those of the search, each of which can have further moves after it. The schedule of an
+/// answer has every move as an entry, so it can be longer than the bound.
 ///
-/// Worlds are taken for one where they differ only in the marks of fibers, in the numbers of masks, in how often fibers
-/// have changed their cells, and in the notes of who was joined. So the count of the limits plays no part, and no
-/// answer is [`RunError::Spent`]. The schedule of an answer leads to it under each count that is at least the number
-/// of its entries.
+/// Worlds count as one if they differ only in the marks of fibers, the numbers of masks, the counts of changes, and the
+/// notes of who was joined. So the count of the limits has no effect, and no answer is [`RunError::Spent`]. The
+/// schedule of an answer leads to it under each count that is at least the number of its entries.
 ///
-/// No outcomes are listed twice, and no fault. The limits are in their ranges ([`Limits`]); a world takes memory for
-/// each of its numbers. [`RunError::NoMemory`] is the only error.
+/// No outcomes and no fault are listed twice. The limits are in their ranges ([`Limits`]); a world takes memory for
+/// each fiber, ref and deferred that they allow. [`RunError::NoMemory`] is the only error.
 pub fn explore_outcomes<V: Watcher>(
     alloc: Global,
     program: &Program,
@@ -66,7 +65,7 @@ pub fn explore_outcomes<V: Watcher>(
     ensures numbers { IfOk result (λ it. All (λ a. All (λ f. f < 1000) a.schedule) it.answers.items) }
     ensures memory { IfErr result (λ e. e ≡ RunError.NoMemory) }
 {
-    // The count plays no part in what is found, so the greatest one is taken, which no fiber uses up.
+    // The count has no effect on the answers. The search uses the greatest one, which no fiber uses up.
     let explored = Limits {
         fibers: limits.fibers,
         refs: limits.refs,
@@ -113,7 +112,7 @@ fn told(
     Ok(answers)
 }
 
-// One more answer.
+// Adds an answer.
 fn add(answers: &mut Vec<OutcomeAnswer>, one: OutcomeAnswer) -> Result<(), AllocError>
     ensures { OnOk result (answers.new.items ≡ answers.old.items ++ one ∷ []) }
 {

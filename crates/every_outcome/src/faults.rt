@@ -28,7 +28,7 @@ impl Model for Faults {
 }
 
 impl Faults {
-    /// None yet.
+    /// No faults.
     pub(crate) fn new(alloc: Global) -> Faults
         ensures { result ≡ [] }
     {
@@ -45,7 +45,7 @@ impl Faults {
         self.faults[number]
     }
 
-    /// How many there are. None is there twice.
+    /// The number of faults. No fault occurs twice.
     pub(crate) fn len(&self) -> usize
         ensures many { result ≡ length self.now }
         ensures single { AreSingle self.now }
@@ -53,7 +53,7 @@ impl Faults {
         self.faults.len()
     }
 
-    /// The number of a fault, which is kept from now on.
+    /// Returns the number of the fault. Adds the fault if it is new.
     pub(crate) fn note(&mut self, fault: RunError) -> Result<usize, AllocError>
         ensures more { IsMore self.old self.new }
         ensures noted { IfOk result (λ i. slice_get self.new i ≡ Some fault) }
@@ -67,7 +67,7 @@ impl Faults {
     }
 }
 
-// The number of a fault among these, if it is one of them.
+// The number of the fault, if it is one of these.
 fn place_of(faults: &[RunError], fault: RunError) -> Option<usize>
     ensures found { IfSome result (λ i. slice_get faults.now i ≡ Some fault) }
     ensures none { IfNone result ((j : ℕ) (e : TheRunError) → slice_get faults.now j ≡ Some e → e ≢ fault) }

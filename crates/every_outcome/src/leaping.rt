@@ -1,4 +1,4 @@
-//! Entries with own moves behind them.
+//! Entries with own moves after them.
 ghost use Rattle.std.specs.Prelude.{◌≡◌, ◌⊎◌, ◌++◌, ◌<◌, ◌≤◌, [], ◌∷◌, length, false, IfErr, IfOk, OnOk};
 ghost use Rattle.std.specs.Prelude.{Ok as GoesWell, Err as Fails};
 ghost use Rattle.scheduled_core.specs.Fitting.{AllFit};
@@ -11,11 +11,11 @@ use cell_registry::RunError;
 use effect_term::facts_of;
 use std::alloc::AllocError;
 
-// At most this many own moves of each fiber are made behind an entry.
+// The greatest number of own moves of each fiber after an entry.
 const MOST: usize = 100;
 
-/// The entry of a fiber, with own moves of each fiber behind it. The entries that were made are added to the trail: one
-/// that ends in a fault too, and none of a fiber that isn't born. After an error nothing is known of the world.
+/// Makes the entry of a fiber, and then own moves of each fiber. Adds these entries to the trail, also one that ends in
+/// a fault. For a fiber that wasn't started, makes and adds nothing. After an error nothing is known of the world.
 pub(crate) fn leap(world: &mut CoreWorld, fiber: u16, trail: &mut Vec<u16>) -> Result<(), RunError>
     requires { AllFit world.old.world }
     ensures fits { OnOk result (AllFit world.new.world) }
@@ -35,18 +35,18 @@ pub(crate) fn leap(world: &mut CoreWorld, fiber: u16, trail: &mut Vec<u16>) -> R
     Ok(())
 }
 
-// How many fibers are born.
+// The number of fibers that were started.
 fn few_born(world: &CoreWorld) -> usize
     requires { AllFit world.now.world }
     ensures born { result ≡ length world.now.world.fibers }
     ensures few { result ≤ 1000 }
 {
-    // The registry is within its limits, and has given each of the fibers its number.
+    // The registry is within its limits, and has given each fiber its number.
     facts_of(world.registry().limits());
     world.fibers().len()
 }
 
-// One more entry.
+// Adds an entry.
 fn add(trail: &mut Vec<u16>, fiber: u16) -> Result<(), AllocError>
     ensures { OnOk result (trail.new.items ≡ trail.old.items ++ fiber ∷ []) }
 {
@@ -54,7 +54,7 @@ fn add(trail: &mut Vec<u16>, fiber: u16) -> Result<(), AllocError>
     Ok(())
 }
 
-// Own moves of each fiber, until none has one or the most were made.
+// Makes own moves of each fiber, until no fiber has one or the greatest number was made.
 fn push(world: &mut CoreWorld, trail: &mut Vec<u16>) -> Result<(), AllocError>
     requires { AllFit world.old.world }
     ensures fits { OnOk result (AllFit world.new.world) }
@@ -71,7 +71,7 @@ fn push(world: &mut CoreWorld, trail: &mut Vec<u16>) -> Result<(), AllocError>
     Ok(())
 }
 
-// One own move of each fiber that has one, the last fiber first. Whether any was made.
+// Makes one own move of each fiber that has one, the last fiber first. Returns whether any was made.
 fn push_once(world: &mut CoreWorld, trail: &mut Vec<u16>) -> Result<bool, AllocError>
     requires { AllFit world.old.world }
     ensures fits { OnOk result (AllFit world.new.world) }
@@ -91,14 +91,14 @@ fn push_once(world: &mut CoreWorld, trail: &mut Vec<u16>) -> Result<bool, AllocE
     Ok(moved)
 }
 
-// Whether one of the two is so.
+// Whether one of the two is true.
 fn either(one: bool, other: bool) -> bool
     ensures { result ≡ false → (one ≡ false) × (other ≡ false) }
 {
     one || other
 }
 
-// The own move of this fiber, if it has one. Whether it was made.
+// Makes the own move of this fiber, if it has one. Returns whether the move was made.
 fn push_fiber(world: &mut CoreWorld, fiber: u16, trail: &mut Vec<u16>) -> Result<bool, AllocError>
     requires few { fiber < 1000 }
     requires fits { AllFit world.old.world }

@@ -1,13 +1,13 @@
 //! The outcomes that a program can have under every schedule, each with a schedule.
 //!
-//! The crate uses the core under a schedule (`scheduled_core`) and a search of all worlds that any schedule leads to
-//! (`world_search`). Worlds are taken for one where they differ only in marks, in the numbers of masks, and in how
-//! often the owners of cells have changed them, so loops with masks and brackets in them close. Behind each entry the
-//! search makes own moves at once, as `every_schedule` defines them: no other fiber sees them or can change them. The
-//! crate promises that where the search is complete, the outcomes of each settled world are listed, whatever the count
-//! of changes, and that the schedule of each answer leads to it.
+//! The crate uses the core under a schedule (`scheduled_core`) and a search of all worlds that a schedule leads to
+//! (`world_search`). Worlds count as one if they differ only in marks, the numbers of masks, the counts of changes, and
+//! the notes of who was joined. So a loop with masks and brackets in it leads back to a known world. Directly after
+//! each entry the search makes own moves, as `every_schedule` defines them: moves that no other fiber can see or
+//! influence. The crate promises that a complete search lists the outcomes of each settled world under every count of
+//! changes, and that the schedule of each answer leads to it.
 //!
-//! This explores a loop that enters a mask in each turn; no outcome comes of it, since fiber 0 never ends:
+//! This explores a loop that enters a mask in each turn. Its one answer has no outcome, since fiber 0 never ends:
 //!
 //! ```
 //! let program = Program::check(alloc, parse(alloc, b"(forever (uncancelable p (cede)))")?)?;

@@ -1,4 +1,4 @@
-//! What an exploration of outcomes has found.
+//! The result of an exploration of outcomes.
 ghost use Rattle.std.specs.Prelude.{◌≡◌};
 
 use cell_registry::RunError;
@@ -20,14 +20,14 @@ impl Model for Schedule {
 }
 
 impl Schedule {
-    /// These entries.
+    /// Returns the schedule with these entries.
     pub fn new(entries: Vec<u16>) -> Schedule
         ensures { result ≡ entries.items }
     {
         Schedule { entries }
     }
 
-    /// The entries, from the first one on.
+    /// The entries, in their order.
     pub fn as_slice(&self) -> &[u16]
         ensures { result.now ≡ self.now }
     {
@@ -35,7 +35,7 @@ impl Schedule {
     }
 }
 
-/// The outcomes of fibers, by their numbers; `None` for one that hasn't ended.
+/// The outcomes of fibers, by their numbers; `None` for a fiber that hasn't ended.
 #[derive(Drop)]
 pub struct Outcomes {
     outcomes: Vec<Option<Outcome>>,
@@ -51,14 +51,14 @@ impl Model for Outcomes {
 }
 
 impl Outcomes {
-    /// These outcomes.
+    /// Returns these outcomes of fibers, from fiber 0 on.
     pub fn new(outcomes: Vec<Option<Outcome>>) -> Outcomes
         ensures { result ≡ outcomes.items }
     {
         Outcomes { outcomes }
     }
 
-    /// The outcomes, from that of fiber 0 on.
+    /// The outcomes, from fiber 0 on.
     pub fn as_slice(&self) -> &[Option<Outcome>]
         ensures { result.now ≡ self.now }
     {
@@ -66,7 +66,7 @@ impl Outcomes {
     }
 }
 
-/// Outcomes that a program can have, or a fault, and a schedule under which it comes.
+/// Outcomes that a program can have, or a fault, and a schedule that leads there.
 #[derive(Drop)]
 pub struct OutcomeAnswer {
     /// The schedule.
@@ -75,17 +75,17 @@ pub struct OutcomeAnswer {
     pub end: Result<Outcomes, RunError>,
 }
 
-/// What an exploration of outcomes has found.
+/// The result of an exploration of outcomes.
 #[derive(Drop)]
 pub struct OutcomeExploration {
     /// The different outcomes and faults, each with one schedule.
     pub answers: Vec<OutcomeAnswer>,
-    /// How many worlds were found.
+    /// The number of worlds that were found.
     pub worlds: usize,
-    /// How many bytes were counted for what was kept: an estimate, made of the sizes of worlds and entries.
+    /// The number of bytes that were counted: an estimate from the sizes of worlds and entries.
     pub bytes: usize,
-    /// Every schedule was explored: there is no other answer.
+    /// Whether every schedule was explored: then there is no other answer.
     pub complete: bool,
-    /// The watcher has ended the search.
+    /// Whether the watcher ended the search.
     pub halted: bool,
 }

@@ -1,5 +1,4 @@
-//! Which moves are made at once: those of which no other fiber sees anything, and which nothing that another fiber does
-//! can change.
+//! Own moves: moves that no other fiber can see or influence. The search makes them directly after an entry.
 ghost use Rattle.std.specs.Prelude.{◌≡◌, ◌<◌, Some};
 ghost use Rattle.std.specs.List.{slice_get};
 ghost use Rattle.fiber_frames.specs.Reached.{Reached};
@@ -17,7 +16,7 @@ use effect_term::facts_of;
 use fiber_frames::{Config, Use};
 use scheduled_core::Wish;
 
-/// Whether the fiber of this number is born and its next move is an own one.
+/// Whether the fiber of this number was started, and its next move is an own move.
 pub(crate) fn has_own_move(world: &CoreWorld, by: u16) -> bool
     requires { AllFit world.now.world }
     ensures { result ≡ owns_next (unmarked_world world.now.world) by }
@@ -28,7 +27,7 @@ pub(crate) fn has_own_move(world: &CoreWorld, by: u16) -> bool
     }
 }
 
-// Whether the next move of this fiber is an own one.
+// Whether the next move of this fiber is an own move.
 fn is_own(world: &CoreWorld, by: u16, fiber: &Config) -> bool
     requires at { slice_get world.now.world.fibers by ≡ Some fiber.now }
     requires fits { AllFit world.now.world }
@@ -42,7 +41,7 @@ fn is_own(world: &CoreWorld, by: u16, fiber: &Config) -> bool
     }
 }
 
-// Whether this call of a fiber is an own one.
+// Whether the move with this call is an own move of the fiber.
 fn is_own_call(world: &CoreWorld, by: u16, call: Call) -> bool
     requires born { by < world.now.world.cells.next_fiber }
     requires named { IsNamed world.now.world.cells call }
@@ -70,7 +69,7 @@ fn is_own_call(world: &CoreWorld, by: u16, call: Call) -> bool
     }
 }
 
-// Whether no other fiber can still request the cancellation of this one.
+// Whether no other fiber can still request the cancellation of this fiber.
 fn is_left_alone(world: &CoreWorld, fiber: u16) -> bool
     requires given { fiber < world.now.world.cells.next_fiber }
     requires fits { AllFit world.now.world }
@@ -79,7 +78,7 @@ fn is_left_alone(world: &CoreWorld, fiber: u16) -> bool
     is_kept(world, Use::Cancels, fiber, fiber)
 }
 
-// Whether no fiber but this one can still use a number in this way. The registry has given the number.
+// Whether no fiber but `by` can still make this use of a number. The registry has given the number.
 fn is_kept(world: &CoreWorld, what: Use, by: u16, number: u16) -> bool
     requires given { number < next_of (used_place what) world.now.world.cells }
     requires fits { AllFit world.now.world }

@@ -1,4 +1,4 @@
-//! The part of a world by which it is known again.
+//! The part of a world by which a search recognizes the world.
 ghost use Rattle.std.specs.Prelude.{◌≡◌, IfOk, map, true};
 ghost use Rattle.fiber_frames.specs.Unmarked.{unmarked};
 ghost use Rattle.scheduled_core.specs.Fitting.{world_of};
@@ -9,7 +9,7 @@ use fiber_frames::{Config, FiberShape};
 use std::alloc::{AllocError, Global};
 use std::marker::Model;
 
-/// The fibers of a world without their marks, beside its registry without counts and notes.
+/// The fibers of a world without their marks, and its registry without counts and notes.
 #[derive(Drop)]
 pub(crate) struct WorldShape {
     fibers: Vec<FiberShape>,
@@ -56,7 +56,7 @@ impl WorldShape {
         })
     }
 
-    /// Whether two shapes are one, as far as was looked.
+    /// Whether two shapes are equal: `true` means that they are. The result can be `false` for equal shapes.
     pub(crate) fn same(&self, other: &WorldShape) -> bool
         ensures { result ≡ true → self.now ≡ other.now }
     {
@@ -64,7 +64,7 @@ impl WorldShape {
             && same_shapes(self.fibers.as_slice(), other.fibers.as_slice())
     }
 
-    /// A number that is the same for shapes that are taken for one.
+    /// A number that is the same for shapes that `same` finds equal.
     pub(crate) fn digest(&self) -> u64 {
         let mut digest = self.registry.digest();
         for fiber in self.fibers.iter() {
@@ -85,7 +85,7 @@ fn shapes_of(alloc: Global, fibers: &[Config]) -> Result<Vec<FiberShape>, AllocE
     Ok(shapes)
 }
 
-// Whether two lists of shapes are one, as far as was looked.
+// Whether two lists of shapes are equal: `true` means that they are.
 fn same_shapes(one: &[FiberShape], other: &[FiberShape]) -> bool
     ensures { result ≡ true → one.now ≡ other.now }
 {

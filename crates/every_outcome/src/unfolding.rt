@@ -1,4 +1,4 @@
-//! The schedules of a search whose entries have own moves behind them, entry by entry.
+//! The schedules of a search, with each own move as an entry.
 ghost use Rattle.std.specs.Prelude.{◌≡◌, ◌≢◌, false, IfErr, IfOk};
 ghost use Rattle.derived_ops.specs.Expansion.{code_of};
 ghost use Rattle.derived_ops.specs.Reading.{source_of};
@@ -12,7 +12,7 @@ use cell_registry::{Limits, RunError};
 use effect_term::Program;
 use std::alloc::Global;
 
-/// The entries that a schedule of the search makes, one by one.
+/// Lists all entries that a schedule of the search makes, with those of own moves.
 pub(crate) fn unfold(
     alloc: Global,
     program: &Program,

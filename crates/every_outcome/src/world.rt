@@ -20,7 +20,7 @@ use scheduled_core::outcome;
 use std::alloc::{AllocError, Global};
 use std::marker::Model;
 
-/// A world of the core, beside its shape. Contracts see the shape.
+/// A world of the core, and its shape. Contracts see the shape.
 #[derive(Drop)]
 pub(crate) struct SeenWorld {
     core: CoreWorld,
@@ -60,7 +60,7 @@ impl SeenWorld {
         SeenWorld::new(alloc, core)
     }
 
-    // The world with its shape.
+    // Adds the shape to a world.
     fn new(alloc: Global, core: CoreWorld) -> Result<SeenWorld, AllocError>
         requires { AllFit core.world }
         ensures { IfOk result (λ it. it ≡ unmarked_place core) }
@@ -69,18 +69,18 @@ impl SeenWorld {
         Ok(SeenWorld { core, shape })
     }
 
-    /// How many fibers are born. An entry of another number changes nothing.
+    /// The number of fibers that were started. An entry of another fiber changes nothing.
     pub(crate) fn born(&self) -> u16
         ensures rests { (f : ℕ) → result ≤ f → leapt self.now f ≡ GoesWell self.now }
         ensures most { result ≤ 1000 }
     {
-        // The registry is within its limits, and has given each of them its number.
+        // The registry is within its limits, and has given each fiber its number.
         facts_of(self.core.registry().limits());
         self.core.fibers().len() as u16
     }
 
-    /// The world behind the entry of a fiber and the own moves behind it. [`RunError::NoMemory`] where memory is
-    /// refused, or where a fiber has changed its cell as often as a count can tell, 2^40 times.
+    /// The world after the entry of a fiber and the own moves that follow. [`RunError::NoMemory`] where memory is
+    /// refused, or where a fiber has used up its count of changes, which is at most 2^40 - 1.
     pub(crate) fn after(&self, alloc: Global, fiber: u16) -> Result<SeenWorld, RunError>
         ensures goes { IfOk result (λ w. leapt self.now fiber ≡ GoesWell w) }
         ensures stops { IfErr result (λ e. (e ≡ RunError.NoMemory) ⊎ (leapt self.now fiber ≡ Fails e)) }
@@ -91,14 +91,14 @@ impl SeenWorld {
         Ok(SeenWorld::new(alloc, next)?)
     }
 
-    /// Whether two worlds are one, as far as was looked.
+    /// Whether two worlds are equal: `true` means that they are. The result can be `false` for equal worlds.
     pub(crate) fn same(&self, other: &SeenWorld) -> bool
         ensures { result ≡ true → self.now ≡ other.now }
     {
         self.shape.same(&other.shape)
     }
 
-    /// A number that is the same for worlds that are taken for one.
+    /// A number that is the same for worlds that `same` finds equal.
     pub(crate) fn digest(&self) -> u64 {
         self.shape.digest()
     }
@@ -112,7 +112,7 @@ impl SeenWorld {
         same_ends(self.core.fibers(), other.core.fibers())
     }
 
-    /// The outcomes of its fibers.
+    /// The outcomes of the world's fibers.
     #[tactic(auto, using(crate::proofs::Stepping::outcomes_stay))]
     pub(crate) fn outcomes(&self, alloc: Global) -> Result<Vec<Option<Outcome>>, AllocError>
         ensures { IfOk result (λ it. it.items ≡ outcomes_at self.now) }
@@ -120,7 +120,7 @@ impl SeenWorld {
         ends_of(alloc, self.core.fibers())
     }
 
-    /// About how many bytes it takes: the shape as many as the world.
+    /// The approximate number of bytes that the world and its shape take, each half of them.
     pub(crate) fn size(&self) -> usize {
         self.core.size().saturating_mul(2)
     }

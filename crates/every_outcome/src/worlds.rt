@@ -21,9 +21,8 @@ use std::collections::HashMap;
 use std::marker::Model;
 use world_search::{Entered, Landing, Worlds};
 
-/// All worlds and faults that were found. A world is looked up by its digest, under which the last world of this
-/// digest is filed, and each world names the one before it. Whatever stands there, only a world that is the same is
-/// taken for the one that is looked for.
+/// All worlds and faults that were found. `last` has the number of the last world with a digest, and `earlier` names
+/// for each world the one before it with the same digest. A lookup follows these numbers and compares the worlds.
 #[derive(Drop)]
 pub(crate) struct SeenWorlds {
     alloc: Global,
@@ -49,7 +48,7 @@ impl Model for SeenWorlds {
 }
 
 impl SeenWorlds {
-    /// The first world of a program, alone.
+    /// Returns a store with the first world of a program alone.
     pub(crate) fn new(
         alloc: Global,
         program: &Program,
@@ -73,7 +72,7 @@ impl SeenWorlds {
         Ok(all)
     }
 
-    // Keeps one more world, which gets the next number.
+    // Adds a world, which gets the next number.
     fn file(&mut self, world: SeenWorld) -> Result<(), AllocError>
         ensures places { OnOk result (self.new.places ≡ self.old.places ++ world ∷ []) }
         ensures kept { OnErr result (self.new.places ≡ self.old.places) }
@@ -86,7 +85,7 @@ impl SeenWorlds {
         Ok(())
     }
 
-    // The number of a world that is kept and is this one, as far as was looked.
+    // The number of a kept world that `same` finds equal to this world.
     fn find(&self, world: &SeenWorld) -> Option<usize>
         ensures { IfSome result (λ i. slice_get self.now.places i ≡ Some world.now) }
     {
@@ -101,7 +100,7 @@ impl SeenWorlds {
         None
     }
 
-    // The world is kept, unless there are so many already.
+    // Adds the world if it is new, unless there are at least `most` worlds already.
     fn keep(&mut self, world: SeenWorld, most: usize) -> Result<Entered, AllocError>
         ensures faults { self.new.faults ≡ self.old.faults }
         ensures places { OnOk result (IsMore self.old.places self.new.places) }
@@ -129,7 +128,7 @@ impl SeenWorlds {
         Ok(Outcomes::new(outcomes))
     }
 
-    /// A fault that was met.
+    /// The fault of this number.
     pub(crate) fn fault(&self, number: usize) -> RunError
         requires { number < length self.now.faults }
         ensures { slice_get self.now.faults number ≡ Some result }
@@ -137,7 +136,7 @@ impl SeenWorlds {
         self.faults.get(number)
     }
 
-    /// How many faults were met. Each of them is kept once.
+    /// The number of faults that were met. No fault is kept twice.
     pub(crate) fn many_faults(&self) -> usize
         ensures many { result ≡ length self.now.faults }
         ensures single { AreSingle self.now.faults }

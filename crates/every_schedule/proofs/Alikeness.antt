@@ -47,7 +47,7 @@ module _ (fs : List Fiber) where
       let right : slice_get (map fiber_report hs) h.0 ≡ Some (fiber_report two.0) = map_get fiber_report hs h.0 two.0 two.1 in
       h.5 one.0 two.0 one.2 two.2 (same_Some _ _ (sym left ∙ ap (λ l. slice_get l h.0) same ∙ right))
 
--- a report of what fibers have come to
+-- the report of these fibers
 abbrev pub told : List FiberReport → Report
 told l = record { fibers = l }
 

@@ -1,4 +1,4 @@
--- What is told of one fiber after the other: that none but one uses a number so any more.
+-- The check, fiber after fiber, that no fiber but one can still use a number in this way.
 use Rattle.std.proofs.Common.{◌≡◌, ◌≢◌, ℕ, zero, suc, ◌+◌, ◌<◌, ◌≤◌, nat_eq, Bool, true, false, not, ◌&&◌, ◌||◌, List, [], ◌∷◌, drop, length, Some, refl, sym, ap, ◌∙◌, subst, arith}
 use Rattle.std.specs.List.{slice_get}
 use Rattle.std.proofs.lemmas.Bool.{eqb-true, eq-eqb, lt-ltb}
@@ -35,7 +35,7 @@ module _ (p : Fiber → Bool) (f : ℕ) (gs : List Fiber) (i : ℕ) (b : Fiber) 
   pub one_stops : nat_eq i f || p b ≡ false → from i ≡ false
   one_stops none = turn ∙ ap (λ (t : Bool). t && from (suc i)) none
 
--- where one of them uses it, not all keep it
+-- if one fiber can use the number, not all keep off it
 nor : (t : Bool) → t && false ≡ false
 nor true = refl
 nor false = refl
@@ -65,7 +65,7 @@ drop_past [] (suc i) past = refl
 drop_past (g ∷ gs) zero past = absurd (omega arith)
 drop_past (g ∷ gs) (suc i) past = drop_past gs i (omega arith)
 
--- behind the last of them there is none
+-- after the last fiber there is none
 pub none_left : (p : Fiber → Bool) (f : ℕ) (gs : List Fiber) (i : ℕ) → length gs ≤ i → others p f i (drop i gs) ≡ true
 none_left p f gs i past = ap (others p f i) (drop_past gs i past)
 
@@ -79,11 +79,11 @@ another i f t apart = go (nat_eq i f) refl
     go true e = absurd (apart (eqb-true i f e))
     go false e = refl
 
--- by what the use of a fiber is told
+-- a fiber keeps off the number if it can't use the number
 pub keeps_told : (u : Use) (n f i : ℕ) (b : Fiber) → i ≢ f → (r : Bool) → r ≡ is_some (uses_in u n b.running) → nat_eq i f || keeps u n b ≡ not r
 keeps_told u n f i b apart r told = another i f (keeps u n b) apart ∙ ap not (sym told)
 
--- a number that is given is kept where no other fiber uses it
+-- a given number is kept if no other fiber can use it
 pub given_kept : (u : Use) (w : World) (f n : ℕ) → n < next_of (used_place u) w.cells → is_kept u w f n ≡ others (keeps u n) f 0 w.fibers
 given_kept u w f n low = ap (λ (t : Bool). t && others (keeps u n) f 0 w.fibers) (lt-ltb n (next_of (used_place u) w.cells) low)
 
@@ -111,7 +111,7 @@ alone_kept w fits f =
 pub born_given : (w : World) → AllFit w → (f : ℕ) → f < length w.fibers → f < w.cells.next_fiber
 born_given w fits f low = let many = fits.many in omega (arith, low, many)
 
--- what a fiber asks for is given
+-- what the call of a fiber names is given
 named_call : (s : Cells) (i : ℕ) (d : Call) → AskNamed (given_by s) i (ask_for d) → IsNamed s d
 named_call s i (Get r) h = h
 named_call s i (Set r v) h = h

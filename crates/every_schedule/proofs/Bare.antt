@@ -1,4 +1,4 @@
--- Worlds without the notes of joins: an entry leads on from them as from those with these notes.
+-- Worlds without the notes of joins: an entry at such a world leads where it leads with the notes.
 use Rattle.std.proofs.Common.{◌≡◌, inl, inr, ℕ, ◌<◌, Bool, true, false, not, ◌&&◌, ◌||◌, nat_lt, List, ◌++◌, set, Some, None, Option, Result, Ok, Err, refl, sym, ap, ap₂, ◌∙◌, subst}
 use Rattle.std.specs.List.{slice_get}
 use Rattle.effect_term.specs.declared.reply.Reply.{Reply}
@@ -26,7 +26,7 @@ use Rattle.every_schedule.specs.Reduced.{IsOwn, has_come_to_end, has_own, is_ano
 use Rattle.every_schedule.proofs.Commuting.{own_enter}
 use Rattle.every_schedule.proofs.Growing.{reports_enter, size}
 
--- ---- an entry behind such a world
+-- ---- an entry at a world without notes
 module _ (k : Limits) (w : World) (f : ℕ) where
   answered_bare : (g : Fiber) (c : Call) (o : Option CellError) → bared (placed k (answered (unnoted w) f g c o)) ≡ bared (placed k (answered w f g c o))
   answered_bare g c None =
@@ -52,7 +52,7 @@ module _ (k : Limits) (w : World) (f : ℕ) where
 entering_bare : (p : Place) (f : ℕ) → bared (entering (bare p) f) ≡ bared (entering p f)
 entering_bare p f = turned_bare p.limits p.world f (slice_get p.world.fibers f)
 
--- who has no next move changes nothing
+-- the entry of a fiber without a next move changes nothing
 idle_wished : (k : Limits) (w : World) (f : ℕ) (g : Fiber) (x : Wish) → wants x ≡ false → placed k (wished k w f g x) ≡ Ok (record { limits = k; world = w })
 idle_wished k w f g (Shared c) e = absurd (cc)
 idle_wished k w f g Alone e = absurd (cc)
@@ -98,7 +98,7 @@ enters p f q goes = by (moves_at (slice_get p.world.fibers f)) goes
     by true is = led (entering p f) refl is
     by false is = Stays (cc)
 
--- what stops the core's entry stops the search's
+-- a fault of the core's entry is a fault of the search's
 pub stops : (p : Place) (f : ℕ) (d : RunError) → entering p f ≡ Err d → stepped p f ≡ Err d
 stops p f d e = by (moves_at (slice_get p.world.fibers f)) refl
   where
@@ -112,7 +112,7 @@ step_limits p f q e kept = elim (enters p f q e) [
   | Goes x goes is ↦ ap (λ (y : Place). y.limits) (sym is) ∙ kept x goes
 ]
 
--- ---- what fits still fits
+-- ---- fibers that fit still fit
 registered_bare : (s : Cells) (i : ℕ) → cell_registered (without_waits s) i ≡ cell_registered s i
 registered_bare s i =
     ap (λ (c : Cell). let r : Registered = record { number = i; stage = c.stage; depth = c.depth; count = c.count; saw = c.request; given = given_by s } in r) (unawaited_cell s i)
@@ -173,7 +173,7 @@ own_bare p f h =
     let on = goes_bare (entering (bare p) f) (bare h.next) (entering_bare p f ∙ ap bared h.goes) in
     record { own = has_own_bare p.world f (slice_get p.world.fibers f) ∙ h.own; next = on.0; goes = on.1 }
 
--- who has an own move has a next move
+-- a fiber that has an own move has a next move
 own_wants : (w : World) (f : ℕ) (g : Fiber) (x : Wish) → is_own w f g x ≡ true → wants x ≡ true
 own_wants w f g (Shared c) e = refl
 own_wants w f g Alone e = refl

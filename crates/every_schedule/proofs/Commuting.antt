@@ -22,7 +22,7 @@ use Rattle.every_schedule.proofs.OwnCalls.{IsAdmitted, left_by, other_refusal, o
 use Rattle.every_schedule.proofs.OwnKept.{calm_called, kept_called, kept_silent}
 
 -- ---- lists
--- a change of an element that is there, and one more change and some more elements, in either order
+-- changes of elements, and further elements at the end, in either order
 set_early : {A : Type 0} (xs ys : List A) (f : ℕ) (a b : A) → slice_get xs f ≡ Some a → set (xs ++ ys) f b ≡ set xs f b ++ ys
 set_early [] ys f a b e = absurd (cc)
 set_early (x ∷ xs) ys zero a b e = refl
@@ -36,7 +36,7 @@ set_apart (x ∷ xs) (suc f) zero a b apart = refl
 set_apart (x ∷ xs) (suc f) (suc g) a b apart = ap (λ l. x ∷ l) (set_apart xs f g a b (λ e. apart (ap suc e)))
 
 -- ---- the own move
--- a call of its own makes no child
+-- an own call starts no fiber
 childless : (a : Fiber) (w : World) (f : ℕ) (c : Call) (r : Reply) → is_own w f a (Shared c) ≡ true → born a c r ≡ []
 childless a w f Start r own = absurd (cc)
 childless a w f _ r own = refl
@@ -45,7 +45,7 @@ module _ (k : Limits) (f : ℕ) (a : Fiber) where
   abbrev pub place : World → Place
   place w = record { limits = k; world = w }
 
-  -- the world behind the fiber's own move
+  -- the world after the fiber's own move
   abbrev pub moved : World → Wish → World
   moved w x = record { fibers = set w.fibers f (move a (reply_to w.cells f x)); cells = left_by w.cells f x }
 
@@ -133,7 +133,7 @@ module _ (k : Limits) (f : ℕ) (a : Fiber) where
       pub own_commutes : Com (stepped (place w) g)
       own_commutes = by_place (slice_get w.fibers g) refl
 
--- ---- what a place tells of the own move
+-- ---- what follows from the place after the own move
 module _ (k : Limits) (w : World) (f : ℕ) (q : Place) where
   admitted_by : (a : Fiber) (c : Call) (o : Option CellError) → placed k (answered w f a c o) ≡ Ok q → o ≡ None
   admitted_by a c None goes = refl
@@ -154,7 +154,7 @@ module _ (k : Limits) (w : World) (f : ℕ) (q : Place) where
       let same : place k f a (moved k f a w x) ≡ y = cc in
       subst (λ v. Commutes stepped IsOwn f v g (stepped record { limits = k; world = w } g)) same (own_commutes k f a x refl w g apart at own room)
 
--- own moves are free, as the core makes entries
+-- own moves are free in the core
 pub own_enter : AreFree stepped IsOwn
 own_enter = record {
   goes = λ p f h. (h.next, h.goes);

@@ -1,4 +1,4 @@
--- Where each answer has ended all its fibers, each fiber can end wherever a schedule has led.
+-- If all fibers have ended in each answer, each fiber can end after each schedule.
 use Rattle.std.proofs.Common.{◌≡◌, ℕ, ◌≤◌, List, [], ◌∷◌, ◌++◌, length, set, Option, Some, None, Result, Ok, Err, refl, sym, ap, ◌∙◌, subst, arith}
 use Rattle.std.proofs.Common.{length-append, length-set}
 use Rattle.std.specs.List.{All, fold, slice_get}
@@ -60,7 +60,7 @@ module _ (k : Limits) where
   lasts (f ∷ s) w v e =
       lasts_on s w v (entered k (Ok w) f) (λ u is. by_fiber w f (slice_get w.fibers f) u is) (λ u is. lasts s u v is) e
 
-  -- ---- a fiber that is born has ended, where all have
+  -- ---- a fiber that is born has ended, if all have
   ended_at : (f : ℕ) (w v : World) (fiber : Fiber) → slice_get w.fibers f ≡ Some fiber → Lasts w v → AllHaveEnded (reported (Ok v)) →
       (g : Fiber) × (slice_get v.fibers f ≡ Some g) × HasEnded g
   ended_at f w v fiber here long all =

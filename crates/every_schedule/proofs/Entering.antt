@@ -1,4 +1,4 @@
--- What an entry makes of the worlds that are kept.
+-- How an entry changes the kept worlds.
 use Rattle.std.proofs.Common.{◌≡◌, ◌≢◌, ℕ, zero, suc, ◌≤◌, Bool, List, [], ◌∷◌, length, map, Option, Some, None, Ok, Err, Result, refl, sym, ap, ◌∙◌, subst, arith}
 use Rattle.std.specs.Prelude.{IfOk, max}
 use Rattle.std.specs.List.{slice_get}
@@ -27,7 +27,7 @@ use Rattle.every_schedule.proofs.Bare.{step_limits, unborn_stays}
 use Rattle.every_schedule.proofs.Alikeness.{alike_reports, other_reports, same_lists}
 use Rattle.every_schedule.proofs.Numbered.{is_place, map_get, one_world, picked_is, places_added, places_more, rows_added, world_is, worlds_more}
 
--- an entry is under the limits of its place
+-- an entry keeps the limits of its place
 limits_kept : (k : Limits) (x : Result World RunError) (q : Place) → placed k x ≡ Ok q → q.limits ≡ k
 limits_kept k (Ok w) q e = let same : record { limits = k; world = w } ≡ q = cc in sym (ap (λ (p : Place). p.limits) same)
 limits_kept k (Err d) q e = absurd (cc)
@@ -35,7 +35,7 @@ limits_kept k (Err d) q e = absurd (cc)
 stepped_limits : (p : Place) (f : ℕ) (q : Place) → stepped p f ≡ Ok q → q.limits ≡ p.limits
 stepped_limits p f q e = step_limits p f q e (λ x goes. limits_kept p.limits (entered p.limits (Ok p.world) f) x goes)
 
--- and so are own moves
+-- own moves keep the limits
 once_limits : (p : Place) (o : Option ℕ) → (after_own p o).limits ≡ p.limits
 once_limits p None = refl
 once_limits p (Some f) = by (stepped p f) refl

@@ -1,4 +1,4 @@
--- Fair schedules of a search, said of the core.
+-- Fair schedules of a search, restated for the core.
 use Rattle.std.proofs.Common.{◌≡◌, ◌++◌, ℕ, zero, suc, Bool, true, false, List, [], ◌∷◌, Result, Ok, Err, refl, sym, ap, ◌∙◌, subst}
 use mathlib.Core.Logic.{◌⊎◌, inl, inr}
 use Rattle.derived_ops.specs.Tree.{Tree}
@@ -24,7 +24,7 @@ use Rattle.every_schedule.proofs.Unrest.{final_bare, final_noted}
 abbrev pub Rests : Place → Type 0
 Rests p = IsFinal p.world
 
--- no entry leads from there to a place where one can
+-- each entry leads from there to a place where no fiber can go on
 rest_moved : (p : Place) (f : ℕ) → IsFinal p.world → (x : Place) × (stepped p f ≡ Ok x) × Rests x
 rest_moved p f final = by (moves_at (slice_get p.world.fibers f)) refl
   where
@@ -37,7 +37,7 @@ rest_moved p f final = by (moves_at (slice_get p.world.fibers f)) refl
           final_bare still.world still.final,
         )
 
--- own moves are free, and a world in which no fiber can go on stays so
+-- own moves are free, and a final world stays final
 pub are_right : AreRight stepped (MayOwn true) Rests
 are_right = record { free = may_are_free true; rest = rest_moved }
 
@@ -49,7 +49,7 @@ over k (Err e) h = tt
 pub ends : (code : Tree) (k : Limits) (s : ℕ → ℕ) → EndsUnder stepped Rests (first_place code k) s → Ends code k s
 ends code k s h = (h.0, over k (core code k (first_of s h.0)) (subst (IsEnd stepped Rests) (core_run code k (first_of s h.0)) h.1))
 
--- a world that the search has as this place
+-- the core's world at a place of the search
 at_place : (k : Limits) (x : Result World RunError) (p : Place) → bared (placed k x) ≡ Ok p → (w : World) × (x ≡ Ok w) ×
     (record { limits = k; world = unnoted w } ≡ p)
 at_place k (Ok w) p h = (w, refl, (cc))
@@ -58,13 +58,13 @@ at_place k (Err e) p h = absurd (cc)
 same_world : (k : Limits) (v w : World) → (let p : Place = record { limits = k; world = v } in p) ≡ record { limits = k; world = w } → v ≡ w
 same_world k v w h = ap (λ (p : Place). p.world) h
 
--- a cycle leads back however often it is gone round
+-- any number of rounds of a cycle lead back
 round : (cycle : List ℕ) (p : Place) → search.run stepped (Ok p) cycle ≡ Ok p → (n : ℕ) → search.run stepped (Ok p) (repeated cycle n) ≡ Ok p
 round cycle p h zero = refl
 round cycle p h (suc n) =
     run-append stepped (Ok p) (repeated cycle n) cycle ∙ ap (λ x. search.run stepped x cycle) (round cycle p h n) ∙ h
 
--- an entry that changes nothing of the place changes nothing of the world but who was joined
+-- an entry that keeps the place changes only the notes of joins in the world
 stays : (k : Limits) (w : World) (f : ℕ) (x : Result World RunError) → entered k (Ok w) f ≡ x →
     stepped (bare record { limits = k; world = w }) f ≡ Ok (bare record { limits = k; world = w }) → (v : World) → x ≡ Ok v → unnoted v ≡ unnoted w
 stays k w f x is h v to =

@@ -31,14 +31,14 @@ abbrev ended : Option Outcome → ℕ
 ended None = 0
 ended (Some o) = 1
 
--- a fiber counts, and each of its marks, and its outcome
+-- the size of a fiber's report: 1, its number of marks, and 1 for an outcome
 abbrev one_size : FiberReport → ℕ
 one_size r = 1 + length r.marks + ended r.outcome
 
 abbrev GrowsOne : Fiber → Fiber → Type 0
 GrowsOne a b = (fiber_report b ≡ fiber_report a) ⊎ (one_size (fiber_report a) < one_size (fiber_report b))
 
--- what goes on hasn't ended
+-- a fiber that has a next move hasn't ended
 going : (w : Running) (up : List Mask) (l : Look) (c : Move_case) → case_in w up l ≡ c → (c ≡ Rests → ⊥) → outcome_in w ≡ None
 going (Runs t) up l c e h = refl
 going (Final m gs) up l c e h = refl

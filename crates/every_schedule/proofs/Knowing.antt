@@ -1,4 +1,4 @@
--- What is known of states, where it becomes more.
+-- What is known of states, as more becomes known.
 use Rattle.std.proofs.Common.{◌≡◌, ℕ, zero, suc, ◌<◌, refl, lit<, Bool, List, [], ◌∷◌, ◌++◌, length, set, inl, inr, sym, ap, ◌∙◌, subst, arith}
 use Rattle.std.specs.Prelude.{Option, Some, None}
 use Rattle.std.specs.List.{slice_get}
@@ -54,7 +54,7 @@ module _ (g : Fiber) where
   pub tell_none : (xs : List (Option Bool)) → ((i : ℕ) (x : Option Bool) → slice_get xs i ≡ Some x → x ≡ None) → TellUses g xs
   tell_none xs none = λ given named u n b at. let no : Some b ≡ None = none (use_place u n) (Some b) at in absurd (cc)
 
-  -- one use more is known
+  -- one more use is known
   pub tell_set : (xs : List (Option Bool)) (u : Use) (m i : ℕ) (it : Bool) → i ≡ use_place u m → i < length xs → TellUses g xs →
       ((given : Given) → NamedRun given g.running → it ≡ is_some (uses_in u m g.running)) → TellUses g (set xs i (Some it))
   tell_set xs u m i it place low h told = λ given named v n b at. dite (ℕ_discrete (use_place v n) i)
@@ -65,11 +65,11 @@ module _ (g : Fiber) where
       sym one ∙ told given named ∙ ap (λ x. is_some (uses_in x m g.running)) both.0 ∙ ap (λ x. is_some (uses_in v x g.running)) both.1)
       (λ isnt. h given named v n b (sym (set_other xs i (use_place v n) (Some it) isnt) ∙ at))
 
--- of states that are still there the same is known
+-- what is known of states stays right as states are added
 pub known_more : (fs fs' : List Fiber) (ks : List Known) → IsMore fs fs' → AreKnownOf fs ks → AreKnownOf fs' ks
 known_more fs fs' ks more h = λ i k at. let it = h i k at in (it.0, more_get fs fs' i it.0 more it.1, it.2)
 
--- one state more
+-- one more state is known
 pub known_added : (fs : List Fiber) (ks : List Known) (g : Fiber) (k : Known) → slice_get fs (length ks) ≡ Some g → IsKnown g k →
     AreKnownOf fs ks → AreKnownOf fs (ks ++ k ∷ [])
 known_added fs ks g k at is h = λ i x there. elim (get_end ks k x i there) [
@@ -77,7 +77,7 @@ known_added fs ks g k at is h = λ i x there. elim (get_end ks k x i there) [
   | inr last ↦ (g, subst (λ m. slice_get fs m ≡ Some g) (sym last.0) at, subst (IsKnown g) last.1 is)
 ]
 
--- what is known of one state is looked up anew
+-- what is known of one state is replaced
 pub known_set : (fs : List Fiber) (ks : List Known) (g : Fiber) (i : ℕ) (k : Known) → i < length ks → slice_get fs i ≡ Some g → IsKnown g k →
     AreKnownOf fs ks → AreKnownOf fs (set ks i k)
 known_set fs ks g i k low at is h = λ n x there. dite (ℕ_discrete n i)

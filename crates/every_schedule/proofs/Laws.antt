@@ -1,4 +1,4 @@
--- What follows of an exploration that is complete.
+-- What follows from a complete exploration.
 use Rattle.std.proofs.Common.{◌≡◌, ℕ, List, Result, Ok, Err, sym, ◌∙◌, subst}
 use Rattle.std.specs.List.{All}
 use Rattle.cell_registry.specs.declared.limits.Limits.{Limits}
@@ -11,11 +11,11 @@ use Rattle.every_schedule.specs.Explored.{EndAlike, HasNoFault, HasOutcome, IsAn
 use Rattle.every_schedule.proofs.Told.{all_at}
 
 module _ (k : Limits) (answers : List Answer) where
-  -- where no fault is listed none comes
+  -- if no fault is listed, no schedule faults
   pub faultless : (x : Result World RunError) (e : RunError) → IsCovered k answers x → HasNoFault answers → x ≡ Err e → ⊥
   faultless x e h none is = none e (subst (IsCovered k answers) is h)
 
-  -- where all answers end alike, so does what is settled
+  -- if all answers have the same end, each settled world has it
   pub alike : (x : Result World RunError) (end : Result Report RunError) (w : World) → IsCovered k answers x → EndAlike answers end → x ≡ Ok w →
       IsSettled k w → reported (Ok w) ≡ end
   alike x end w h same is settled =
@@ -26,7 +26,7 @@ module _ (k : Limits) (answers : List Answer) where
   listed_ends : (f : ℕ) (end : Result Report RunError) → All (λ a. HasOutcome f a.end) answers → IsListed answers end → HasOutcome f end
   listed_ends f end all h = subst (HasOutcome f) h.3 (all_at (λ a. HasOutcome f a.end) answers h.0 h.1 h.2 all)
 
-  -- where a fiber has ended in each answer, it has ended in what is answered
+  -- if a fiber has ended in each answer, it has ended in each end that is answered
   pub ended : (f : ℕ) (x : Result World RunError) → All (λ a. HasOutcome f a.end) answers → IsAnswered k answers x → HasOutcome f (reported x)
   ended f (Ok w) all h = listed_ends f (reported (Ok w)) all h.1
   ended f (Err e) all h = listed_ends f (Err e) all h

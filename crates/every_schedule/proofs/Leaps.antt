@@ -1,4 +1,4 @@
--- The reduced exploration makes own moves behind each entry, and no others.
+-- The reduced exploration makes only own moves after each entry.
 use Rattle.std.proofs.Common.{◌≡◌, ◌≢◌, ◌⊎◌, inl, inr, ℕ, zero, suc, ◌<◌, ◌≤◌, Bool, true, false, ◌&&◌, length, Some, None}
 use Rattle.std.proofs.Common.{Option, Result, Ok, Err, refl, sym, ap, ◌∙◌, subst}
 use Rattle.std.specs.List.{slice_get}
@@ -30,7 +30,7 @@ pushed_more b n p = refl
 pub pushed_next : (b : Bool) (n m : ℕ) (p q : Place) → n ≡ suc m → q ≡ pushed_once b p → pushed b n p ≡ pushed b m q
 pushed_next b n m p q e h = ap (λ i. pushed b i p) e ∙ pushed_more b m p ∙ ap (pushed b m) (sym h)
 
--- where no own move is made, none is made later
+-- if a round makes no own move, no later round makes one
 pub pushed_stays : (b : Bool) (n : ℕ) (p : Place) → pushed_once b p ≡ p → pushed b n p ≡ p
 unfolding pushed
 pushed_stays b zero p e = refl
@@ -57,7 +57,7 @@ module _ (b : Bool) (p : Place) (f : ℕ) where
   pub fiber_unborn : length p.world.fibers ≤ f → after_own p (own_of b p f) ≡ p
   fiber_unborn past = fiber_none (ap (λ (o : Option Fiber). has_own p.world f o && may_be b o) (slice_get_past p.world.fibers f past))
 
--- such a move is a free one
+-- an own move that is made is free
 pub may_own : (b : Bool) (p : Place) (f : ℕ) (q : Place) → is_made b p.world f ≡ true → stepped p f ≡ Ok q → MayOwn b p f
 may_own b p f q made goes =
     let both = made_parts b p.world f made in
@@ -75,7 +75,7 @@ module _ (b : Bool) (p : Place) where
   led_from q f true e on = led_once q f (stepped p f) e refl on
   led_from q f false e on = on
 
--- ---- those of several fibers
+-- ---- the own moves of several fibers
 pub swept_none : (b : Bool) (p : Place) → swept b 0 p ≡ p
 unfolding swept
 swept_none b p = refl
@@ -110,28 +110,28 @@ leaps_by n p f (Some g) e = behind_leaps n (stepped p f)
 pub leaps : (n : AtOnce) (p : Place) (f : ℕ) → Leaps stepped (MayOwn n.stores) (stepped p f) (leapt n p f)
 leaps n p f = leaps_by n p f (slice_get p.world.fibers f) refl
 
--- it is a reduced system
+-- the reduced exploration is a reduced system
 pub leapt_reduced : (n : AtOnce) → IsReduced stepped (leapt n)
 leapt_reduced n = record { Free = MayOwn n.stores; free = may_are_free n.stores; leaps = leaps n }
 
--- an unborn fiber leaves all as it is
+-- the entry of an unborn fiber changes nothing
 pub leapt_rests : (n : AtOnce) (p : Place) (f : ℕ) → length p.world.fibers ≤ f → leapt n p f ≡ Ok p
 leapt_rests n p f past = ap (leapt_by n p f) (slice_get_past p.world.fibers f past)
 
--- a fiber that is born makes its entry, and behind it own moves
+-- the entry of a born fiber is followed by own moves
 pub leapt_goes : (n : AtOnce) (p : Place) (f : ℕ) (q r : Place) → f < length p.world.fibers → stepped p f ≡ Ok q → r ≡ pushed n.stores n.most q →
     leapt n p f ≡ Ok r
 leapt_goes n p f q r low goes is =
     let born = get_low p.world.fibers f low in
     ap (leapt_by n p f) born.1 ∙ ap (behind n) goes ∙ ap Ok (sym is)
 
--- and a fault stays
+-- a fault of the entry stays
 pub leapt_stops : (n : AtOnce) (p : Place) (f : ℕ) (e : RunError) → f < length p.world.fibers → stepped p f ≡ Err e → leapt n p f ≡ Err e
 leapt_stops n p f e low stops =
     let born = get_low p.world.fibers f low in
     ap (leapt_by n p f) born.1 ∙ ap (behind n) stops
 
--- with no own moves behind it, an entry is as it was
+-- with no own moves after it, an entry leads where it leads in the full search
 pub leapt_none : (p : Place) (f : ℕ) → leapt none_at_once p f ≡ stepped p f
 leapt_none p f = none_by (slice_get p.world.fibers f) refl
   where
@@ -143,7 +143,7 @@ leapt_none p f = none_by (slice_get p.world.fibers f) refl
     none_by None e = sym (unborn_stays p f e)
     none_by (Some g) e = none_behind (stepped p f)
 
--- what isn't want of memory is the fault that is told
+-- an error that isn't `NoMemory` is the fault
 pub refused_with : (d : RunError) (P : Type 0) → d ≢ run.NoMemory → (d ≡ run.NoMemory) ⊎ P → P
 refused_with d P apart (inl memory) = absurd (apart memory)
 refused_with d P apart (inr told) = told
@@ -151,7 +151,7 @@ refused_with d P apart (inr told) = told
 pub refused : (d : RunError) (y : Result Place RunError) → d ≢ run.NoMemory → (d ≡ run.NoMemory) ⊎ (y ≡ Err d) → y ≡ Err d
 refused d y apart h = refused_with d (y ≡ Err d) apart h
 
--- ---- who has a next move
+-- ---- fibers that have a next move
 own_moves_by : (w : World) (f : ℕ) (o : Option Fiber) → slice_get w.fibers f ≡ o → has_own w f o ≡ true →
     (g : Fiber) × (slice_get w.fibers f ≡ Some g) × (wish_of (ask_of g) ≢ Nothing)
 own_moves_by w f None e h = absurd (cc)
@@ -161,7 +161,7 @@ own_moves_by w f (Some g) e h = (g, e, λ none. let no : is_own w f g Nothing �
 pub own_moves : (b : Bool) (p : Place) (f : ℕ) → is_made b p.world f ≡ true → HasMove p.world f
 own_moves b p f made = own_moves_by p.world f (slice_get p.world.fibers f) refl (made_parts b p.world f made).0
 
--- the entry of a fiber that has none changes nothing
+-- the entry of a fiber without a next move changes nothing
 pub none_stays : (p : Place) (f : ℕ) (g : Fiber) → slice_get p.world.fibers f ≡ Some g → wish_of (ask_of g) ≡ Nothing → stepped p f ≡ Ok p
 none_stays p f g at none = idle_stays p f (ap moves_at at ∙ ap wants none)
 

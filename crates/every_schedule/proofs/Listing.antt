@@ -1,4 +1,4 @@
--- Lists that are told one by one.
+-- Answers that get their ends one by one.
 use Rattle.std.proofs.Common.{◌≡◌, inl, inr, ℕ, zero, suc, ◌+◌, List, [], ◌∷◌, ◌++◌, length, refl, sym, ap, ◌∙◌, subst}
 use Rattle.std.proofs.Common.{arith, append_assoc, append-nil, length-append}
 use Rattle.std.specs.Prelude.{Some}
@@ -11,7 +11,7 @@ use Rattle.every_schedule.specs.Places.{Kept}
 use Rattle.every_schedule.specs.Private.Telling.{AreTold, IsTold, IsWithin}
 use Rattle.every_schedule.proofs.Told.{all_at}
 
--- those before the rest are told
+-- the answers before the rest have their ends
 pub record SoFar (kept : Kept) (all rest : List Found) (answers : List Answer) : Type 0 where
   pub before : List Found
   pub is : before ++ rest ≡ all
@@ -60,7 +60,7 @@ module _ (kept : Kept) where
   pub all_told : (all : List Found) (bs : List Answer) → SoFar kept all [] bs → AreTold kept all bs
   all_told all bs far = subst (λ l. AreTold kept l bs) (sym (append-nil far.before) ∙ far.is) far.told
 
-  -- the next one is one of all
+  -- the end of the next answer has the number of a kept world or fault
   pub next_within : (all rest : List Found) (bs : List Answer) (f : Found) → SoFar kept all (f ∷ rest) bs → All (λ a. IsWithin kept a.end) all →
       IsWithin kept f.end
   next_within all rest bs f far h =

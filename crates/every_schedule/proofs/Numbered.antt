@@ -1,4 +1,4 @@
--- Worlds by the numbers of their states, where the states become more.
+-- Worlds by the numbers of their states, as states are added.
 use Rattle.std.proofs.Common.{◌≡◌, inl, inr, ℕ, zero, suc, ◌<◌, List, [], ◌∷◌, ◌++◌, length, map, take, Some, refl, sym, ap, ◌∙◌, subst, arith}
 use Rattle.std.specs.List.{All, slice_get}
 use Rattle.std.specs.Option.{option_to_list}
@@ -24,7 +24,7 @@ picked_is fs (n ∷ ns) (g ∷ gs) h =
     let rest = picked_is fs ns gs record { many = let many = h.many in omega arith; each = λ i m e. h.each (suc i) m e } in
     ap (λ o. option_to_list o ++ picked fs ns) here ∙ ap (λ l. g ∷ l) rest
 
--- the states of such numbers are there
+-- these numbers have states
 pub all_there : (fs : List Fiber) (ns : List ℕ) (gs : List Fiber) → AreAt fs ns gs → All (λ n. n < length fs) ns
 all_there fs ns gs h = all_from (λ n. n < length fs) ns (λ i n e. let at = h.each i n e in slice_get_within fs n at.0 at.2)
 
@@ -39,7 +39,7 @@ module _ (k : Limits) where
       ap (λ (x : List Fiber). record { limits = p.limits; world = world_of x s }) g ∙
       ap (λ (x : Cells). record { limits = p.limits; world = world_of p.world.fibers x }) c
 
-  -- the world that the numbers make is the one that is told of them
+  -- the place of the numbers is the world that they make
   pub world_is : (fs : List Fiber) (rs : List PlainView) (n : Numbers) (p : Place) → IsWorldOf fs rs n p → p.limits ≡ k → place_of k fs rs n ≡ p
   world_is fs rs n p h l =
       rebuilt p (picked fs n.fibers) (cells_in k (slice_get rs n.registry)) l (picked_is fs n.fibers p.world.fibers h.fibers) (ap (cells_in k) h.registry)
@@ -60,7 +60,7 @@ module _ (fs fs' : List Fiber) (rs rs' : List PlainView) (mf : IsMore fs fs') (m
   pub worlds_more : (k : Limits) (rows : List Numbers) → AreWorlds k fs rs rows → AreWorlds k fs' rs' rows
   worlds_more k rows h = λ i n e. is_more k n (h i n e)
 
-  -- worlds stay what they are
+  -- worlds stay the same
   pub places_more : (k : Limits) (rows : List Numbers) → AreWorlds k fs rs rows → map (place_of k fs rs) rows ≡ map (place_of k fs' rs') rows
   places_more k [] h = refl
   places_more k (n ∷ rows) h =
@@ -69,7 +69,7 @@ module _ (fs fs' : List Fiber) (rs rs' : List PlainView) (mf : IsMore fs fs') (m
       sym (world_is k fs' rs' n here.place (of_more n here.place here.is) here.limits) in
       ap (λ x. x ∷ map (place_of k fs rs) rows) same ∙ ap (λ l. place_of k fs' rs' n ∷ l) (places_more k rows (λ i m e. h (suc i) m e))
 
--- two worlds of the same numbers are one
+-- two worlds of the same numbers are equal
 pub one_world : (k : Limits) (fs : List Fiber) (rs : List PlainView) (n : Numbers) (p q : Place) → IsWorldOf fs rs n p → p.limits ≡ k →
     IsWorldOf fs rs n q → q ≡ p
 one_world k fs rs n p q h l g =
@@ -78,7 +78,7 @@ one_world k fs rs n p q h l g =
     let limits : q.limits ≡ k = sym (ap (λ (r : PlainView). r.limits) registries) ∙ l in
     sym (world_is k fs rs n q g limits) ∙ world_is k fs rs n p h l
 
--- a world that is made once more of its numbers
+-- a world that is made again from its numbers is the same
 pub one_rebuilt : (fs fs' : List Fiber) (rs rs' : List PlainView) → IsMore fs fs' → IsMore rs rs' → (n m r : Numbers) (p q : Place) →
     IsWorldOf fs rs n p → m ≡ n → r ≡ m → IsWorldOf fs' rs' r q → q ≡ p
 one_rebuilt fs fs' rs rs' mf mr n m r p q h e d g =
@@ -87,7 +87,7 @@ one_rebuilt fs fs' rs rs' mf mr n m r p q h e d g =
 pub fits_so : (k : Limits) (fs : List Fiber) (rs : List PlainView) (n : Numbers) (q : Place) → IsWorld k fs rs n → IsWorldOf fs rs n q → AllFit q.world
 fits_so k fs rs n q h g = subst (λ (p : Place). AllFit p.world) (sym (one_world k fs rs n h.place q h.is h.limits g)) h.fits
 
--- one more row
+-- a row is added
 pub rows_added : (k : Limits) (fs : List Fiber) (rs : List PlainView) (old new : List Numbers) (n : Numbers) → MayAdd old new n →
     AreWorlds k fs rs old → IsWorld k fs rs n → AreWorlds k fs rs new
 rows_added k fs rs old new n (inl same) h it = subst (AreWorlds k fs rs) (sym same) h

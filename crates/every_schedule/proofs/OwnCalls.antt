@@ -1,4 +1,4 @@
--- The calls that touch the caller's own cell alone: no call of another fiber sees them, or changes what they do.
+-- Own calls: no call of another fiber sees them, or changes what they do.
 use Rattle.std.proofs.Common.{◌≡◌, ◌≢◌, ◌⊎◌, inl, inr, Option, Some, get_or-set_other, ℕ, zero, suc, Bool, true, false, List, [], ◌∷◌, get_or, set, refl, sym, ap, ◌∙◌, subst}
 use mathlib.Core.Logic.{dite}
 use native.Mathlib.Decide.{ℕ_discrete}
@@ -26,13 +26,13 @@ use Rattle.scheduled_core.specs.declared.wish.Wish.{Wish}
 use Rattle.scheduled_core.specs.declared.wish.Wish.TheVariants.{Shared, Alone, Nothing}
 use Rattle.scheduled_core.specs.Finals.{reply_to}
 
--- the call that is wanted isn't refused
+-- the call of this wish isn't refused
 abbrev pub IsAdmitted : Limits → Cells → ℕ → Wish → Type 0
 IsAdmitted k s f (Shared c) = refusal k s f c ≡ None
 IsAdmitted k s f Alone = Unit {0}
 IsAdmitted k s f Nothing = Unit {0}
 
--- the call uses no ref of this number, no deferred, no fiber
+-- the call doesn't store in the ref of this number; further below: it doesn't use the ref, the deferred, the fiber of this number
 abbrev pub IsNoStore : ℕ → Call → Type 0
 IsNoStore r (Set i v) = i ≢ r
 IsNoStore r (Modify i v) = i ≢ r
@@ -58,7 +58,7 @@ IsOffFiber f _ = Unit {0}
 abbrev pub IsFilled : Cells → ℕ → Type 0
 IsFilled s d = (v : ℤ) × (deferred_of s d ≡ Some v)
 
--- a call of another fiber leaves the own call as it is
+-- a call of another fiber changes nothing on which the own call depends
 abbrev pub IsCalm : Cells → ℕ → ℕ → Call → Wish → Type 0
 IsCalm s f g d (Shared Look) = (cell_of (after s g d) f).request ≡ (cell_of s f).request
 IsCalm s f g d (Shared Mask) = Unit {0}
@@ -75,7 +75,7 @@ IsCalm s f g d (Shared (Read i)) = IsFilled s i
 IsCalm s f g d Alone = Unit {0}
 IsCalm s f g d _ = ⊥
 
--- the registry after the call that is wanted
+-- the registry after the call of this wish
 abbrev pub left_by : Cells → ℕ → Wish → Cells
 left_by s f (Shared c) = after s f c
 left_by s f Alone = s
@@ -99,7 +99,7 @@ apart_set (a ∷ l) zero (suc j) x y apart = refl
 apart_set (a ∷ l) (suc i) zero x y apart = refl
 apart_set (a ∷ l) (suc i) (suc j) x y apart = ap (λ m. a ∷ m) (apart_set l i j x y (λ e. apart (ap suc e)))
 
--- an element that is put where it is
+-- an element that is set to itself
 same_set : {A : Type 0} (l : List A) (i : ℕ) (d : A) → set l i (get_or l i d) ≡ l
 same_set [] i d = refl
 same_set (a ∷ l) zero d = refl
@@ -137,14 +137,14 @@ no_store r (Set i v) h = h
 no_store r (Modify i v) h = h
 no_store r _ h = tt
 
--- what others are told of a cell
+-- what other fibers see of a cell
 abbrev told_at : Stage → Bool → Bool × CancelReply × JoinReply
 told_at g b = (b, cancel_reply g b, join_reply g)
 
 abbrev told : Cell → Bool × CancelReply × JoinReply
 told c = told_at c.stage c.request
 
--- what is asked of a fiber that has ended is answered so
+-- a request of a fiber that has ended gets the same reply as before
 ended_told : (g : Stage) (b c : Bool) → has_ended g ≡ true → cancel_reply g b ≡ cancel_reply g c
 ended_told Running b c h = absurd (cc)
 ended_told Finalizing b c h = absurd (cc)
@@ -198,7 +198,7 @@ module _ (s : Cells) (f g : ℕ) (d : Call) (apart : g ≢ f) where
   own_reply Alone own = refl
   own_reply _ own = absurd own
 
-  -- what another one is answered, where its own part is as it was
+  -- a call of fiber g is refused as before, where g's own part of the cell and the numbers given are as before
   refused_so : (k : Limits) (t : Cells) → owned (cell_of t g) ≡ owned (cell_of s g) → t.next_fiber ≡ s.next_fiber → t.next_ref ≡ s.next_ref →
       t.next_deferred ≡ s.next_deferred → (c : Call) → refusal k t g c ≡ refusal k s g c
   unfolding refusal
@@ -257,7 +257,7 @@ module _ (s : Cells) (f g : ℕ) (d : Call) (apart : g ≢ f) where
   told_so cells h (Complete i v) = refl
   told_so cells h (Read i) = refl
 
-  -- who asks for no end of this cell is answered the same, whatever becomes of it
+  -- a call that neither requests nor joins this fiber gets the same reply, whatever its cell is
   off_cell : (c : Cell) → (d' : Call) → IsOffFiber f d' → reply_of (with_cell s f c) g d' ≡ reply_of s g d'
   unfolding reply_of
   off_cell c Start h = refl
@@ -266,7 +266,7 @@ module _ (s : Cells) (f g : ℕ) (d : Call) (apart : g ≢ f) where
   off_cell c Look h = ap (λ (x : Cell). reply.Seen x.request) (get_or-set_other s.cells f g c fresh apart)
   off_cell c _ h = refl
 
-  -- a request of a fiber that has ended, of which only its own look would see
+  -- a request of a fiber that has ended, which only its own look would see
   asked_end : (i : ℕ) → g ≢ i → has_ended (cell_of s i).stage ≡ true → (d' : Call) → reply_of (with_cell s i (requested (cell_of s i))) g d' ≡ reply_of s g d'
   unfolding reply_of
   asked_end i other ended Start = refl
@@ -316,7 +316,7 @@ module _ (s : Cells) (f g : ℕ) (d : Call) (apart : g ≢ f) where
   other_reply Alone own = refl
   other_reply _ own = absurd own
 
-  -- a change of a cell that commutes with all others, and a call of another fiber
+  -- a change of a cell that commutes with a call of another fiber
   record Commuting (p : Cell → Cell) (i : ℕ) : Type 0 where
     pub request : (c : Cell) → p (requested c) ≡ requested (p c)
     pub wait : (c : Cell) → p (awaited c) ≡ awaited (p c)
@@ -342,7 +342,7 @@ module _ (s : Cells) (f g : ℕ) (d : Call) (apart : g ≢ f) where
   swaps_so p i h (Complete j v) = refl
   swaps_so p i h (Read j) = refl
 
-  -- that of the own cell
+  -- a change of the own cell
   own_cell : (p : Cell → Cell) → ((c : Cell) → p (requested c) ≡ requested (p c)) → ((c : Cell) → p (awaited c) ≡ awaited (p c)) → Commuting p f
   own_cell p r w = record { request = r; wait = w; own = λ e. absurd (apart (sym e)) }
 

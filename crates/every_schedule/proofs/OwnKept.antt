@@ -1,4 +1,4 @@
--- An own move stays one, whatever another fiber does.
+-- An own move stays an own move, whatever another fiber does.
 use Rattle.std.proofs.Common.{◌≡◌, ◌≢◌, ◌⊎◌, inl, inr, ℕ, zero, suc, ◌+◌, ◌<◌, ◌≤◌, nat_eq, nat_lt, Bool, true, false, not, ◌&&◌, ◌||◌, List, [], ◌∷◌, ◌++◌, set, Some, None, Option, refl, sym, ap, ap₂, ◌∙◌, subst, arith, get_or-set_other, append-nil}
 use Rattle.std.specs.Prelude.{is_none, ℤ}
 use Rattle.std.specs.List.{slice_get}
@@ -106,7 +106,7 @@ module _ (p : Fiber → Bool) (f : ℕ) where
   others_born gs b Start q all so = others_more gs 0 (child b (number_in q)) all (so refl)
   others_born gs b _ q all so = ap (others p f 0) (append-nil gs) ∙ all
 
--- ---- who leaves a fiber alone
+-- ---- fibers that leave a fiber alone
 move_number : (b : Fiber) (q : Reply) → (move b q).number ≡ b.number
 move_number b q = go (move_case b)
   where
@@ -116,7 +116,7 @@ move_number b q = go (move_case b)
     go Reduces = refl
     go Rests = refl
 
--- ---- who keeps off a number
+-- ---- fibers that keep off a number
 module _ (u : Use) (n : ℕ) (b : Fiber) (keeps_off : keeps u n b ≡ true) where
   spares : Spares u n b.running
   spares = not_some (uses_in u n b.running) keeps_off
@@ -130,7 +130,7 @@ module _ (u : Use) (n : ℕ) (b : Fiber) (keeps_off : keeps u n b ≡ true) wher
   pub asks_apart : AskApart u n b.number (ask_of b)
   asks_apart = unused_ask u n b spares
 
--- the numbers that are given are others
+-- a number that is given later is another one
 module _ (u : Use) (n : ℕ) (s : Cells) (g : ℕ) (low : n < next_of (used_place u) s) where
   number_apart : (a : Ask) (d : Call) → wish_of a ≡ Shared d → NumberApart u n a (reply_of s g d)
   unfolding reply_of
@@ -183,7 +183,7 @@ unfolding reply_of
 start_reply s g Start e = refl
 start_reply s g _ e = absurd (cc)
 
--- a call that is no request leaves that of a cell as it is
+-- a call that isn't a request keeps the request of a cell
 request_same : (s : Cells) (f g : ℕ) (d : Call) → d ≢ Cancel f → (cell_of (after s g d) f).request ≡ (cell_of s f).request
 unfolding after
 request_same s f g (Cancel i) none = ap (λ (c : Cell). c.request) (get_or-set_other s.cells i f (requested (cell_of s i)) fresh (λ e. none (ap Cancel (sym e))))
@@ -194,7 +194,7 @@ request_same s f g Cut none = get_or-set_kept (λ (c : Cell). c.request) s.cells
 request_same s f g (Finish o) none = get_or-set_kept (λ (c : Cell). c.request) s.cells g (finished o (cell_of s g)) fresh refl f
 request_same s f g _ none = refl
 
--- the ask of a wanted call
+-- the ask for a call
 abbrev pub ask_for : Call → Ask
 ask_for Start = ask.Start
 ask_for (Cancel f) = ask.Cancel f
@@ -228,7 +228,7 @@ asked_for _ d e = e
 pub asked_so : (a : Ask) (d : Call) → wish_of a ≡ Shared d → a ≡ ask_for d
 asked_so a d is = asked_for a d (ap ask_in is)
 
--- what keeps off a number
+-- calls that keep off a number
 no_request : (f i : ℕ) → i ≢ f → (d : Call) → AskApart Cancels f i (ask_for d) → d ≢ Cancel f
 no_request f i other d apart = λ e. elim ((subst (λ c. AskApart Cancels f i (ask_for c)) e apart) refl) [
   | inl own ↦ other (sym own)
@@ -302,7 +302,7 @@ module _ (w : World) (f g : ℕ) (b : Fiber) (apart : g ≢ f) (at : slice_get w
         and_true (nat_lt n (next_of (used_place u) w.cells)) (others (keeps u n) f 0 (set w.fibers g (silent_move b))) two.0
         (others_set (keeps u n) f w.fibers 0 g (silent_move b) two.1 (keeps_move u n b keeps_off reply.Done (silent_apart u n (ask_of b) reply.Done is)))
 
-  -- ---- the fiber, which nobody else can request
+  -- ---- fiber f, whose cancellation no other fiber can request
   module _ (left : is_left_alone w f ≡ true) where
     abbrev parts : (is_kept Cancels w f f ≡ true) × (others (is_another f) f 0 w.fibers ≡ true)
     parts = both_true (is_kept Cancels w f f) (others (is_another f) f 0 w.fibers) left

@@ -1,4 +1,4 @@
--- Rows of numbers, where one more comes behind them.
+-- Rows of numbers, as one more row is added.
 use Rattle.std.proofs.Common.{◌≡◌, ℕ, suc, ◌+◌, ◌-◌, ◌≤◌, List, [], ◌∷◌, ◌++◌, length, map, take, drop, inl, inr, refl, sym, ap, ◌∙◌, subst, arith}
 use Rattle.std.specs.Prelude.{Result, Ok, Err, OnErr}
 use Rattle.std.proofs.lemmas.List.{drop-append-le, drop_at, length-drop, take-append-le, take_all}
@@ -17,7 +17,7 @@ part_last : (ns fs : List ℕ) (a b : ℕ) → a ≡ length ns → b ≡ length 
 part_last ns fs a b begin end =
     ap (take (b - a)) (drop_at ns fs a (sym begin)) ∙ take_all (b - a) fs (omega arith)
 
--- rows stay what they are
+-- rows stay the same as numbers are added
 pub rows_more : (ns more : List ℕ) (hs : List Head) → AreWithin (length ns) hs → map (row_of (ns ++ more)) hs ≡ map (row_of ns) hs
 rows_more ns more [] w = refl
 rows_more ns more (h ∷ hs) w =
@@ -35,7 +35,7 @@ within_added n hs h w it = λ i x e. elim (get_end hs h x i e) [
   | inr last ↦ subst (IsWithin n) last.1 it
 ]
 
--- one more row
+-- a row is added
 pub rows_with : (ns fs : List ℕ) (hs : List Head) (h : Head) → h.begin ≡ length ns → h.end ≡ length ns + length fs → AreWithin (length ns) hs →
     map (row_of (ns ++ fs)) (hs ++ h ∷ []) ≡ map (row_of ns) hs ++ record { registry = h.registry; fibers = fs } ∷ []
 rows_with ns fs hs h begin end w =
@@ -49,7 +49,7 @@ gone r fs n same are =
     sym (ap (λ (i : ℕ). let m : Numbers = record { registry = i; fibers = fs } in m) same ∙
     ap (λ (l : List ℕ). let m : Numbers = record { registry = n.registry; fibers = l } in m) are)
 
--- what holds anyway holds after an error
+-- what holds in any case holds after an error
 pub on_err : {T E : Type 0} (r : Result T E) (P : Type 0) → P → OnErr r P
 on_err (Ok x) P p = tt
 on_err (Err e) P p = p

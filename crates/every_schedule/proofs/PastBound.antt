@@ -1,4 +1,4 @@
--- What is left out for its length is told to be there: with it, what is found is told as ever.
+-- An answer that is left out for its length leads to an end that isn't listed: it is added to the others, and ends stay apart.
 use Rattle.std.proofs.Common.{◌≡◌, ◌≢◌, ℕ, zero, suc, ◌+◌, List, ◌∷◌, length, Result, Ok, Err, refl, sym, ap, ◌∙◌, subst, arith}
 use Rattle.std.specs.Prelude.{Some}
 use Rattle.std.specs.List.{All, slice_get}
@@ -22,7 +22,7 @@ use Rattle.every_schedule.specs.Private.Trails.{AreUnfolded, EndApart, EndsAlone
 use Rattle.every_schedule.proofs.Told.{all_at, first_moves, once, reached}
 use Rattle.every_schedule.proofs.Trails.{right, unfolded_once}
 
--- what comes of where a schedule leads
+-- the report or fault to which a schedule leads
 end_of : (kept : Kept) (first : Place) (s : List ℕ) (l : Landing) → search.LeadsTo stepped report_at kept.places kept.faults first s l →
     (end : Result Report RunError) × IsEnd kept l end
 end_of kept first s (to.World j) h = (Ok (report_at h.0), (h.0, h.1, refl))
@@ -30,7 +30,7 @@ end_of kept first s (to.Fault j) h = (Err h.0, (h.0, h.1, refl))
 
 module _ (n : AtOnce) (most : ℕ) (first : Place) (raw found : List Found) (a : Found) (each : AreUnfolded n most first raw found)
     (out : IsLeftOut n most first raw a) where
-  -- with more entries, it is one of them
+  -- with a higher bound on entries, the answer that was left out is among the others
   all_unfolded : AreUnfolded n (most + length a.schedule.items) first raw (a ∷ found)
   all_unfolded zero x e = subst (IsUnfoldedOf n (most + length a.schedule.items) first raw) (same_Some a x e) (record {
     number = out.number;
@@ -69,7 +69,7 @@ all_told kept found answers a one is told = record {
   each_told zero f b ef eb = subst (λ x. IsTold kept x b) (same_Some a f ef) (subst (IsTold kept a) (same_Some one b eb) is)
   each_told (suc i) f b ef eb = told.each i f b ef eb
 
--- what is left out leads to an end that isn't listed
+-- an answer that is left out leads to an end that isn't listed
 pub past_bound : (code : Tree) (k : Limits) (kept : Kept) (n : AtOnce) (most : ℕ) (raw found : List Found) (answers : List Answer) (a : Found) →
     AreTold kept found answers → AreSingle kept.faults → AreUnfolded n most (first_place code k) raw found →
     All (search.IsRight (leapt n) report_at kept.places kept.faults (first_place code k)) raw →

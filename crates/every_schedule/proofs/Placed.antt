@@ -12,7 +12,7 @@ use Rattle.world_search.specs.Systems as search
 use Rattle.every_schedule.specs.Places.{Place, bare, bared, first_place, placed, report_at, stepped, unnoted}
 use Rattle.every_schedule.proofs.Bare.{bare_step}
 
--- a schedule leads to the place of the world to which it leads, without its notes of joins
+-- a schedule leads in the search to the place of the core's world, without the notes of joins
 pub placed_run : (k : Limits) (x : Result World RunError) (s : List ℕ) →
     search.run stepped (bared (placed k x)) s ≡ bared (placed k (fold (entered k) x s))
 placed_run k x [] = refl
@@ -31,7 +31,7 @@ core_run code k s =
     ap (λ (p : Place). search.run stepped (Ok p) s) (sym (first_bare code k))
     ∙ placed_run k (Ok (first_world code k)) s
 
--- with the same report
+-- the reports are the same
 reported_placed : (k : Limits) (x : Result World RunError) → search.reported stepped report_at (bared (placed k x)) ≡ reported x
 reported_placed k (Ok w) = refl
 reported_placed k (Err e) = refl

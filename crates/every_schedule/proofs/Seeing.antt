@@ -133,7 +133,7 @@ module _ (k : Limits) where
   abbrev seen_next : World → List ℕ → ℕ → List ℕ
   seen_next w seen f = noted seen (stored_by (slice_get w.fibers f))
 
-  -- the entries lead in the core to the world of the view, and set what was set since
+  -- the entries lead in the core to the world of the view, and set the refs that the view has and `seen` hasn't
   record IsOfCore (w : World) (seen s : List ℕ) (u : View) : Type 0 where
     pub world : World
     pub led : fold (entered k) (Ok w) s ≡ Ok world
@@ -173,7 +173,7 @@ module _ (k : Limits) where
       sound_next s w seen f u (λ x now. sound s x now u) (entered k (Ok w) f) refl
       (ap (λ y. run (viewed stepped) (seeing (seen_next w seen f) y) s) (sym (bare_step (record { limits = k; world = w }) f)) ∙ e)
 
-  -- and the other way round
+  -- where entries lead in the core, they lead in the search, with each ref that was set
   abbrev Leads : World → List ℕ → List ℕ → World → Type 0
   Leads w seen s v = (u : View) × (run (viewed stepped) (Ok (seen_at w seen)) s ≡ Ok u) × (u.place ≡ at v) ×
       ((r : ℕ) → (has r seen ≡ true) ⊎ WasSet k r w s → has r u.seen ≡ true)

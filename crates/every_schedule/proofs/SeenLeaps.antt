@@ -1,5 +1,5 @@
--- What a reduced search for claims leaves out: own moves that set no ref and change none are free where the refs that were
--- set are kept beside each world, and they keep what claims look at.
+-- What a reduced search for claims leaves out: own moves that set or change no ref are free, also with the list of the refs that were set, and they change
+-- nothing that claims compare.
 use Rattle.std.proofs.Common.{◌≡◌, ◌≢◌, ℕ, ◌&&◌, Bool, true, false, is_none, List, [], ◌∷◌, ◌++◌, set, append-nil, Some, None, Option, Result, Ok, Err}
 use Rattle.std.proofs.Common.{refl, sym, ap, ap₂, ◌∙◌, subst}
 use Rattle.std.specs.Prelude.{ℤ}
@@ -68,7 +68,7 @@ unborn_stays_so p q f g apart own none e = elim (enters p f q e) [
       (none_turned p.limits p.world f g apart none (slice_get p.world.fibers f) own x goes)
 ]
 
--- the other fiber stores behind an own move what it stores before it
+-- the other fiber stores in the same ref before and after an own move
 stores_same : (p q : Place) (f g : ℕ) → f ≢ g → has_own p.world f (slice_get p.world.fibers f) ≡ true → stepped p f ≡ Ok q →
     stored_by (slice_get q.world.fibers g) ≡ stored_by (slice_get p.world.fibers g)
 stores_same p q f g apart own e = by (slice_get p.world.fibers g) refl
@@ -77,7 +77,7 @@ stores_same p q f g apart own e = by (slice_get p.world.fibers g) refl
     by None at = ap stored_by (unborn_stays_so p q f g apart own at e)
     by (Some a) at = ap stored_by (other_stays p q f g apart a at e)
 
--- ---- what stores in no ref keeps the values of all
+-- ---- a call that stores in no ref keeps the values of all refs
 abbrev IsStill : Call → Type 0
 IsStill d = stored_in (Shared d) ≡ None
 
@@ -118,7 +118,7 @@ refs_stay p q f still e = elim (enters p f q e) [
       refs_turned p.limits p.world f (slice_get p.world.fibers f) still x goes
 ]
 
--- the truth of words is one of the values of refs
+-- the truth of words depends only on the values of refs
 worded_refs : (s t : Cells) → s.refs ≡ t.refs → (stack : List Bool) (word : ClaimWord) → worded s stack word ≡ worded t stack word
 worded_refs s t same stack (Compare r how v) = ap (λ (l : List ℤ). worded (record { next_fiber = 0; next_ref = 0; next_deferred = 0; cells = []; refs = l; deferreds = [] }) stack (Compare r how v)) same
 worded_refs s t same stack Not = refl
@@ -212,7 +212,7 @@ keeps_claims words v f x h e =
     (holds_refs x.place.world.cells v.place.world.cells
     (refs_stay v.place x.place f (no_store (slice_get v.place.world.fibers f) h.may) is.0) words)
 
--- what no world of the reduced search meets, no world meets
+-- a claim that no world of the reduced search meets is met by no world
 pub unmet_all : (words : List ClaimWord) (first : View) →
     ((t : List ℕ) (w : View) → run (viewed (leapt hundred_still)) (Ok first) t ≡ Ok w → is_met w words ≡ false) →
     (s : List ℕ) (w : View) → run (viewed stepped) (Ok first) s ≡ Ok w → is_met w words ≡ false

@@ -134,7 +134,7 @@ module _ (k : Limits) (fs : List Fiber) (rs : List PlainView) (m : Numbers) (h :
   pub stored_is : it ≡ stored_by (slice_get p.world.fibers f)
   stored_is = stored_by_number (slice_get m.fibers f) refl ∙ ap (λ (q : Place). stored_by (slice_get q.world.fibers f)) here
 
--- an unborn fiber leaves all as it is
+-- the entry of an unborn fiber changes nothing
 pub view_rests : (w : View) (p : Place) (seen : List ℕ) (f : ℕ) → record { place = p; seen = seen } ≡ w → length p.world.fibers ≤ f →
     viewed (leapt hundred_still) w f ≡ Ok w
 view_rests w p seen f is past =

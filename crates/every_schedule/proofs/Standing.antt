@@ -1,4 +1,4 @@
--- The world of the numbers of its fibers' states, beside its registry.
+-- The world of the numbers of its fibers' states and its registry.
 use Rattle.std.proofs.Common.{◌≡◌, ℕ, zero, suc, ◌+◌, ◌<◌, true, List, take, [], ◌∷◌, ◌++◌, length, set, inl, inr, refl, sym, ap, ◌∙◌, subst, arith, length-append, append-nil}
 use Rattle.std.specs.Prelude.{Option, Some, None, Ok, Err}
 use Rattle.std.specs.Option.{option_to_list}
@@ -75,7 +75,7 @@ low_more fs fs' ns more all = low_at fs' ns (picked fs ns) (at_more fs fs' ns (p
 pub picked_more : (fs fs' : List Fiber) (ns : List ℕ) → IsMore fs fs' → All (λ n. n < length fs) ns → picked fs' ns ≡ picked fs ns
 picked_more fs fs' ns more all = picked_is fs' ns (picked fs ns) (at_more fs fs' ns (picked fs ns) more (picked_at fs ns all))
 
--- ---- the numbers behind a move
+-- ---- the numbers after a move
 append_get : {A : Type 0} (xs ys : List A) (i : ℕ) → i < length xs → slice_get (xs ++ ys) i ≡ slice_get xs i
 append_get [] ys i low = absurd (omega arith)
 append_get (x ∷ xs) ys zero low = refl
@@ -124,7 +124,7 @@ set_append [] ys i x low = absurd (omega arith)
 set_append (y ∷ xs) ys zero x low = refl
 set_append (y ∷ xs) ys (suc i) x low = ap (λ l. y ∷ l) (set_append xs ys i x (omega arith))
 
--- the fibers of the numbers behind a move
+-- the fibers of the numbers after a move
 module _ (fs : List Fiber) (ns : List ℕ) (all : All (λ n. n < length fs) ns) (i state : ℕ) (at : slice_get ns i ≡ Some state) (r : Reply)
     (t : Turn) (it : IsMoved fs state r t) where
   abbrev after : List ℕ
@@ -168,7 +168,7 @@ module _ (fs fs' : List Fiber) (ns : List ℕ) (all : All (λ n. n < length fs) 
   pub behind_low : All (λ n. n < length fs') (set (ns ++ option_to_list t.child) f t.state)
   behind_low = low_after fs' ns now_low f n at r t it
 
--- a fiber that has a next move is there
+-- a fiber that has a next move is born
 pub moves_there : (gs : List Fiber) (f : ℕ) (o : Option Fiber) → slice_get gs f ≡ o → moves_at o ≡ true → f < length gs
 moves_there gs f None e m = absurd (cc)
 moves_there gs f (Some g) e m = slice_get_within gs f g e

@@ -1,5 +1,4 @@
--- Own moves that may be made at once, where those that set a ref or change it may not be: they are free, too, and the
--- values of refs stay.
+-- Own moves that are allowed at once when those that set or change a ref aren't: they are free, and keep the values of refs.
 use Rattle.std.proofs.Common.{◌≡◌, ◌≢◌, ℕ, Bool, true, false, ◌&&◌, set, Some, None, Option, Result, Ok, Err, refl, sym, ap, ◌∙◌, subst}
 use Rattle.std.specs.List.{slice_get}
 use Rattle.fiber_frames.specs.Fiber.{Fiber, ask_of, move, silent_move}
@@ -56,7 +55,7 @@ other_stays p q g f apart a at e = elim (enters p g q e) [
       (other_turned p.limits p.world g f apart a at (slice_get p.world.fibers g) x goes)
 ]
 
--- ---- they are free
+-- ---- these moves are free
 born_of : (w : World) (f : ℕ) (o : Option Fiber) → has_own w f o ≡ true → (a : Fiber) × (o ≡ Some a)
 born_of w f None e = absurd (cc)
 born_of w f (Some a) e = (a, refl)

@@ -1,4 +1,4 @@
--- What a search promises of its answers, said of the answers that are told.
+-- What a search promises of its answers, for the answers with their reports and faults.
 use Rattle.std.proofs.Common.{◌≡◌, ◌≢◌, inl, inr, ℕ, ◌+◌, ◌<◌, ◌≤◌, List, [], ◌∷◌, length, refl, Result, Ok, Err, sym, ap, ◌∙◌, subst, arith, get_or}
 use Rattle.std.specs.Prelude.{Some, IfOk}
 use Rattle.std.specs.List.{All, slice_get}
@@ -36,7 +36,7 @@ at_within xs i h = elim ((slice_get_cases xs i).1) [
   | inr past ↦ absurd (omega arith)
 ]
 
--- what is right of an answer of a search has numbers that are there
+-- the end of a right answer has the number of a kept world or fault
 within : (kept : Kept) (first : Place) (s : List ℕ) (l : Landing) → search.LeadsTo stepped report_at kept.places kept.faults first s l → IsWithin kept l
 within kept first s (to.World j) h = slice_get_within kept.places j h.0 h.1
 within kept first s (to.Fault j) h = slice_get_within kept.faults j h.0 h.1
@@ -52,7 +52,7 @@ same_ok r s e = cc
 same_err : (d e : RunError) → (let x : Result Report RunError = Err d in x) ≡ Err e → d ≡ e
 same_err d e h = cc
 
--- ends that are apart are told otherwise
+-- ends that are apart are different reports or faults
 ends_apart : (kept : Kept) → AreSingle kept.faults → (l m : Landing) (x y : Result Report RunError) → search.AreApart report_at kept.places l m →
     IsEnd kept l x → IsEnd kept m y → x ≢ y
 ends_apart kept single (to.World i) (to.World j) x y apart e f = λ same.
@@ -63,7 +63,7 @@ ends_apart kept single (to.Fault i) (to.Fault j) x y apart e f = λ same.
     let is : f.0 ≡ e.0 = sym (same_err e.0 f.0 (sym e.2 ∙ same ∙ f.2)) in
     apart (single i j e.0 e.1 (subst (λ (d : RunError). slice_get kept.faults j ≡ Some d) is f.1))
 
--- entries of fibers that have a next move at a place are such entries at its world
+-- entries of fibers that have a next move in the search are so in the core
 made_moves : (k : Limits) (w : World) (s : List ℕ) → AreMade record { limits = k; world = unnoted w } s → AreMoves k w s
 made_moves k w [] h = tt
 made_moves k w (f ∷ s) h = (
@@ -75,7 +75,7 @@ made_moves k w (f ∷ s) h = (
 pub first_moves : (code : Tree) (k : Limits) (s : List ℕ) → AreMade (first_place code k) s → AreMoves k (first_world code k) s
 first_moves code k s h = made_moves k (first_world code k) s (subst (λ (p : Place). AreMade p s) (sym (first_bare code k)) h)
 
--- who may stand before whom in a search may do so where they are told
+-- the order of answers in a search is that of their reports and faults
 may_precede : (kept : Kept) (l m : Landing) (x y : Result Report RunError) (i j : ℕ) → rank_of l ≤ rank_of m → (rank_of l ≡ rank_of m → i ≤ j) →
     IsEnd kept l x → IsEnd kept m y → MayPrecede x i j y
 may_precede kept (to.World a) (to.World b) x y i j rank short e f =
@@ -87,7 +87,7 @@ may_precede kept (to.Fault a) (to.Fault b) x y i j rank short e f =
     subst (λ z. MayPrecede z i j y) (sym e.2) (subst (λ z. MayPrecede (Err e.0) i j z) (sym f.2) (short refl))
 
 module _ (kept : Kept) (found : List Found) (answers : List Answer) (told : AreTold kept found answers) where
-  -- an end of the search is the end that is told
+  -- the end of an answer is what the core reports
   ends_as : (k : Limits) (l : Landing) (x : Result World RunError) (end : Result Report RunError) →
       search.Tells stepped report_at kept.places kept.faults l (bared (placed k x)) → IsEnd kept l end → end ≡ reported x
   ends_as k (to.World j) (Ok w) end h e =
@@ -97,7 +97,7 @@ module _ (kept : Kept) (found : List Found) (answers : List Answer) (told : AreT
   ends_as k (to.Fault j) (Ok w) end h e = absurd h
   ends_as k (to.Fault j) (Err d) end h e = e.2 ∙ ap Err (same_Some e.0 d (sym e.1 ∙ h))
 
-  -- what is found is told
+  -- an end that the search found is listed
   listed : (k : Limits) (x : Result World RunError) → search.IsAnswered stepped report_at kept.places kept.faults found (bared (placed k x)) →
       IsListed answers (reported x)
   listed k x h =
@@ -114,7 +114,7 @@ module _ (kept : Kept) (found : List Found) (answers : List Answer) (told : AreT
   answered k (Ok w) h = (settles k w h.0, listed k (Ok w) h.1)
   answered k (Err e) h = listed k (Err e) h
 
-  -- where a schedule leads that is found, and its end as it is told
+  -- the end that was found is where a schedule leads in the core
   abbrev leads_to : (k : Limits) (x : Result World RunError) → Landing → Type 0
   leads_to k x (to.World j) = (p : Place) × (slice_get kept.places j ≡ Some p) × (bared (placed k x) ≡ Ok p) × systems.IsSettled stepped report_at p
   leads_to k x (to.Fault j) = (e : RunError) × (slice_get kept.faults j ≡ Some e) × (bared (placed k x) ≡ Err e)
@@ -137,7 +137,7 @@ module _ (kept : Kept) (found : List Found) (answers : List Answer) (told : AreT
   leads code k s (to.World j) h = (h.0, h.1, sym (core_run code k s) ∙ h.2, h.3)
   leads code k s (to.Fault j) h = (h.0, h.1, sym (core_run code k s) ∙ h.2)
 
-  -- an answer that is told was found
+  -- each answer with its end was found
   found_at : (i : ℕ) (a : Answer) → slice_get answers i ≡ Some a → (f : Found) × (slice_get found i ≡ Some f) × IsTold kept f a
   found_at i a e =
       let low : i < length found = subst (λ n. i < n) told.many (slice_get_within answers i a e) in

@@ -1,4 +1,4 @@
--- Trails that go on, and the answers of the reduced search with the entries of their schedules one by one.
+-- Trails that get longer, and the unfolded answers of the reduced search.
 use Rattle.std.proofs.Common.{◌≡◌, ◌≢◌, ◌⊎◌, inl, inr, ℕ, suc, Bool, ◌+◌, ◌<◌, ◌≤◌, List, [], ◌∷◌, ◌++◌, length, Some, Result, Ok, Err, refl, sym}
 use Rattle.std.proofs.Common.{ap, ◌∙◌, subst, arith, append-nil, append_assoc, get_or}
 use Rattle.std.specs.List.{All, slice_get, swap}
@@ -100,7 +100,7 @@ own_more stores old mid new p q r a b = record {
   moves = made_append p q a.added b.added a.moves (led_run stepped (MayOwn stores) a.added p q a.led) b.moves;
 }
 
--- ---- an entry with own moves behind it
+-- ---- an entry followed by own moves
 module _ (n : AtOnce) (p : Place) (f : ℕ) where
   abbrev Behind : List ℕ → Result Place RunError → Type 0
   Behind made y = IsBehind stepped (MayOwn n.stores) made y (leapt n p f)
@@ -167,7 +167,7 @@ module _ (n : AtOnce) (p : Place) (f : ℕ) where
         }
     leap_stops e (inr none) stops to = let no : Ok p ≡ Err e = sym none.1 ∙ stops in absurd (cc)
 
--- the entries of it
+-- an entry and the own moves after it are a trail
 pub leap_trail : (n : AtOnce) (old new : List ℕ) (p : Place) (f : ℕ) (y : Result Place RunError) → IsLeapTrail n old new p f → leapt n p f ≡ y →
     IsTrail old new p y
 leap_trail n old new p f y t e = record { added = t.added; is = t.is; leads = t.makes.leads ∙ e; few = t.few; moves = t.moves }
@@ -260,7 +260,7 @@ module _ (kept : Kept) (first : Place) (n : AtOnce) (most : ℕ) (found answers 
         (on.0, end_so (run stepped (Ok first) (s ++ on.0)) on.1)
 
 -- ---- ends at different numbers
--- each of these answers ends as one of the first n that were found
+-- each of these answers has the end of one of the first n that were found
 abbrev pub EndsBefore : List Found → ℕ → List Found → Type 0
 EndsBefore found n answers = (k : ℕ) (a : Found) → slice_get answers k ≡ Some a → (m : ℕ) × (b : Found) × (m < n) × (slice_get found m ≡ Some b) ×
     (a.end ≡ b.end)
@@ -296,7 +296,7 @@ apart_next found old n it one at same all before h i j a b ei ej is = elim (get_
   ]
 ]
 
--- none that ends as one of the first n ends as the one behind them
+-- no answer with the end of one of the first n has the end of the next one
 pub alone_here : (found old : List Found) (n : ℕ) (it one : Found) → slice_get found n ≡ Some it → one.end ≡ it.end → EndApart found →
     EndsBefore found n old → EndsAlone one old
 alone_here found old n it one at same all before = all_from (λ b. b.end ≢ one.end) old (λ k b e is.
@@ -305,7 +305,7 @@ alone_here found old n it one at same all before = all_from (λ b. b.end ≢ one
     let there = all u.0 n u.1 it u.3 at (sym u.4 ∙ is ∙ same) in
     absurd (omega arith))
 
--- nor does the one behind them end as one of the first
+-- the next answer has no end of the first n
 pub alone_next : (found old : List Found) (m n : ℕ) (was it a one : Found) → m < n → slice_get found m ≡ Some was → a.end ≡ was.end →
     slice_get found n ≡ Some it → one.end ≡ it.end → EndApart found → EndsAlone a old → EndsAlone a (old ++ one ∷ [])
 alone_next found old m n was it a one low before so at same all alone = All-push (λ b. b.end ≢ a.end) old one alone
@@ -314,7 +314,7 @@ alone_next found old m n was it a one low before so at same all alone = All-push
 pub alone_sorted : (xs ys : List Found) (a : Found) → IsPermutation xs ys → EndsAlone a xs → EndsAlone a ys
 alone_sorted xs ys a moved h = All-permutation (λ b. b.end ≢ a.end) xs ys moved h
 
--- where an element stood before two were swapped
+-- where an element was before two were swapped
 pub record WasAt {A : Type 0} (xs : List A) (m n k : ℕ) (a : A) : Type 0 where
   pub place : ℕ
   pub here : slice_get xs place ≡ Some a
@@ -378,7 +378,7 @@ apart_swapped xs m n lm ln h i j a b ei ej is =
 pub apart_sorted : (xs ys : List Found) → IsPermutation xs ys → EndApart xs → EndApart ys
 apart_sorted xs ys moved h = IsPermutation-keeps xs EndApart h apart_swapped ys moved
 
--- what tells a report or a fault once names each end once
+-- if each report and each fault is listed once, so is each end
 not_apart : (k : AtOnce) (kept : Kept) (first : Place) (s : List ℕ) (l : Landing) → search.LeadsTo (leapt k) report_at kept.places kept.faults first s l →
     search.AreApart report_at kept.places l l → ⊥
 not_apart k kept first s (to.World j) h apart = apart h.0 h.0 h.1 h.1 refl

@@ -1,4 +1,4 @@
--- Moves by the numbers of states, where the states become more.
+-- Moves by the numbers of states, as states are added.
 use Rattle.std.proofs.Common.{◌≡◌, ℕ, List, [], ◌∷◌, ◌++◌, inl, inr, subst}
 use Rattle.std.specs.Prelude.{Option, Some, None}
 use Rattle.effect_term.specs.declared.reply.Reply.{Reply}

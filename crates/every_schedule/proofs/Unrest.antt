@@ -1,4 +1,4 @@
--- Fibers that can go on, and final worlds with and without the notes of who was joined.
+-- Fibers that can go on, and final worlds with and without the notes of joins.
 use Rattle.std.proofs.Common.{◌≡◌, ◌≢◌, ◌⊎◌, inl, inr, ℕ, ℤ, Bool, true, false, List, [], ◌∷◌, Option, Some, None, refl, sym, ap, ◌∙◌, subst, ◌&&◌}
 use Rattle.std.specs.Prelude.{is_none}
 use Rattle.effect_term.specs.declared.reply.Outcome.{Outcome}
@@ -22,8 +22,8 @@ use Rattle.scheduled_core.specs.Core.{World, wish_of}
 use Rattle.scheduled_core.specs.Finals.{HasEnded, IsAtRest, IsFinal, IsUnasked, reply_to, word_wish}
 use Rattle.every_schedule.specs.Places.{unnoted}
 
--- ---- a word that waits is one for which the reply has nothing
--- the word, of this kind, waits without a call, or joins or reads what the reply hasn't got
+-- ---- a word that waits gets nothing from the reply
+-- the word, of this kind, waits without a call, or for an end or a value that the reply doesn't have
 pub data IsUnserved (k : RowKind) (a : Ask) (r : Reply) : Type 0 where
   Silently : a ≡ ask.Silent → k ≡ Waited → IsUnserved k a r
   Unended : (f : ℕ) → a ≡ ask.Join f → outcome_in r ≡ None → IsUnserved k a r
@@ -118,13 +118,13 @@ module _ (s : Cells) (f : ℕ) (g : Fiber) where
   served a goes (Unread d is none) same =
       full_some (deferred_of s d) (subst GoesOn is goes) (subst (λ (b : Ask). read_in (reply_to s f (wish_of b)) ≡ None) is none)
 
-  -- so it isn't at rest
+  -- a fiber that would go on isn't at rest
   pub goes_on : (a : Ask) → a ≡ (row_of g reply.Done).call → GoesOn a → outcome_of g ≡ None → HasEnded g ⊎ IsAtRest s f g → ⊥
   goes_on a is goes unended (inl ended) = let no : Some ended.0 ≡ None = sym ended.1 ∙ unended in cc
   goes_on a is goes unended (inr rests) =
       served (row_of g reply.Done).call (subst GoesOn is goes) (waits_so g (reply_to s f (word_wish g)) rests.waits) refl
 
--- ---- who was joined changes nothing of it
+-- ---- the notes of joins change no wait
 reply_to_bare : (s : Cells) (f : ℕ) (w : Wish) → reply_to (without_waits s) f w ≡ reply_to s f w
 reply_to_bare s f (Shared c) = same_reply s f c
 reply_to_bare s f Alone = refl

@@ -28,14 +28,14 @@ compares is.AtMost a b = int_le a b
 compares is.Greater a b = int_lt b a
 compares is.AtLeast a b = int_le b a
 
--- the last truth value of the stack, false where it is empty, and the others
+-- the last truth value of the stack, `false` if it is empty; and the stack without its last value
 abbrev pub last_of : List Bool → Bool
 last_of stack = slice_index_or stack (length stack - 1) false
 
 abbrev pub without_last : List Bool → List Bool
 without_last stack = take (length stack - 1) stack
 
--- the stack behind a word
+-- the stack after a word
 abbrev pub worded : Cells → List Bool → ClaimWord → List Bool
 worded s stack (Compare r how v) = stack ++ compares how (ref_of s r) v ∷ []
 worded s stack Not = without_last stack ++ not (last_of stack) ∷ []
@@ -49,11 +49,11 @@ abbrev pub holds : Cells → List ClaimWord → Bool
 holds s words = last_of (fold (worded s) [] words)
 
 -- ---- refs that were set
--- the number is among these
+-- the number is in the list
 abbrev pub has : ℕ → List ℕ → Bool
 has r seen = list_any (λ n. nat_eq n r) seen
 
--- the word compares no other ref than these
+-- the word compares only refs that were seen
 abbrev pub is_seen : List ℕ → ClaimWord → Bool
 is_seen seen (Compare r how v) = has r seen
 is_seen seen _ = true
@@ -89,13 +89,12 @@ pub record Meets (code : Tree) (k : Limits) (words : List ClaimWord) (schedule :
   pub set : (r : ℕ) → Compares words r → WasSet k r (first_world code k) schedule
   pub truth : holds world.cells words ≡ true
 
--- ---- worlds as a search for claims keeps them: each with the refs that were set before, in the order of their first
--- time
+-- ---- worlds as a search for claims keeps them: with the refs that were set before, in the order of their first sets
 pub record View : Type 0 where
   pub place : Place
   pub seen : List ℕ
 
--- one ref more, if it isn't among them
+-- the refs, and one more if it is new
 abbrev pub noted : List ℕ → Option ℕ → List ℕ
 noted seen None = seen
 noted seen (Some r) = cond (has r seen) seen (seen ++ r ∷ [])
@@ -104,18 +103,18 @@ abbrev pub seeing : List ℕ → Result Place RunError → Result View RunError
 seeing seen (Ok p) = Ok record { place = p; seen = seen }
 seeing seen (Err e) = Err e
 
--- the entry of a fiber, where this is what the place does
+-- the entry of a fiber at a view, where `step` makes it at the place
 abbrev pub viewed : (Place → ℕ → Result Place RunError) → View → ℕ → Result View RunError
 viewed step v f = seeing (noted v.seen (stored_by (slice_get v.place.world.fibers f))) (step v.place f)
 
 abbrev pub is_met : View → List ClaimWord → Bool
 is_met v words = are_seen v.seen words && holds v.place.world.cells words
 
--- that of a program before the first move
+-- the view of a program before the first move
 abbrev pub first_view : Place → View
 first_view p = record { place = p; seen = [] }
 
--- the claim of this number is met, by this schedule
+-- this claim is met under this schedule
 abbrev pub IsMetIn : Tree → Limits → List (List ClaimWord) → Met → Type 0
 IsMetIn code k claims m =
     (words : List ClaimWord) × (slice_get claims m.claim ≡ Some words) × Meets code k words m.schedule.items

@@ -24,8 +24,8 @@ repeated cycle zero = []
 repeated cycle (suc n) = repeated cycle n ++ cycle
 
 -- A cycle that a fair schedule repeats for ever. The entries of `stem` lead to a world that isn't final: a fiber can go
--- on. However often the entries of `cycle` follow, they lead back to it, but for who was joined. Each fiber has an entry
--- among them, or its entry at that world changes nothing else
+-- on there. The entries of `cycle`, any number of times, lead back to that world, apart from the notes of joins. Each
+-- fiber has an entry in `cycle`, or its entry at that world changes only these notes
 pub record IsForever (code : Tree) (k : Limits) (stem cycle : List ℕ) : Type 0 where
   pub world : World
   pub comes : core code k stem ≡ Ok world

@@ -1,4 +1,4 @@
--- Worlds as a search keeps them: each with the limits under which it is entered.
+-- Worlds as a search keeps them: each with its limits.
 use Rattle.std.specs.Prelude.{ℕ, Bool, true, false, List, Option, Some, None, Result, Ok, Err, map}
 use Rattle.std.specs.List.{slice_get}
 use Rattle.cell_registry.specs.declared.limits.Limits.{Limits}
@@ -16,7 +16,7 @@ pub record Place : Type 0 where
   pub limits : Limits
   pub world : World
 
--- that of a program before the first move
+-- the place of a program before the first move
 abbrev pub first_place : Tree → Limits → Place
 first_place code k = record { limits = k; world = first_world code k }
 
@@ -29,8 +29,8 @@ placed k (Err e) = Err e
 abbrev pub entering : Place → ℕ → Result Place RunError
 entering p f = placed p.limits (entered p.limits (Ok p.world) f)
 
--- The same world, where it isn't noted which fibers were joined, of which no reply and no report tells: a search keeps
--- worlds so, since those that differ in nothing else are one to it
+-- The same world without the notes of which fibers were joined. No reply and no report shows these notes. A search
+-- keeps worlds without them, so that worlds that differ in nothing else are one
 abbrev pub unnoted : World → World
 unnoted w = record { fibers = w.fibers; cells = without_waits w.cells }
 
@@ -51,7 +51,7 @@ abbrev pub moves_at : Option Fiber → Bool
 moves_at None = false
 moves_at (Some g) = wants (wish_of (ask_of g))
 
--- the entry of a fiber, as the search makes it: that of one without a next move changes nothing
+-- the entry of a fiber, as the search makes it: without a next move it changes nothing
 abbrev pub stepped_if : Bool → Place → ℕ → Result Place RunError
 stepped_if true p f = bared (entering p f)
 stepped_if false p f = Ok p
@@ -59,11 +59,11 @@ stepped_if false p f = Ok p
 abbrev pub stepped : Place → ℕ → Result Place RunError
 stepped p f = stepped_if (moves_at (slice_get p.world.fibers f)) p f
 
--- what the fibers of a place have come to
+-- the report of a place
 abbrev pub report_at : Place → Report
 report_at p = record { fibers = map fiber_report p.world.fibers }
 
--- all that is kept, and how many bytes are counted for it
+-- what a search keeps, and the bytes counted for it
 pub record Kept : Type 0 where
   pub places : List Place
   pub faults : List RunError

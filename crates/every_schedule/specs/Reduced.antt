@@ -1,5 +1,4 @@
--- Moves that the reduced exploration makes at once, behind each entry: those of which no other fiber sees anything, and
--- which nothing that another fiber does can change.
+-- Own moves, which the reduced exploration makes at once after each entry: no other fiber can see or influence them.
 use Rattle.std.specs.Prelude.{◌≡◌, ◌<◌, ℕ, zero, suc, nat_eq, nat_lt, Bool, true, false, not, ◌&&◌, ◌||◌, is_none, List, [], ◌∷◌}
 use Rattle.std.specs.Prelude.{length, Option, Some, None}
 use Rattle.std.specs.Prelude.{Result, Ok, Err}
@@ -24,42 +23,42 @@ use Rattle.every_schedule.specs.Claims.{stored_by}
 use Rattle.every_schedule.specs.Places.{Place, entering, stepped, wants}
 
 -- ---- what the other fibers can still do
--- of these fibers, which begin with number i, each but fiber f
+-- p holds of each of these fibers but fiber f; the first of them is fiber i
 abbrev pub others : (Fiber → Bool) → ℕ → ℕ → List Fiber → Bool
 others p f i [] = true
 others p f i (b ∷ bs) = (nat_eq i f || p b) && others p f (suc i) bs
 
--- the fiber can't use the number so any more, nor can one that it starts
+-- the fiber keeps off the number: neither it nor a fiber that it starts can still use the number in this way
 abbrev pub keeps : Use → ℕ → Fiber → Bool
 keeps u n b = not (is_some (uses_in u n b.running))
 
--- the next number of each kind that a registry gives
+-- the number of each kind that a registry gives next
 abbrev pub next_of : naming.Place → Cells → ℕ
 next_of A_fiber s = s.next_fiber
 next_of A_ref s = s.next_ref
 next_of A_deferred s = s.next_deferred
 next_of No_handle s = 0
 
--- no fiber but f can use the number so any more, and none that is born later
+-- the number is given, and each fiber but f keeps off it
 abbrev pub is_kept : Use → World → ℕ → ℕ → Bool
 is_kept u w f n = nat_lt n (next_of (used_place u) w.cells) && others (keeps u n) f 0 w.fibers
 
--- the fiber has another number
+-- the fiber's number isn't f
 abbrev pub is_another : ℕ → Fiber → Bool
 is_another f b = not (nat_eq b.number f)
 
--- nobody can request the cancellation of fiber f any more but itself
+-- no fiber but f can still request the cancellation of fiber f
 abbrev pub is_left_alone : World → ℕ → Bool
 is_left_alone w f = is_kept Cancels w f f && others (is_another f) f 0 w.fibers
 
--- nobody but fiber f uses the ref any more, or the deferred
+-- no fiber but f can still use the ref, or the deferred
 abbrev pub is_own_ref : World → ℕ → ℕ → Bool
 is_own_ref w f r = is_kept Stores w f r && is_kept Gets w f r
 
 abbrev pub is_own_deferred : World → ℕ → ℕ → Bool
 is_own_deferred w f d = is_kept Completes w f d && is_kept Awaits w f d
 
--- what the call names is given
+-- the ref or the deferred that the call names is given
 abbrev pub IsNamed : Cells → Call → Type 0
 IsNamed s (Get r) = r < s.next_ref
 IsNamed s (Set r v) = r < s.next_ref
@@ -83,10 +82,10 @@ abbrev pub is_completed : World → ℕ → Bool
 is_completed w d = not (is_none (deferred_of w.cells d))
 
 -- ---- moves
--- Of this call no other fiber sees anything, and nothing that another fiber does can change it: a look where the request
--- is known to come, or where nobody can make one any more; the masks, and the cut of a fiber that hasn't ended; joins and
--- requests of a fiber that has ended; what is done with a deferred that is completed; and what is done with a ref or a
--- deferred that nobody else uses any more, and the end of a fiber that nobody else does.
+-- The call is an own move of fiber f: a look, if the request is set or no other fiber can still set it; the masks, and
+-- the cut of a fiber that hasn't ended; joins and requests of a fiber that has ended; calls on a completed deferred; a
+-- get, if no other fiber can still set the ref; sets and changes of a ref, and completions of a deferred, that no other
+-- fiber can still use; and the end of a fiber that no other fiber can still request or join.
 abbrev pub is_own_call : World → ℕ → Call → Bool
 is_own_call w f Look = (cell_of w.cells f).request || is_left_alone w f
 is_own_call w f Mask = true
@@ -104,23 +103,23 @@ is_own_call w f (Modify r v) = is_own_ref w f r
 is_own_call w f (Complete d v) = is_completed w d || is_own_deferred w f d
 is_own_call w f (Read d) = is_completed w d
 
--- the move wants such a call of fiber f, or none, and isn't that of a `never`
+-- a move of fiber f with this wish is an own move: its call is one, or it has no call and isn't that of a `never`
 abbrev pub is_own : World → ℕ → Fiber → Wish → Bool
 is_own w f g (Shared c) = is_own_call w f c
 is_own w f g Alone = not (waits_alone g)
 is_own w f g Nothing = false
 
--- the fiber of this number is born, and its next move is such a one
+-- the fiber of this number is born, and its next move is an own move
 abbrev pub has_own : World → ℕ → Option Fiber → Bool
 has_own w f None = false
 has_own w f (Some g) = is_own w f g (wish_of (ask_of g))
 
--- the fiber of this number, where its next move is such a one
+-- the fiber of this number, if its next move is an own move
 abbrev pub if_own : Bool → ℕ → Option ℕ
 if_own true f = Some f
 if_own false f = None
 
--- a move may be made at once, where those that set a ref or change it are, or aren't
+-- the next move is allowed at once: without `stores`, no move that sets or changes a ref is
 abbrev pub may_be : Bool → Option Fiber → Bool
 may_be stores o = stores || is_none (stored_by o)
 
@@ -130,7 +129,7 @@ is_made stores w f = has_own w f (slice_get w.fibers f) && may_be stores (slice_
 abbrev pub own_of : Bool → Place → ℕ → Option ℕ
 own_of stores p f = if_own (is_made stores p.world f) f
 
--- such a move is made, unless its call is refused
+-- an own move is made, unless its call is refused
 abbrev pub or_stays : Place → Result Place RunError → Place
 or_stays p (Ok q) = q
 or_stays p (Err e) = p
@@ -139,21 +138,21 @@ abbrev pub after_own : Place → Option ℕ → Place
 after_own p None = p
 after_own p (Some f) = or_stays p (stepped p f)
 
--- one such move of each of the first n fibers that has one, the last of them first
+-- one own move of each of the first n fibers that has one, the last fiber first
 unfoldable pub swept : Bool → ℕ → Place → Place
 swept stores zero p = p
 swept stores (suc n) p = swept stores n (after_own p (own_of stores p n))
 
--- one of each fiber
+-- one own move of each fiber that has one
 abbrev pub pushed_once : Bool → Place → Place
 pushed_once stores p = swept stores (length p.world.fibers) p
 
--- at most n of them of each fiber
+-- at most n own moves of each fiber
 unfoldable pub pushed : Bool → ℕ → Place → Place
 pushed stores zero p = p
 pushed stores (suc n) p = pushed stores n (pushed_once stores p)
 
--- where an entry has led, with such moves behind it
+-- where an entry has led, followed by own moves
 abbrev pub behind : AtOnce → Result Place RunError → Result Place RunError
 behind n (Ok q) = Ok (pushed n.stores n.most q)
 behind n (Err e) = Err e
@@ -162,29 +161,29 @@ abbrev pub leapt_by : AtOnce → Place → ℕ → Option Fiber → Result Place
 leapt_by n p f None = Ok p
 leapt_by n p f (Some g) = behind n (stepped p f)
 
--- the entry of a fiber, if it is born, with such moves behind it
+-- the entry of a fiber, if it is born, followed by own moves
 abbrev pub leapt : AtOnce → Place → ℕ → Result Place RunError
 leapt n p f = leapt_by n p f (slice_get p.world.fibers f)
 
--- up to a hundred moves of each fiber
+-- up to 100 own moves of each fiber
 abbrev pub hundred : AtOnce
 hundred = record { most = 100; stores = true }
 
--- up to a hundred of each, but none that sets a ref or changes it
+-- up to 100 own moves of each fiber, none of which sets or changes a ref
 abbrev pub hundred_still : AtOnce
 hundred_still = record { most = 100; stores = false }
 
--- none
+-- no own moves
 abbrev pub none_at_once : AtOnce
 none_at_once = record { most = 0; stores = true }
 
--- the fiber's next move is such a one, and its call isn't refused
+-- the fiber's next move is an own move, and its call isn't refused
 pub record IsOwn (p : Place) (f : ℕ) : Type 0 where
   pub own : has_own p.world f (slice_get p.world.fibers f) ≡ true
   pub next : Place
   pub goes : entering p f ≡ Ok next
 
--- and it may be made at once
+-- the fiber's next move is an own move that is allowed at once
 pub record MayOwn (stores : Bool) (p : Place) (f : ℕ) : Type 0 where
   pub own : IsOwn p f
   pub may : may_be stores (slice_get p.world.fibers f) ≡ true

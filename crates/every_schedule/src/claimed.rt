@@ -1,4 +1,4 @@
-//! Which claims worlds meet, under every schedule.
+//! Searches every schedule for worlds that meet claims.
 ghost use Rattle.std.specs.Prelude.{◌≡◌, ◌++◌, ◌<◌, ◌≤◌, ℕ, List, [], ◌∷◌, max, IfErr, IfOk, OnOk, Some, true, false};
 ghost use Rattle.std.specs.List.{All, slice_get};
 ghost use Rattle.derived_ops.specs.Expansion.{code_of};
@@ -21,19 +21,19 @@ use effect_term::Program;
 use std::alloc::{AllocError, Global};
 use world_search::{Bounds, Claimed, Met, Watcher};
 
-/// Which of these claims some world of a program meets, whatever the schedule: each with a schedule that leads there, as
-/// `replay` takes it, to the first such world that was found.
+/// Returns the claims that some world of a program meets, under any schedule. Each has a schedule, as `replay` takes
+/// it, to the first such world that was found.
 ///
-/// A claim is looked at in each world to which a schedule leads. A ref is named by its number, in the order in which
-/// refs are made. It is looked at from its first set on, which follows when it is made: before that, a claim that
-/// compares it isn't met, whatever else it says.
+/// Each claim is checked in each world that a schedule leads to. Refs are numbered in the order in which they are made.
+/// A claim isn't met, whatever it says, before each ref that it compares was set; the first set of a ref follows when
+/// the ref is made.
 ///
-/// Where the search is complete, no schedule leads to a world that meets another of the claims. Where it isn't, what
-/// was met is met all the same.
+/// If the search is complete, no schedule leads to a world that meets any other of the claims. The claims that it
+/// returns are met in any case.
 ///
-/// It is the reduced search of [`explore`](crate::explore), but that no move which sets a ref or changes it is made at
-/// once: the values of the refs in each world to which a schedule leads are those in a world that is kept. The bound of
-/// entries counts those of the search alone, without the moves behind them.
+/// The search is reduced as in [`explore`](crate::explore), but makes no move at once that sets or changes a ref: the
+/// values of the refs in each world that a schedule leads to are those in a kept world. `bounds.entries` doesn't count
+/// the own moves after the entries.
 ///
 /// The limits are in their ranges ([`Limits`]). The watcher is asked as in
 /// [`explore_watched`](crate::explore_watched). [`RunError::NoMemory`] is the only error.
@@ -76,11 +76,12 @@ pub fn search_claims<V: Watcher>(
 #[derive(Drop)]
 struct Certified {
     met: Vec<Met>,
-    // None was left out.
+    // No claim was left out.
     whole: bool,
 }
 
-// The claims that were met in the reduced search, each with a schedule under which the core was seen to meet it.
+// Returns the claims that the reduced search met, each with a schedule of the core. Stops at the first claim that the
+// core doesn't meet.
 fn certify_all(
     alloc: Global,
     program: &Program,
@@ -105,7 +106,7 @@ fn certify_all(
     Ok(Certified { met, whole: true })
 }
 
-// Adds one of them. Whether it was added.
+// Adds a claim, if the core meets it under its schedule. Returns whether it was added.
 fn certify(
     alloc: Global,
     program: &Program,

@@ -27,26 +27,25 @@ pub enum Comparison {
     AtLeast,
 }
 
-/// A word of a claim. The words stand in postfix order, over a stack of truth values: a comparison puts its truth on
-/// the stack, and the others take the last one or two off and put theirs on. What is taken from an empty stack is
-/// false.
+/// A word of a claim. The words are in postfix order, over a stack of truth values: a comparison pushes its truth, and
+/// each other word pops one or two values and pushes its own. `false` is popped from an empty stack.
 #[derive(Clone, Copy)]
 pub enum ClaimWord {
-    /// The value of the ref of this number is compared with a value. Refs have their numbers from 0 on, in the order in
-    /// which they are made.
+    /// Compares the value of the ref of this number with a value. Refs are numbered from 0, in the order in which they
+    /// are made.
     Compare(u16, Comparison, Value),
-    /// The last truth value is turned.
+    /// Negates the last truth value.
     Not,
-    /// The last two truth values are both true.
+    /// Whether the last two truth values are both true.
     And,
-    /// One of the last two truth values is true.
+    /// Whether at least one of the last two truth values is true.
     Or,
 }
 
-/// What is claimed of a world.
+/// A claim about a world.
 ///
-/// A world meets it where each ref that the words compare was set before, for the first time when it was made, and the
-/// last truth value on the stack is true.
+/// A world meets the claim if each ref that the words compare was set before, and the last truth value on the stack is
+/// true. The first set of a ref follows when the ref is made.
 #[derive(Drop)]
 pub struct Claim {
     words: Vec<ClaimWord>,
@@ -62,14 +61,14 @@ impl Model for Claim {
 }
 
 impl Claim {
-    /// The claim of these words.
+    /// Returns the claim of these words.
     pub fn new(words: Vec<ClaimWord>) -> Claim
         ensures { result ≡ words.items }
     {
         Claim { words }
     }
 
-    /// Its words, in postfix order.
+    /// The words, in postfix order.
     pub fn words(&self) -> &[ClaimWord]
         ensures { result.now ≡ self.now }
     {
@@ -77,7 +76,7 @@ impl Claim {
     }
 }
 
-/// A world, and the refs that were set before, in the order of their first time.
+/// A world, and the refs that were set before, in the order of their first sets.
 #[derive(Drop)]
 pub(crate) struct SeenWorld {
     world: CoreWorld,
@@ -99,14 +98,14 @@ impl Model for SeenWorld {
 }
 
 impl SeenWorld {
-    /// This world, with these refs.
+    /// Returns this world with these refs.
     pub(crate) fn new(world: CoreWorld, seen: Vec<u16>) -> SeenWorld
         ensures { result ≡ record { place = world; seen = seen.items } }
     {
         SeenWorld { world, seen }
     }
 
-    /// Whether it meets a claim.
+    /// Whether the world meets a claim.
     pub(crate) fn meets(self, alloc: Global, claim: &Claim) -> Result<bool, AllocError>
         ensures { IfOk result (λ it. it ≡ is_met_at self claim.now) }
     {
@@ -119,7 +118,7 @@ impl SeenWorld {
     }
 }
 
-// Whether the refs that these words compare are among those.
+// Whether each ref that these words compare is in `seen`.
 fn have_seen(words: &[ClaimWord], seen: &[u16]) -> bool
     ensures { result ≡ are_seen seen.now words.now }
 {
@@ -131,7 +130,7 @@ fn have_seen(words: &[ClaimWord], seen: &[u16]) -> bool
     true
 }
 
-// The same of one word.
+// Whether the ref that this word compares, if it compares one, is in `seen`.
 fn has_seen(word: ClaimWord, seen: &[u16]) -> bool
     ensures { result ≡ is_seen seen.now word }
 {
@@ -156,7 +155,7 @@ fn holds(
     Ok(pop(&mut stack))
 }
 
-// One word.
+// Applies one word to the stack.
 fn step(
     registry: &mut PlainRegistry,
     stack: &mut Vec<bool>,
@@ -170,7 +169,7 @@ fn step(
     Ok(())
 }
 
-// The truth value that a word puts on the stack. Those that it takes off are gone.
+// Pops the truth values that a word takes, and returns the one that it pushes.
 fn truth_of(registry: &mut PlainRegistry, stack: &mut Vec<bool>, word: ClaimWord) -> bool
     ensures same { registry.new ≡ registry.old }
     ensures stack { worded registry.old.state stack.old.items word ≡ stack.new.items ++ result ∷ [] }
@@ -191,7 +190,7 @@ fn truth_of(registry: &mut PlainRegistry, stack: &mut Vec<bool>, word: ClaimWord
     }
 }
 
-// The last truth value, which is taken off the stack.
+// Pops the last truth value; `false` if the stack is empty.
 fn pop(stack: &mut Vec<bool>) -> bool
     ensures value { result ≡ last_of stack.old.items }
     ensures rest { stack.new.items ≡ without_last stack.old.items }
@@ -218,7 +217,7 @@ fn is_so(how: Comparison, one: Value, other: Value) -> bool
     }
 }
 
-// The value of a ref, or 0 where there is none of this number.
+// The value of the ref of this number, or 0 if there is none.
 #[tactic(auto, using(crate::proofs::RefValues::may_get, crate::proofs::RefValues::got_value, crate::proofs::RefValues::got_same, crate::proofs::RefValues::past_ref))]
 fn value_of(registry: &mut PlainRegistry, number: u16) -> Value
     ensures value { result ≡ ref_of registry.old.state number }

@@ -14,7 +14,7 @@ use scheduled_core::{Wish, enter, first_fibers};
 use std::alloc::{AllocError, Global};
 use std::marker::Model;
 
-/// The born fibers, beside the registry that they share.
+/// The born fibers, and the registry that they share.
 #[derive(Drop)]
 pub(crate) struct CoreWorld {
     fibers: Vec<Config>,
@@ -75,7 +75,7 @@ impl CoreWorld {
         Ok(CoreWorld { fibers, registry })
     }
 
-    /// The entry of a fiber, and then it isn't noted any more who was joined. After an error the world is of no use.
+    /// Makes the entry of a fiber, then forgets which fibers were joined. An error leaves no world.
     #[tactic(auto, using(crate::proofs::Bare::fits_bare, crate::proofs::Bare::moves_step, crate::proofs::Bare::idle_stays, crate::proofs::Bare::stops))]
     pub(crate) fn enter(self, fiber: u16) -> Result<CoreWorld, RunError>
         ensures goes { IfOk result (λ w. stepped self fiber ≡ GoesWell w) }
@@ -101,7 +101,7 @@ impl CoreWorld {
         CoreWorld { fibers, registry }
     }
 
-    /// Its fibers.
+    /// The fibers of the world.
     pub(crate) fn fibers(&self) -> &[Config]
         ensures fibers { result.now ≡ self.now.world.fibers }
         ensures fits { AllFit self.now.world }
@@ -109,14 +109,14 @@ impl CoreWorld {
         self.fibers.as_slice()
     }
 
-    /// Its registry.
+    /// The registry of the world.
     pub(crate) fn registry(&self) -> &PlainRegistry
         ensures { result.now ≡ record { limits = self.now.limits; state = self.now.world.cells } }
     {
         &self.registry
     }
 
-    /// The fibers and the registry, given back.
+    /// Returns the fibers and the registry.
     pub(crate) fn into_parts(self) -> (Vec<Config>, PlainRegistry)
         ensures fibers { result.0.items ≡ self.world.fibers }
         ensures registry { result.1 ≡ record { limits = self.limits; state = self.world.cells } }

@@ -32,7 +32,7 @@ use std::alloc::{AllocError, Global};
 use std::marker::Model;
 use world_search::{Entered, Landing, Worlds};
 
-/// No own moves are made at once.
+/// No own moves are made after an entry.
 pub(crate) const NONE: AtOnce = AtOnce {
     most: 0,
     stores: true,
@@ -74,7 +74,7 @@ impl Model for CoreWorlds {
 }
 
 impl CoreWorlds {
-    /// The first world of a program, alone.
+    /// Returns the store of the first world of a program.
     pub(crate) fn new(
         alloc: Global,
         program: &Program,
@@ -97,7 +97,7 @@ impl CoreWorlds {
         })
     }
 
-    /// What the fibers of a world have come to.
+    /// Returns the report of a world.
     pub(crate) fn report(&self, world: usize) -> Result<Report, AllocError>
         requires { world < length self.now.places }
         ensures report { IfOk result (λ it. (p : Place) → slice_get self.now.places world ≡ Some p → it ≡ report_at p) }
@@ -107,7 +107,7 @@ impl CoreWorlds {
         report_of_fibers(self.alloc, fibers)
     }
 
-    /// A fault that was met.
+    /// The fault of this number.
     pub(crate) fn fault(&self, number: usize) -> RunError
         requires { number < length self.now.faults }
         ensures { slice_get self.now.faults number ≡ Some result }
@@ -115,7 +115,7 @@ impl CoreWorlds {
         self.faults.get(number)
     }
 
-    /// How many faults were met. Each of them is kept once.
+    /// The number of faults that were met. Each fault is kept once.
     pub(crate) fn many_faults(&self) -> usize
         ensures many { result ≡ length self.now.faults }
         ensures single { AreSingle self.now.faults }
@@ -123,7 +123,7 @@ impl CoreWorlds {
         self.faults.len()
     }
 
-    /// How many fibers a world has.
+    /// The number of fibers that are born in a world.
     pub(crate) fn born_at(&self, world: usize) -> u16
         requires { world < length self.now.places }
         ensures born { (p : Place) → slice_get self.now.places world ≡ Some p → result ≡ length p.world.fibers }
@@ -135,7 +135,7 @@ impl CoreWorlds {
         self.rows.fibers(world).len() as u16
     }
 
-    /// The world of this number.
+    /// Returns the world of this number.
     pub(crate) fn world(&self, number: usize) -> Result<CoreWorld, AllocError>
         requires { number < length self.now.places }
         ensures { IfOk result (λ it. (p : Place) → slice_get self.now.places number ≡ Some p → it ≡ p) }
@@ -146,7 +146,7 @@ impl CoreWorlds {
         Ok(CoreWorld::new(fibers, registry))
     }
 
-    /// The ref that the next move of a fiber of a world sets, or changes by an addition, if it does that.
+    /// The ref that the next move of a fiber in a world sets, or changes by an addition, if there is one.
     pub(crate) fn stored(&self, world: usize, fiber: u16) -> Option<u16>
         requires { world < length self.now.places }
         ensures { (p : Place) → slice_get self.now.places world ≡ Some p →
@@ -162,7 +162,7 @@ impl CoreWorlds {
         self.rows.bytes().saturating_add(self.current.bytes())
     }
 
-    /// Makes the entry of a fiber at a world, with such own moves behind it. The trail is of these entries alone.
+    /// Makes the entry of a fiber at a world, then own moves, as `at_once` allows. The trail becomes these entries.
     pub(crate) fn entry(
         &mut self,
         world: usize,
@@ -193,7 +193,7 @@ impl CoreWorlds {
     }
 }
 
-// The ref that the next move of a fiber, if it is one of these numbers, sets or changes.
+// The ref that the next move of a fiber sets or changes, if there is one. The fibers have the states of these numbers.
 fn stored_at(pool: &Pool<Config>, numbers: &[u32], fiber: u16) -> Option<u16>
     requires { All (λ n. n < length pool.now.items.items) numbers.now }
     ensures none { slice_get numbers.now fiber ≡ None → result ≡ None }
@@ -208,7 +208,7 @@ fn stored_at(pool: &Pool<Config>, numbers: &[u32], fiber: u16) -> Option<u16>
     stored_in(Wish::of(pool.items[number as usize].ask()))
 }
 
-// What came of an entry that ended so: the fault's number, or want of memory.
+// The result of an entry with this fault: the number of the fault, or `AllocError` if memory ran out.
 fn fault_met(faults: &mut Faults, fault: RunError) -> Result<Entered, AllocError>
     ensures more { IsMore faults.old faults.new }
     ensures met { IfOk result (λ it. (places : List Place) (to : TheResult Place RunError) →

@@ -30,13 +30,13 @@ use scheduled_core::{Wish, answer, fault};
 use std::alloc::{AllocError, Global};
 use std::marker::Model;
 
-/// The states that worlds are made of, and the moves that lead from one state of a fiber to another.
+/// The states of fibers and registries, and the moves from one state of a fiber to another.
 #[derive(Drop)]
 pub(crate) struct States {
     fibers: Pool<Config>,
     registries: Pool<PlainRegistry>,
     turns: Turns,
-    // Of the first states of fibers, what is known of each.
+    // What is known of each of the first states of fibers.
     known: Vec<Known>,
 }
 
@@ -49,7 +49,7 @@ pub(crate) struct Current {
     registry: PlainRegistry,
     // The number of the registry, if it is known.
     at: Option<u32>,
-    // Of each fiber the place of the one that was last found to use what its next move uses.
+    // The rival of each fiber: the place of the last one found that can use what the fiber's next move uses.
     rivals: Vec<usize>,
 }
 
@@ -85,12 +85,12 @@ impl Model for Current {
 }
 
 impl Current {
-    /// This world, alone.
+    /// Returns the world `first`, with its own states alone.
     pub(crate) fn new(alloc: Global, first: CoreWorld) -> Result<Current, AllocError>
         ensures here { IfOk result (λ it. here it ≡ first) }
         ensures fits { AllFit first.world }
     {
-        // Its fibers fit.
+        // The fibers of `first` fit its registry.
         facts_of(first.fibers());
         let mut states = States {
             fibers: Pool::new(alloc),
@@ -112,7 +112,7 @@ impl Current {
         })
     }
 
-    /// The number of its registry, which is kept from now on.
+    /// Returns the number of the registry, and keeps the registry if it is new.
     pub(crate) fn number(&mut self) -> Result<u32, AllocError>
         ensures onward { IsOnward self.old self.new }
         ensures here { here self.new ≡ here self.old }
@@ -139,7 +139,7 @@ impl Current {
         self.numbers.as_slice()
     }
 
-    /// Goes to the world of these numbers, that of its registry and those of its fibers' states.
+    /// Goes to the world with this number of a registry and these numbers of fibers' states.
     pub(crate) fn go_to(&mut self, registry: u32, fibers: &[u32]) -> Result<(), AllocError>
         requires { (k : TheLimits) × IsWorld k self.old.fibers self.old.registries
             record { registry = registry; fibers = fibers.now } }
@@ -160,7 +160,7 @@ impl Current {
         Ok(())
     }
 
-    /// The entry of a fiber.
+    /// Makes the entry of a fiber. After a fault the world is as it was, unless memory ran out.
     pub(crate) fn enter(&mut self, fiber: u16) -> Result<(), RunError>
         requires { AllFit (here self.old).world }
         ensures onward { IsOnward self.old self.new }
@@ -195,7 +195,7 @@ impl Current {
         place < self.born() && self.wish(place) != Wish::Nothing
     }
 
-    /// How many fibers are born.
+    /// The number of fibers that are born.
     #[inline(always)]
     pub(crate) fn born(&self) -> usize
         ensures { result ≡ length (here self.now).world.fibers }
@@ -212,7 +212,7 @@ impl Current {
         &self.states.fibers.items[number as usize]
     }
 
-    /// What the next move of a fiber wants.
+    /// The wish of a fiber's next move.
     #[inline(always)]
     pub(crate) fn wish(&self, place: usize) -> Wish
         requires { place < length (here self.now).world.fibers }
@@ -225,7 +225,7 @@ impl Current {
         }
     }
 
-    /// Whether the next move of a fiber is a wait that never ends.
+    /// Whether the next word of a fiber is a `never`.
     #[inline(always)]
     pub(crate) fn waits_alone(&self, place: usize) -> bool
         requires { place < length (here self.now).world.fibers }
@@ -238,7 +238,7 @@ impl Current {
         }
     }
 
-    /// In which worlds the next move of a fiber is an own one.
+    /// In which worlds the next move of a fiber is an own move.
     #[inline(always)]
     pub(crate) fn owned(&self, place: usize) -> Owned
         requires { place < length (here self.now).world.fibers }
@@ -252,7 +252,7 @@ impl Current {
         }
     }
 
-    /// Whether a fiber can still use the fiber, the ref or the deferred of this number so.
+    /// Whether a fiber can still use the fiber, the ref or the deferred of this number in this way.
     #[inline(always)]
     pub(crate) fn uses(&mut self, place: usize, what: Use, number: u16) -> bool
         requires place { place < length (here self.old).world.fibers }
@@ -269,7 +269,7 @@ impl Current {
         self.states.known[state].uses(fiber, what, number)
     }
 
-    /// The place of a fiber that may use what the next move of this one uses: the one that last did.
+    /// The place of the rival of a fiber that was noted last, or 0 if none was.
     #[inline(always)]
     pub(crate) fn rival(&self, fiber: u16) -> usize {
         match self.rivals.get(usize::from(fiber)) {
@@ -278,7 +278,7 @@ impl Current {
         }
     }
 
-    /// The fiber of this place uses what the next move of this fiber uses.
+    /// Notes the fiber at `place` as the rival of `fiber`.
     pub(crate) fn note_rival(&mut self, fiber: u16, place: usize)
         ensures { IsSame self.old self.new }
     {
@@ -306,7 +306,7 @@ impl Current {
             .saturating_add(self.states.registries.bytes)
     }
 
-    /// The states of fibers.
+    /// All kept states of fibers.
     pub(crate) fn fibers(&self) -> &Pool<Config>
         ensures { result.now.items.items ≡ self.now.fibers }
     {
@@ -322,7 +322,7 @@ impl Current {
     }
 }
 
-// The registry becomes the one of this number, if it isn't known to be that already.
+// Replaces the registry by the one of this number, unless `at` is this number already.
 fn load(
     alloc: Global,
     pool: &Pool<PlainRegistry>,
@@ -346,7 +346,7 @@ fn load(
     Ok(())
 }
 
-// The registry's reply to the next move of a fiber, which it has.
+// Makes the call of a fiber's next move, and returns the reply. The reply to a move without a call is `Done`.
 fn replied(config: &Config, registry: &mut PlainRegistry, fiber: u16) -> Result<Said, RunError>
     requires fits { Fits (cell_registered registry.old.state fiber) config.now }
     requires moves { moves_at (Some config.now) ≡ true }
@@ -367,7 +367,7 @@ fn replied(config: &Config, registry: &mut PlainRegistry, fiber: u16) -> Result<
     }
 }
 
-// The fiber of this place gets its new state, and its child the next place.
+// Gives the fiber at `place` its new state, and adds its child at the next place, if there is one.
 fn put(numbers: &mut Vec<u32>, place: usize, turn: Turn) -> Result<(), AllocError>
     requires { place < length numbers.old.items }
     ensures put { OnOk result (numbers.new.items ≡
@@ -381,7 +381,7 @@ fn put(numbers: &mut Vec<u32>, place: usize, turn: Turn) -> Result<(), AllocErro
     Ok(())
 }
 
-// What the move of this state under this reply leads to: it is made only if it wasn't made before.
+// Returns where the move of this state under this reply leads. Makes the move only if it wasn't made before.
 fn turn_of(
     alloc: Global,
     states: &mut States,
@@ -409,7 +409,7 @@ fn turn_of(
     Ok(turn)
 }
 
-// What is known of the states of which nothing is known yet.
+// Adds what is known of each state that `known` doesn't have yet.
 fn know_all(
     alloc: Global,
     pool: &Pool<Config>,
@@ -425,7 +425,7 @@ fn know_all(
     Ok(())
 }
 
-// The same, where it is made.
+// Makes the move of this state under this reply, and returns where it leads.
 fn made(alloc: Global, pool: &mut Pool<Config>, state: u32, said: Said) -> Result<Turn, AllocError>
     requires state { state < length pool.old.items.items }
     requires said { IsSaid said }
@@ -440,7 +440,7 @@ fn made(alloc: Global, pool: &mut Pool<Config>, state: u32, said: Said) -> Resul
     Ok(Turn { state: next, child })
 }
 
-// The move under a reply, and the child that it starts, if it starts one.
+// Makes the move of a fiber under a reply. Returns the child that the move starts, if it starts one.
 fn resumed(fiber: &mut Config, said: Said) -> Result<Option<Config>, AllocError>
     requires said { IsSaid said }
     requires may { MayTurn fiber.old (reply_of said) }
@@ -453,7 +453,7 @@ fn resumed(fiber: &mut Config, said: Said) -> Result<Option<Config>, AllocError>
     }
 }
 
-// The number of a child, if there is one.
+// Returns the number of a child, if there is one.
 fn child_of(pool: &mut Pool<Config>, child: Option<Config>) -> Result<Option<u32>, AllocError>
     ensures more { IsMore pool.old.items.items pool.new.items.items }
     ensures child { IfOk result (λ it. IsChild pool.new.items.items it (option_to_list child)) }
@@ -464,7 +464,7 @@ fn child_of(pool: &mut Pool<Config>, child: Option<Config>) -> Result<Option<u32
     }
 }
 
-/// The fibers of these numbers.
+/// Returns copies of the states of these numbers.
 pub(crate) fn fibers_of(
     alloc: Global,
     pool: &Pool<Config>,
@@ -481,7 +481,7 @@ pub(crate) fn fibers_of(
     Ok(fibers)
 }
 
-// The numbers of fibers.
+// Returns the numbers of these fibers' states, and keeps the states that are new.
 fn number_all(
     alloc: Global,
     fibers: &[Config],

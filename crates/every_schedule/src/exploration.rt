@@ -5,7 +5,7 @@ use cell_registry::RunError;
 use scheduled_core::Report;
 use std::marker::Model;
 
-/// The entries of a schedule, in their order: each the number of the fiber that makes its next move.
+/// The entries of a schedule, in order: each is the number of the fiber that makes its next move.
 #[derive(Drop)]
 pub struct Schedule {
     entries: Vec<u16>,
@@ -20,14 +20,14 @@ impl Model for Schedule {
 }
 
 impl Schedule {
-    /// These entries.
+    /// Returns the schedule of these entries.
     pub fn new(entries: Vec<u16>) -> Schedule
         ensures { result ≡ entries.items }
     {
         Schedule { entries }
     }
 
-    /// The entries, from the first one on.
+    /// The entries, in order.
     pub fn as_slice(&self) -> &[u16]
         ensures { result.now ≡ self.now }
     {
@@ -35,7 +35,7 @@ impl Schedule {
     }
 }
 
-/// What can come of a program, and a schedule under which it comes.
+/// A final report or a fault of a program, with a schedule that leads to it.
 #[derive(Drop)]
 pub struct Answer {
     /// The schedule.
@@ -60,7 +60,7 @@ impl Model for Answers {
 }
 
 impl Answers {
-    /// These answers.
+    /// Returns these answers, in this order.
     pub fn new(answers: Vec<Answer>) -> Answers
         ensures { result ≡ answers.items }
     {
@@ -80,13 +80,13 @@ impl Answers {
 pub struct Exploration {
     /// The different reports and faults, each with one schedule.
     pub answers: Answers,
-    /// How many worlds were found.
+    /// The number of worlds that were found.
     pub worlds: usize,
-    /// How many bytes were counted for what was kept: an estimate, made of the sizes of worlds, entries and states.
+    /// The number of bytes counted for what was kept: an estimate, from the sizes of worlds, entries and states.
     pub bytes: usize,
-    /// Every schedule was explored: there is no other answer, and wherever a schedule has led, some entries more lead
-    /// to one.
+    /// Every schedule was explored: there is no other answer, and after each schedule some further entries lead to an
+    /// answer.
     pub complete: bool,
-    /// Its watcher has ended the search. So it isn't complete.
+    /// The watcher ended the search. The exploration isn't complete then.
     pub halted: bool,
 }

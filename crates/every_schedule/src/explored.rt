@@ -1,4 +1,4 @@
-//! What can come of a program under every schedule.
+//! Explorations of every schedule of a program.
 ghost use Rattle.std.specs.Prelude.{◌≡◌, ◌⊎◌, ◌++◌, ◌*◌, ◌<◌, ◌≤◌, ℕ, List, length, max, min, IfOk, IfErr, true, false};
 ghost use Rattle.std.specs.Prelude.{Ok as GoesWell, Err as Fails, Result as TheResult};
 ghost use Rattle.cell_registry.specs.declared.limits.RunError.{RunError as TheRunError};
@@ -27,37 +27,35 @@ use scheduled_core::Report;
 use std::alloc::{AllocError, Global};
 use world_search::{Bounds, Landing, Unwatched, Watcher, search};
 
-/// All that can come of a program, whatever the schedule: the reports that no further entry changes, and the faults,
-/// each with a schedule under which it comes, as `replay` takes it.
+/// Explores every schedule of a program. Returns each final report and each fault, with a schedule that leads to it and
+/// that `replay` takes.
 ///
-/// Where the exploration is complete, no other report that stays and no other fault comes of any schedule, and wherever
-/// a schedule has led, some entries more lead to an answer. Where it isn't, as many worlds were kept as there may be,
-/// or more than a schedule may have entries, or as many bytes were counted as may be kept, or an end that isn't listed
-/// comes of a schedule with more entries than the bound, each of a fiber that has a next move; each answer is right all
-/// the same.
+/// If the exploration is complete, no schedule leads to another final report or fault, and after each schedule some
+/// further entries lead to an answer. If it isn't complete, the search kept `bounds.worlds` worlds, or more worlds than
+/// `bounds.entries`, or counted `bounds.memory` bytes; or a schedule of more than `bounds.entries` entries, each of a
+/// fiber that has a next move, leads to an end that isn't listed. Each answer is right in any case.
 ///
-/// The bytes are an estimate: at least 13 for each world, 8 for each entry from one world to another, and for each
-/// state of a fiber or of what fibers share about what it takes. No contract says how much the machine gives.
+/// The bytes are an estimate: at least 13 for each world, 8 for each entry from one world to another, and about the
+/// size of each kept state of a fiber or a registry. No contract says how much memory is really taken.
 ///
-/// So of a complete exploration: where no fault is listed, no schedule faults; where all answers end alike, the report
-/// doesn't depend on the schedule; where a fiber has ended in each answer, it can still end wherever a schedule has
-/// led; and where each answer has ended all its fibers, no schedule leads to a world in which a fiber waits for ever
+/// A complete exploration shows more. If no fault is listed, no schedule faults. If all answers have the same end, the
+/// report doesn't depend on the schedule. If a fiber has ended in each answer, some further entries end it after each
+/// schedule. If all fibers have ended in each answer, no schedule leads to a world in which a fiber can never end
 /// (`deadlock`).
 ///
-/// A report is listed once, and so is a fault; reports come before faults, and among either those with shorter
-/// schedules first. The limits are in their ranges ([`Limits`]); a world takes memory for each of its numbers.
+/// Each report and each fault is listed once. Reports come before faults, and in each group shorter schedules come
+/// first. The limits are in their ranges ([`Limits`]); a registry takes memory for each number that they allow.
 /// [`RunError::NoMemory`] is the only error.
 ///
-/// It is a search with partial-order reduction: behind each entry, up to a hundred moves of each fiber are made at once
-/// of which no other fiber sees anything, and which nothing that another fiber does can change. These are moves without
-/// a shared call; masks that are entered and left, and cuts; looks where the request is set, or where nobody can set it
-/// any more; joins and requests of a fiber that has ended; what is done with a completed deferred; and what is done with
-/// a ref, a deferred or a fiber that nobody else uses any more.
+/// The search uses partial-order reduction. After each entry it makes up to 100 own moves of each fiber at once, which
+/// no other fiber can see or influence. These are moves without a shared call, except the wait of a `never`; mask
+/// entries and exits, and cuts; looks, if the request is set or no other fiber can still set it; joins and requests of
+/// a fiber that has ended; calls on a completed deferred; and calls on a ref, completions of a deferred and the end of
+/// a fiber, if no other fiber can still see or influence them.
 ///
-/// In the schedules of the answers each move is an entry, and each entry is of a fiber that has a next move there. They
-/// needn't be the shortest, which [`explore_full`] finds. While it explores, the bound counts the entries alone,
-/// without the moves behind them. An answer whose schedule has more entries than the bound is left out then, and the
-/// exploration isn't complete.
+/// In the schedules of the answers each entry is one move, of a fiber that has a next move there. They needn't be the
+/// shortest; those of [`explore_full`] are. During the search, `bounds.entries` doesn't count the own moves. An answer
+/// whose schedule has more than `bounds.entries` entries with them is left out, and the exploration isn't complete.
 pub fn explore(
     alloc: Global,
     program: &Program,
@@ -101,9 +99,9 @@ pub fn explore(
     explore_watched(alloc, program, limits, bounds, &mut Unwatched)
 }
 
-/// The same ([`explore`]), while the watcher hears from time to time how many worlds were found and how long the
-/// schedules are, at each hundredth world. The watcher can end the search then: what was found is returned, and it isn't
-/// complete ([`Exploration::halted`]).
+/// Does the same as [`explore`]. At each hundredth world, the watcher gets the number of worlds found and the length of
+/// the schedules. It can end the search then: the result has what was found, and isn't complete
+/// ([`Exploration::halted`]).
 pub fn explore_watched<V: Watcher>(
     alloc: Global,
     program: &Program,
@@ -169,7 +167,7 @@ pub fn explore_watched<V: Watcher>(
     })
 }
 
-/// Whether both are so.
+/// Whether both are true.
 pub(crate) fn are_both(one: bool, other: bool) -> bool
     ensures one { result ≡ true → one ≡ true }
     ensures other { result ≡ true → other ≡ true }
@@ -178,8 +176,8 @@ pub(crate) fn are_both(one: bool, other: bool) -> bool
     one && other
 }
 
-/// The same ([`explore`]), without the reduction: each entry of each fiber is made alone, so there are far more worlds,
-/// and each report has a shortest schedule.
+/// Does the same as [`explore`], without the reduction: each entry is one move. There are far more worlds, and each
+/// report has a shortest schedule.
 pub fn explore_full(
     alloc: Global,
     program: &Program,
@@ -228,7 +226,7 @@ pub fn explore_full(
     })
 }
 
-// The answers of a search, each with its report or fault.
+// Returns the answers of a search, each with its report or fault.
 fn told(
     alloc: Global,
     worlds: &CoreWorlds,
@@ -248,7 +246,7 @@ fn told(
     Ok(answers)
 }
 
-// An answer of a search, with its report or fault.
+// Returns an answer of a search, with its report or fault.
 fn answer(worlds: &CoreWorlds, found: world_search::Answer) -> Result<Answer, AllocError>
     requires { IsWithin worlds.now found.end }
     ensures told { IfOk result (λ answer. IsTold worlds.now found answer) }
@@ -261,7 +259,7 @@ fn answer(worlds: &CoreWorlds, found: world_search::Answer) -> Result<Answer, Al
     })
 }
 
-// The report of a world that was found, or a fault.
+// The report of the world, or the fault, to which an answer leads.
 fn end(worlds: &CoreWorlds, found: Landing) -> Result<Result<Report, RunError>, AllocError>
     requires { IsWithin worlds.now found }
     ensures told { IfOk result (λ end. IsEnd worlds.now found end) }

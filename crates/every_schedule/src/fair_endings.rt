@@ -14,18 +14,18 @@ use fair_ends::{Ending, decide_ends};
 use std::alloc::Global;
 use world_search::{Bounds, Watcher};
 
-/// Whether every fair schedule of a program comes to an end: to a final world, in which each fiber has ended or waits for
-/// what can't come, or to a fault.
+/// Decides whether every fair schedule of a program ends: in a fault, or in a final world, where each fiber has ended
+/// or rests at a wait that nothing can end.
 ///
-/// A schedule has no end here. It is fair if each fiber has an entry again and again; an entry of a fiber that waits or
-/// has ended changes nothing. A deadlock is an end. A loop that nothing ends is none, whether or not its marks go on, and
-/// neither is one that an entry at the right moment would end, if a fair schedule can miss that moment for ever.
+/// Schedules are infinite here. A schedule is fair if each fiber has entries again and again; an entry of a fiber that
+/// waits or has ended changes nothing. A deadlock is an end. An endless loop isn't, with or without new marks; nor is a
+/// loop that an entry at the right moment would end, if a fair schedule can miss that moment for ever.
 ///
-/// [`Ending::Repeats`] has the entries that lead to a cycle, and those of the cycle: `replay` takes the first, and
-/// behind them the others as often as one likes. The search makes own moves at once, as [`explore`](crate::explore)
-/// does; the promise is about schedules whose entries are each made alone. [`Ending::Undecided`] is returned at a bound:
-/// as many worlds as may be kept, or as many bytes; the bound on entries isn't used. It is also returned if the watcher
-/// ends the search. The limits are in their ranges ([`Limits`]). [`RunError::NoMemory`] is the only error.
+/// [`Ending::Repeats`] has the entries to a cycle and the entries of the cycle: `replay` takes the first, then the
+/// others any number of times. The search makes own moves at once, as [`explore`](crate::explore) does; the promise is
+/// about schedules in which each entry is one move. [`Ending::Undecided`] is returned at the bound on worlds or on
+/// memory, if the watcher ends the search, or if a check fails; the bound on entries isn't used. The limits are in
+/// their ranges ([`Limits`]). [`RunError::NoMemory`] is the only error.
 ///
 /// ```
 /// let program = Program::check(alloc, parse(alloc, b"(race (pure 4) (never))")?)?;

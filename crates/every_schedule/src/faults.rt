@@ -9,7 +9,7 @@ use cell_registry::RunError;
 use std::alloc::{AllocError, Global};
 use std::marker::Model;
 
-/// Faults, each with a number, and none twice.
+/// Faults, each kept once and with a number.
 #[derive(Drop)]
 pub(crate) struct Faults {
     faults: Vec<RunError>,
@@ -28,7 +28,7 @@ impl Model for Faults {
 }
 
 impl Faults {
-    /// None yet.
+    /// Returns an empty list of faults.
     pub(crate) fn new(alloc: Global) -> Faults
         ensures { result ≡ [] }
     {
@@ -45,7 +45,7 @@ impl Faults {
         self.faults[number]
     }
 
-    /// How many there are. None is there twice.
+    /// The number of faults. Each fault is kept once.
     pub(crate) fn len(&self) -> usize
         ensures many { result ≡ length self.now }
         ensures single { AreSingle self.now }
@@ -53,7 +53,7 @@ impl Faults {
         self.faults.len()
     }
 
-    /// The number of a fault, which is kept from now on.
+    /// Returns the number of a fault, and keeps the fault if it is new.
     pub(crate) fn note(&mut self, fault: RunError) -> Result<usize, AllocError>
         ensures more { IsMore self.old self.new }
         ensures noted { IfOk result (λ i. slice_get self.new i ≡ Some fault) }

@@ -1,4 +1,4 @@
-//! What is known of the states of fibers, so that it needn't be found out again.
+//! What is known of the states of fibers, kept so that it is computed once.
 ghost use Rattle.std.specs.Prelude.{◌≡◌, ◌<◌, Bool, IfOk};
 ghost use Rattle.derived_ops.specs.Naming.{Given};
 ghost use Rattle.fiber_frames.specs.Fiber.{Fiber, ask_of, waits_alone};
@@ -12,33 +12,33 @@ use fiber_frames::{Config, Use};
 use scheduled_core::Wish;
 use std::alloc::{AllocError, Global};
 
-// Of so many numbers of a kind it may be known whether a state can still use them.
+// Whether a state can still use a fiber, a ref or a deferred is kept for numbers below this one.
 const MOST: u16 = 64;
 
-/// In which worlds the next move of a state is an own one.
+/// In which worlds the next move of a state is an own move.
 #[derive(Clone, Copy)]
 pub(crate) enum Owned {
     /// In none.
     Never,
     /// In each.
     Always,
-    /// In some, as what the other fibers can still do says, or what the registry does.
+    /// In some worlds: the other fibers or the registry decide.
     Sometimes,
 }
 
-/// What the next move of a state wants, whether that move is a wait that never ends, in which worlds it is an own one,
-/// and which of the first numbers the state can still use in which way, as far as that was looked for.
+/// What is known of a state: the wish of its next move, whether its next word is a `never`, in which worlds its next
+/// move is an own move, and which uses of numbers were looked up.
 #[derive(Drop)]
 pub(crate) struct Known {
     pub(crate) wish: Wish,
     pub(crate) waits_alone: bool,
     pub(crate) owned: Owned,
-    // For each number in turn the six uses.
+    // The six uses of each number in turn, in the order of `code_of`. `None` for a use that wasn't looked up.
     uses: Vec<Option<bool>>,
 }
 
 impl Known {
-    /// What is known of this state, under these limits, before any use was looked for.
+    /// Returns what is known of this state, under these limits, before any use is looked up.
     pub(crate) fn of(alloc: Global, fiber: &Config, limits: Limits) -> Result<Known, AllocError>
         ensures { IfOk result (IsKnown fiber.now) }
     {
@@ -52,7 +52,7 @@ impl Known {
         })
     }
 
-    /// Whether this state, of which it is known, can still use the number so.
+    /// Whether `fiber`, which `self` is about, can still use the number in this way.
     #[inline(always)]
     pub(crate) fn uses(&mut self, fiber: &Config, what: Use, number: u16) -> bool
         requires { IsKnown fiber.now self.old }
@@ -75,14 +75,14 @@ impl Known {
     }
 }
 
-// In which worlds the next move of a state is an own one.
+// In which worlds the next move of a state is an own move.
 fn owned_of(fiber: &Config) -> Owned
     ensures { IsOwned (wish_of (ask_of fiber.now)) (waits_alone fiber.now) result }
 {
     owned_by(Wish::of(fiber.ask()), fiber.waits_alone())
 }
 
-// In which worlds a move that wants this is an own one.
+// In which worlds a move with this wish is an own move.
 fn owned_by(wish: Wish, waits_alone: bool) -> Owned
     ensures { IsOwned wish waits_alone result }
 {
@@ -99,7 +99,7 @@ fn owned_by(wish: Wish, waits_alone: bool) -> Owned
     }
 }
 
-// The same for a call.
+// In which worlds a move with this call is an own move.
 fn owned_by_call(call: Call) -> Owned
     ensures { (alone : Bool) → IsOwned (Wish.Shared call) alone result }
 {
@@ -110,7 +110,7 @@ fn owned_by_call(call: Call) -> Owned
     }
 }
 
-// The number of a use.
+// The number of a use, from 0 to 5.
 #[inline(always)]
 fn code_of(what: Use) -> usize
     ensures code { result ≡ use_code what }
@@ -126,7 +126,7 @@ fn code_of(what: Use) -> usize
     }
 }
 
-// Of so many numbers nothing is known yet, and of no more than that it ever will be.
+// Returns the uses of the first `many` numbers, or of the first [`MOST`] if that is less: none was looked up.
 fn unknown(alloc: Global, many: u16) -> Result<Vec<Option<bool>>, AllocError>
     ensures { IfOk result (λ it. (g : Fiber) → TellUses g it.items) }
 {

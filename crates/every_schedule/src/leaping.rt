@@ -1,4 +1,4 @@
-//! Entries with own moves behind them.
+//! Entries, each followed by own moves.
 ghost use Rattle.std.specs.Prelude.{◌≡◌, ◌≢◌, ◌⊎◌, ◌++◌, ◌<◌, ◌≤◌, [], ◌∷◌, length, false, true};
 ghost use Rattle.std.specs.Prelude.{IfErr, IfOk, OnOk};
 ghost use Rattle.std.specs.Prelude.{Ok as GoesWell, Err as Fails};
@@ -13,17 +13,17 @@ use cell_registry::RunError;
 use effect_term::facts_of;
 use std::alloc::AllocError;
 
-/// Which own moves are made at once behind an entry.
+/// Which own moves are made at once after an entry.
 #[derive(Clone, Copy)]
 pub(crate) struct AtOnce {
-    /// At most so many of each fiber.
+    /// The most own moves of each fiber.
     pub(crate) most: usize,
-    /// Those that set a ref or change it are among them.
+    /// Moves that set or change a ref are among them.
     pub(crate) stores: bool,
 }
 
-/// The entry of a fiber, with such own moves behind it. The entries that were made are added to the trail: one that ends
-/// in a fault too, and none of a fiber that isn't born or has ended.
+/// Makes the entry of a fiber, then the own moves that `at_once` allows. Adds these entries to the trail, also an entry
+/// that ends in a fault, but no entry of a fiber that isn't born or has ended.
 pub(crate) fn leap(
     current: &mut Current,
     fiber: u16,
@@ -51,7 +51,7 @@ pub(crate) fn leap(
     Ok(())
 }
 
-/// How many fibers are born.
+/// The number of fibers that are born.
 pub(crate) fn few_born(current: &Current) -> usize
     requires { AllFit (here current.now).world }
     ensures born { result ≡ length (here current.now).world.fibers }
@@ -63,7 +63,7 @@ pub(crate) fn few_born(current: &Current) -> usize
     current.born()
 }
 
-// The entry of a fiber, if it has a next move: else it changes nothing.
+// Adds the entry of a fiber to the trail, if the fiber has a next move. Otherwise the entry changes nothing.
 fn note(trail: &mut Vec<u16>, current: &Current, by: u16) -> Result<(), AllocError>
     requires { by < 1000 }
     ensures { OnOk result (IsFirstOf trail.old.items trail.new.items (here current.now) by) }
@@ -74,7 +74,7 @@ fn note(trail: &mut Vec<u16>, current: &Current, by: u16) -> Result<(), AllocErr
     Ok(())
 }
 
-// One more entry.
+// Adds an entry to the trail.
 fn add(trail: &mut Vec<u16>, fiber: u16) -> Result<(), AllocError>
     ensures { OnOk result (trail.new.items ≡ trail.old.items ++ fiber ∷ []) }
 {
@@ -82,7 +82,7 @@ fn add(trail: &mut Vec<u16>, fiber: u16) -> Result<(), AllocError>
     Ok(())
 }
 
-// Such own moves of each fiber.
+// Makes the own moves of each fiber that `at_once` allows.
 fn push(current: &mut Current, at_once: AtOnce, trail: &mut Vec<u16>) -> Result<(), AllocError>
     requires { AllFit (here current.old).world }
     ensures onward { IsOnward current.old current.new }
@@ -100,7 +100,7 @@ fn push(current: &mut Current, at_once: AtOnce, trail: &mut Vec<u16>) -> Result<
     Ok(())
 }
 
-// One own move of each fiber that has one, the last fiber first. Whether any was made.
+// Makes one own move of each fiber that has one, the last fiber first. Returns whether any was made.
 fn push_once(current: &mut Current, stores: bool, trail: &mut Vec<u16>) -> Result<bool, AllocError>
     requires { AllFit (here current.old).world }
     ensures onward { IsOnward current.old current.new }
@@ -120,14 +120,14 @@ fn push_once(current: &mut Current, stores: bool, trail: &mut Vec<u16>) -> Resul
     Ok(moved)
 }
 
-// Whether one of the two is so.
+// Whether at least one of the two is true.
 fn either(one: bool, other: bool) -> bool
     ensures { result ≡ false → (one ≡ false) × (other ≡ false) }
 {
     one || other
 }
 
-// An own move of this fiber, if it has one and its call isn't refused. Whether it was made.
+// Makes an own move of this fiber, if it has one and its call isn't refused. Returns whether it was made.
 fn push_fiber(
     current: &mut Current,
     stores: bool,
@@ -159,7 +159,7 @@ fn push_fiber(
     Ok(true)
 }
 
-// Whether a fiber is born and its next move is an own one that may be made at once.
+// Whether a fiber is born, and its next move is an own move that is allowed at once.
 fn has_own_move(current: &mut Current, stores: bool, fiber: u16) -> bool
     requires { AllFit (here current.old).world }
     ensures same { IsSame current.old current.new }
@@ -170,7 +170,7 @@ fn has_own_move(current: &mut Current, stores: bool, fiber: u16) -> bool
         && may_be_made(&*current, stores, fiber)
 }
 
-/// Whether this is want of memory.
+/// Whether memory ran out.
 pub(crate) fn is_memory(fault: RunError) -> bool
     ensures { result ≡ false → fault ≢ RunError.NoMemory }
 {

@@ -1,22 +1,21 @@
-//! Every schedule of a program: all that can come of it, each with a schedule, and no other.
+//! Explores every schedule of a program: lists each final report and each fault, with a schedule that leads to it.
 //!
-//! It stands on the core under a schedule (`scheduled_core`) and on a search of all worlds that any schedule leads to
-//! (`world_search`), to which it hands the worlds of the core. It promises that where the search closed, every report
-//! that stays what it is and every fault, under any schedule, is among its answers, and that the schedule of each
-//! answer leads to it.
+//! The crate uses the core of `scheduled_core`, and the search of `world_search`, to which it gives the worlds of the
+//! core. It promises that the schedule of each answer leads to that answer. If the exploration is complete, every final
+//! report and every fault, under any schedule, is among its answers.
 //!
-//! [`search_claims`] looks at claims in each world that a schedule leads to: comparisons of the values of refs. It
-//! gives each claim that is met a schedule that leads to a world which meets it, and where it was complete, no schedule
-//! leads to a world that meets another one.
+//! [`search_claims`] checks claims, which compare the values of refs, in each world that a schedule leads to. It
+//! returns each claim that is met, with a schedule to a world that meets it. If the search is complete, no schedule
+//! leads to a world that meets any other of the claims.
 //!
-//! A program is explored so, within limits for 3 fibers, a ref, a deferred and 1000 changes of each fiber:
+//! This explores a program, within limits of 3 fibers, one ref, one deferred and 1000 changes of each fiber:
 //!
 //! ```
 //! let program = Program::check(alloc, parse(alloc, b"(race (pure 4) (never))")?)?;
 //! let limits = Limits { fibers: 3, refs: 1, deferreds: 1, count: 1000 };
 //! let bounds = Bounds { worlds: 10_000, entries: 10_000, memory: 1 << 30 };
 //! let exploration = explore(alloc, &program, limits, bounds)?;
-//! // All schedules were searched, and two reports come of them: fiber 2 is cut before its first move, or in its poll.
+//! // All schedules were searched. They end in two reports: fiber 2 is cut before its first move, or in its poll.
 //! assert_eq!((exploration.complete, exploration.answers.as_slice().len()), (true, 2));
 //! ```
 #![tactic(auto)]

@@ -1,5 +1,4 @@
-//! Which moves are made at once: those of which no other fiber sees anything, and which nothing that another fiber does
-//! can change.
+//! Which moves are own moves, which no other fiber can see or influence.
 ghost use Rattle.std.specs.Prelude.{◌≡◌, ◌<◌, ◌||◌, false, length, nat_eq, Some};
 ghost use Rattle.std.specs.List.{slice_get};
 ghost use Rattle.fiber_frames.specs.Fiber.{Fiber};
@@ -20,7 +19,7 @@ use effect_term::facts_of;
 use fiber_frames::Use;
 use scheduled_core::Wish;
 
-/// Whether the next move of this fiber is an own one.
+/// Whether the next move of fiber `by` is an own move.
 pub(crate) fn is_own_move(current: &mut Current, by: u16) -> bool
     requires born { by < length (here current.old).world.fibers }
     requires within { by < (here current.old).limits.fibers }
@@ -35,7 +34,7 @@ pub(crate) fn is_own_move(current: &mut Current, by: u16) -> bool
     }
 }
 
-// The same, as what the other fibers can still do says, or what the registry does.
+// The same, by what the other fibers can still do, and by the registry.
 fn is_own_now(current: &mut Current, by: u16) -> bool
     requires born { by < length (here current.old).world.fibers }
     requires within { by < (here current.old).limits.fibers }
@@ -51,7 +50,7 @@ fn is_own_now(current: &mut Current, by: u16) -> bool
     }
 }
 
-/// Whether the next move of this fiber may be made at once, where those that set a ref or change it are, or aren't.
+/// Whether the next move of fiber `by` is allowed at once. Without `stores`, no move that sets or changes a ref is.
 pub(crate) fn may_be_made(current: &Current, stores: bool, by: u16) -> bool
     requires { by < length (here current.now).world.fibers }
     ensures { result ≡ may_be stores (slice_get (here current.now).world.fibers by) }
@@ -59,7 +58,7 @@ pub(crate) fn may_be_made(current: &Current, stores: bool, by: u16) -> bool
     stores || stored_in(current.wish(usize::from(by))).is_none()
 }
 
-/// The ref that the next move of a fiber sets or changes, if it does that.
+/// The ref that the next move of a fiber sets or changes, if there is one.
 pub(crate) fn stored_by(world: &CoreWorld, by: u16) -> Option<u16>
     ensures { result ≡ the_stored_by (slice_get world.now.world.fibers by) }
 {
@@ -69,7 +68,7 @@ pub(crate) fn stored_by(world: &CoreWorld, by: u16) -> Option<u16>
     }
 }
 
-/// The ref that a move which wants this sets or changes.
+/// The ref that a move with this wish sets or changes, if there is one.
 pub(crate) fn stored_in(wish: Wish) -> Option<u16>
     ensures { result ≡ the_stored wish }
 {
@@ -79,7 +78,7 @@ pub(crate) fn stored_in(wish: Wish) -> Option<u16>
     }
 }
 
-// Whether this call of a fiber is an own one.
+// Whether this call of fiber `by` is an own move.
 fn is_own_call(current: &mut Current, by: u16, call: Call) -> bool
     requires born { by < (here current.old).world.cells.next_fiber }
     requires within { by < (here current.old).limits.fibers }
@@ -108,7 +107,7 @@ fn is_own_call(current: &mut Current, by: u16, call: Call) -> bool
     }
 }
 
-// Whether no other fiber can request the cancellation of this one any more.
+// Whether no other fiber can still request the cancellation of `fiber`.
 fn is_left_alone(current: &mut Current, fiber: u16) -> bool
     requires given { fiber < (here current.old).world.cells.next_fiber }
     requires fits { AllFit (here current.old).world }
@@ -118,7 +117,7 @@ fn is_left_alone(current: &mut Current, fiber: u16) -> bool
     is_kept(current, Use::Cancels, fiber, fiber)
 }
 
-// Whether no fiber but this one can use a number so any more. The number is given.
+// Whether no fiber but `by` can still use the number in this way. The registry has given the number.
 fn is_kept(current: &mut Current, what: Use, by: u16, number: u16) -> bool
     requires given { number < next_of (used_place what) (here current.old).world.cells }
     requires fits { AllFit (here current.old).world }
@@ -131,7 +130,7 @@ fn is_kept(current: &mut Current, what: Use, by: u16, number: u16) -> bool
     all_spare(current, what, by, number)
 }
 
-// Whether the fiber that last used what this one does isn't there, or can't use the number so any more.
+// Whether the last rival of fiber `by` isn't born in this world, or spares the number.
 fn rival_spares(current: &mut Current, what: Use, by: u16, number: u16) -> bool
     requires given { number < next_of (used_place what) (here current.old).world.cells }
     requires fits { AllFit (here current.old).world }
@@ -142,7 +141,7 @@ fn rival_spares(current: &mut Current, what: Use, by: u16, number: u16) -> bool
     place >= current.born() || spares(current, what, by, number, place)
 }
 
-// Whether each fiber but this one spares the number.
+// Whether each fiber spares the number. The first one that doesn't becomes the rival of fiber `by`.
 fn all_spare(current: &mut Current, what: Use, by: u16, number: u16) -> bool
     requires given { number < next_of (used_place what) (here current.old).world.cells }
     requires fits { AllFit (here current.old).world }
@@ -159,7 +158,7 @@ fn all_spare(current: &mut Current, what: Use, by: u16, number: u16) -> bool
     true
 }
 
-// Whether the fiber of this place is that one, or can't use the number so any more.
+// Whether the fiber at this place is `by`, or can no longer use the number in this way.
 #[inline(always)]
 fn spares(current: &mut Current, what: Use, by: u16, number: u16, place: usize) -> bool
     requires place { place < length (here current.old).world.fibers }

@@ -20,18 +20,18 @@ pub(crate) trait Pooled: Drop {
     // About how many bytes a state takes.
     ghost size: { Self → ℕ };
 
-    /// The same state once more.
+    /// Returns a copy of the state.
     fn again(&self, alloc: Global) -> Result<Self, AllocError>
         ensures { IfOk result (λ it. it ≡ self.now) };
 
-    /// Whether two states are one, as far as was looked.
+    /// Whether two states are equal: `true` means that they are, `false` is possible for two equal ones.
     fn is(&self, other: &Self) -> bool
         ensures { result ≡ true → self.now ≡ other.now };
 
-    /// A number that is the same for states that are taken for one.
+    /// A hash: equal for two states for which `is` returns `true`.
     fn key(&self) -> u64;
 
-    /// About how many bytes it takes among others.
+    /// About how many bytes the state takes in a pool.
     fn size(&self) -> usize
         ensures { result ≡ size self.now };
 }
@@ -84,21 +84,21 @@ impl Pooled for PlainRegistry {
     }
 }
 
-/// States, each of which has its place for its number, under which it is filed by its key. Whatever is filed, only a
-/// state that is the same is taken for the one that is looked for.
+/// States, each numbered by its place and filed by its key. Whatever the table returns, a lookup returns only a state
+/// that is equal to the one that it looks for.
 #[derive(Drop)]
 pub(crate) struct Pool<T> {
     alloc: Global,
     pub(crate) items: Vec<T>,
-    // The key of each of them.
+    // The key of each state.
     keys: Vec<u64>,
     table: Table,
-    /// About how many bytes all of them take.
+    /// About how many bytes all states take.
     pub(crate) bytes: usize,
 }
 
 impl<T: Pooled> Pool<T> {
-    /// No state yet.
+    /// Returns an empty pool.
     pub(crate) fn new(alloc: Global) -> Pool<T>
         ensures none { result.items.items ≡ [] }
         ensures bytes { result.bytes ≡ 0 }
@@ -112,7 +112,7 @@ impl<T: Pooled> Pool<T> {
         }
     }
 
-    /// The number of a state that is kept and is this one, as far as was looked. This is its key.
+    /// The number of a kept state that `is` finds equal to this one, whose key is `key`.
     pub(crate) fn find(&self, key: u64, wanted: &T) -> Option<u32>
         ensures { IfSome result (λ n. slice_get self.now.items.items n ≡ Some wanted.now) }
     {
@@ -127,7 +127,7 @@ impl<T: Pooled> Pool<T> {
         None
     }
 
-    /// Keeps one more state under its key. It gets the next number. There is no room for more than 2^32 - 1.
+    /// Keeps a state under its key and returns its number, the next one. `AllocError` past 2^32 - 1 states.
     pub(crate) fn add(&mut self, key: u64, item: T) -> Result<u32, AllocError>
         ensures added { OnOk result (self.new.items.items ≡ self.old.items.items ++ item ∷ []) }
         ensures number { IfOk result (λ n. n ≡ length self.old.items.items) }
@@ -149,7 +149,7 @@ impl<T: Pooled> Pool<T> {
         Ok(number)
     }
 
-    /// The number of this state, which is kept from now on.
+    /// Returns the number of a state, and keeps the state unless an equal one is found.
     pub(crate) fn number(&mut self, item: T) -> Result<u32, AllocError>
         ensures more { IsMore self.old.items.items self.new.items.items }
         ensures number { IfOk result (λ n. slice_get self.new.items.items n ≡ Some item) }
@@ -161,7 +161,7 @@ impl<T: Pooled> Pool<T> {
         self.add(key, item)
     }
 
-    /// The number of a state that is the same as this one, which is kept from now on.
+    /// Returns the number of a state, and keeps a copy of the state unless an equal one is found.
     pub(crate) fn number_of(&mut self, alloc: Global, item: &T) -> Result<u32, AllocError>
         ensures more { IsMore self.old.items.items self.new.items.items }
         ensures number { IfOk result (λ n. slice_get self.new.items.items n ≡ Some item.now) }

@@ -20,23 +20,23 @@ use scheduled_core::Report;
 use std::alloc::{AllocError, Global};
 use world_search::{Entered, Worlds};
 
-/// So many own moves are made at once behind an entry.
+/// The own moves that are made at once after an entry: up to 100 of each fiber.
 pub(crate) const AT_ONCE: AtOnce = AtOnce {
     most: 100,
     stores: true,
 };
 
-/// All worlds and faults that were found, where each entry has its own moves behind it.
+/// All worlds and faults that were found, where own moves follow each entry at once.
 #[derive(Drop)]
 pub(crate) struct ReducedWorlds {
     alloc: Global,
     pub(crate) worlds: CoreWorlds,
-    // The entries that were made last.
+    // The entries that the last step made.
     trail: Vec<u16>,
 }
 
 impl ReducedWorlds {
-    /// The first world of a program, alone.
+    /// Returns the store of the first world of a program.
     pub(crate) fn new(
         alloc: Global,
         program: &Program,
@@ -55,7 +55,7 @@ impl ReducedWorlds {
         })
     }
 
-    /// Makes the entry of a fiber at a world, with its own moves behind it, and returns the entries.
+    /// Makes the entry of a fiber at a world, then own moves. Returns where they lead, and all these entries.
     pub(crate) fn made(&mut self, world: usize, fiber: u16, most: usize) -> Result<Made, AllocError>
         requires { world < length self.old.worlds.places }
         ensures worlds { IsMore self.old.worlds.places self.new.worlds.places }
@@ -71,7 +71,7 @@ impl ReducedWorlds {
         Ok(Made { to, entries })
     }
 
-    /// Makes the entry of a fiber at a world alone.
+    /// Makes the entry of a fiber at a world, without own moves after it.
     pub(crate) fn alone(
         &mut self,
         world: usize,

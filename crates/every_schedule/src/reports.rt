@@ -1,4 +1,4 @@
-//! What the fibers of worlds have come to, by the numbers of their states.
+//! Compares the reports of worlds, by the numbers of their fibers' states.
 ghost use Rattle.std.specs.Prelude.{◌≡◌, ◌<◌, length, false, true};
 ghost use Rattle.std.specs.List.{All};
 ghost use Rattle.every_schedule.specs.Private.Reporting.{Alike, AreAlike, Differ, AreOther};
@@ -8,7 +8,7 @@ use fiber_frames::Config;
 use scheduled_core::same_report;
 use std::slice;
 
-/// Whether the fibers of these numbers have come to the same as those of the others.
+/// Whether the states of the two lists make the same report.
 pub(crate) fn same_reports(pool: &Pool<Config>, one: &[u32], other: &[u32]) -> bool
     requires one { All (λ n. n < length pool.now.items.items) one.now }
     requires other { All (λ n. n < length pool.now.items.items) other.now }
@@ -26,7 +26,7 @@ pub(crate) fn same_reports(pool: &Pool<Config>, one: &[u32], other: &[u32]) -> b
     true
 }
 
-// Whether two fibers have come to the same.
+// Whether two states make the same report.
 fn is_alike(pool: &Pool<Config>, one: u32, other: u32) -> bool
     requires one { one < length pool.now.items.items }
     requires other { other < length pool.now.items.items }

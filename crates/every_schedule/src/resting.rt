@@ -52,7 +52,7 @@ impl Resting for ReducedWorlds {
     }
 }
 
-// Whether each fiber has ended, or waits for what can't come.
+// Whether each fiber has ended, or rests at a wait that nothing can end.
 fn are_done(fibers: &[Config], registry: &PlainRegistry) -> bool
     requires { AllFit (world_of fibers.now registry.now.state) }
     ensures { result ≡ true → IsFinal (world_of fibers.now registry.now.state) }
@@ -65,7 +65,7 @@ fn are_done(fibers: &[Config], registry: &PlainRegistry) -> bool
     true
 }
 
-// Whether one of the fibers is known to be able to go on.
+// Whether a fiber is found that can go on.
 fn some_goes_on(fibers: &[Config], registry: &PlainRegistry) -> bool
     requires { AllFit (world_of fibers.now registry.now.state) }
     ensures { result ≡ true → IsFinal (world_of fibers.now registry.now.state) → ⊥ }
@@ -78,7 +78,7 @@ fn some_goes_on(fibers: &[Config], registry: &PlainRegistry) -> bool
     false
 }
 
-// Whether a fiber hasn't ended, and is at no wait, or at one for what has come.
+// Whether a fiber hasn't ended, and its word is no wait, or a wait that the registry ends.
 fn goes_on(config: &Config, registry: &PlainRegistry) -> bool
     requires { Fits (cell_registered registry.now.state config.now.number) config.now }
     ensures { result ≡ true → HasEnded config.now ⊎ IsAtRest registry.now.state config.now.number config.now → ⊥ }

@@ -1,4 +1,4 @@
-//! Worlds by the numbers of their states.
+//! Worlds, as rows of the numbers of their states.
 ghost use Rattle.std.specs.Prelude.{◌≡◌, ◌≤◌, ◌<◌, ◌++◌, [], ◌∷◌, length, true, max, IfOk, IfSome, OnErr, OnOk, Some};
 ghost use Rattle.std.specs.List.{slice_get};
 ghost use Rattle.world_search.specs.Landings.{IsNext};
@@ -10,8 +10,8 @@ use std::alloc::{AllocError, Global};
 use std::marker::Model;
 use world_search::{Entered, Landing};
 
-// At most so many bytes are taken by a row without the numbers of its fibers, and by each of these numbers: each list
-// has at most twice the room that it needs, and at most eight thirds as many places are in the table.
+// The most bytes that a row takes without the numbers of its fibers, and the most bytes of one such number. A list has
+// room for at most twice its items, and the table has at most 8/3 slots for each row.
 const ROW: usize = 36;
 
 const NUMBER: usize = 8;
@@ -24,7 +24,7 @@ pub(crate) struct Head {
     end: u32,
 }
 
-/// Of each world the number of its registry, and those of its fibers' states, one world behind the other.
+/// The rows of all worlds: for each, the number of its registry and the numbers of its fibers' states.
 #[derive(Drop)]
 pub(crate) struct Rows {
     alloc: Global,
@@ -49,7 +49,7 @@ impl Model for Rows {
 }
 
 impl Rows {
-    /// The first row alone.
+    /// Returns a list of one row.
     pub(crate) fn first(alloc: Global, registry: u32, fibers: &[u32]) -> Result<Rows, AllocError>
         ensures { IfOk result (λ it. it.rows ≡ record { registry = registry; fibers = fibers.now } ∷ []) }
     {
@@ -63,7 +63,7 @@ impl Rows {
         Ok(rows)
     }
 
-    /// How many rows there are.
+    /// The number of rows.
     pub(crate) fn len(&self) -> usize
         ensures { result ≡ length self.now.rows }
     {
@@ -87,7 +87,7 @@ impl Rows {
         self.heads[world].registry
     }
 
-    /// The numbers of a world's fibers.
+    /// The numbers of the states of a world's fibers.
     pub(crate) fn fibers(&self, world: usize) -> &[u32]
         requires { world < length self.now.rows }
         ensures { (n : Numbers) → slice_get self.now.rows world ≡ Some n → result.now ≡ n.fibers }
@@ -122,7 +122,7 @@ impl Rows {
         known == registry && are_same(self.fibers(world), fibers)
     }
 
-    // Keeps one more row. There is no room for more than 2^32 - 1 numbers.
+    // Adds a row and returns its number. `AllocError` past 2^32 - 1 rows, or numbers of fibers in all.
     fn add(&mut self, key: u64, registry: u32, fibers: &[u32]) -> Result<usize, AllocError>
         ensures added { OnOk result (self.new.rows ≡
             self.old.rows ++ record { registry = registry; fibers = fibers.now } ∷ []) }
@@ -148,7 +148,7 @@ impl Rows {
         Ok(world)
     }
 
-    /// The number of a world, which is kept unless there are so many already.
+    /// Returns the number of a world, and adds the world if it is new. `Full` if it is new and there are `most` rows.
     pub(crate) fn keep(
         &mut self,
         registry: u32,
@@ -173,14 +173,14 @@ impl Rows {
     }
 }
 
-// Whether these are the same numbers.
+// Whether the two lists are equal.
 fn are_same(one: &[u32], other: &[u32]) -> bool
     ensures { result ≡ true → one.now ≡ other.now }
 {
     one == other
 }
 
-// A number by which a world is looked up.
+// The hash under which a world is filed.
 fn key(registry: u32, fibers: &[u32]) -> u64 {
     let mut key = u64::from(registry).wrapping_mul(0x9E37_79B9_7F4A_7C15);
     for number in fibers {
@@ -190,7 +190,7 @@ fn key(registry: u32, fibers: &[u32]) -> u64 {
     key
 }
 
-// A larger table of these rows.
+// Returns a table of twice the size, with these rows filed.
 fn refiled(alloc: Global, rows: &Rows) -> Result<Table, AllocError>
     requires { length rows.now.rows < 4294967295 }
 {

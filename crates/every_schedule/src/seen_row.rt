@@ -1,14 +1,14 @@
-//! A world by its number, and the refs that were set before.
+//! The number of a world, with the refs that were set before.
 ghost use Rattle.std.specs.Prelude.{◌≡◌, true};
 
 use crate::pool::Pooled;
 use std::alloc::{AllocError, Global};
 use std::marker::Model;
 
-// About how many bytes such a row takes without the numbers of refs.
+// About how many bytes a row takes without the numbers of refs.
 const SEEN_ROW: usize = 64;
 
-/// The number of a world, and the refs that were set before, in the order of their first time.
+/// The number of a world, and the refs that were set before, in the order of their first sets.
 #[derive(Drop)]
 pub(crate) struct SeenRow {
     world: usize,
@@ -24,7 +24,7 @@ impl Model for SeenRow {
 }
 
 impl SeenRow {
-    /// This world, with these refs.
+    /// Returns the row of this world and these refs.
     pub(crate) fn new(world: usize, seen: Vec<u16>) -> SeenRow
         ensures { result ≡ record { world = world; seen = seen.items } }
     {
@@ -38,7 +38,7 @@ impl SeenRow {
         self.world
     }
 
-    /// The refs.
+    /// The refs that were set before.
     pub(crate) fn seen(&self) -> &[u16]
         ensures { result.now ≡ self.now.seen }
     {

@@ -22,20 +22,20 @@ use std::alloc::{AllocError, Global};
 use std::marker::Model;
 use world_search::{Claims, Entered, Landing, Worlds};
 
-/// The own moves that are made at once behind an entry: none that sets a ref or changes it, so that each of their values
-/// is one of a world that is kept.
+/// The own moves that are made at once after an entry: none sets or changes a ref. So each value of a ref is that of a
+/// kept world.
 pub(crate) const STILL: AtOnce = AtOnce {
     most: 100,
     stores: false,
 };
 
-/// All worlds and faults that were found. A world of the core may be there several times, with different refs.
+/// All worlds and faults that were found. A world of the core can be kept several times, with different refs.
 #[derive(Drop)]
 pub(crate) struct SeenWorlds {
     alloc: Global,
     worlds: CoreWorlds,
     rows: Pool<SeenRow>,
-    // The entries that were made last.
+    // The entries that the last step made.
     trail: Vec<u16>,
 }
 
@@ -62,7 +62,7 @@ impl Model for SeenWorlds {
 }
 
 impl SeenWorlds {
-    /// The first world of a program, alone.
+    /// Returns the store of the first world of a program.
     pub(crate) fn new(
         alloc: Global,
         program: &Program,
@@ -86,7 +86,7 @@ impl SeenWorlds {
     }
 }
 
-// The refs that were set before, with the one that the next move sets, if it sets one.
+// Returns the refs that were set before, with the one that the next move sets, if there is one.
 fn seen_after(alloc: Global, seen: &[u16], stored: Option<u16>) -> Result<Vec<u16>, AllocError>
     ensures { IfOk result (λ it. it.items ≡ noted seen.now stored) }
 {
@@ -95,7 +95,7 @@ fn seen_after(alloc: Global, seen: &[u16], stored: Option<u16>) -> Result<Vec<u1
     Ok(after)
 }
 
-/// One ref more, if it isn't among them.
+/// Adds a ref, if there is one and it isn't in the list.
 pub(crate) fn note_ref(seen: &mut Vec<u16>, stored: Option<u16>) -> Result<(), AllocError>
     ensures { OnOk result (seen.new.items ≡ noted seen.old.items stored) }
 {
@@ -111,14 +111,14 @@ pub(crate) fn note_ref(seen: &mut Vec<u16>, stored: Option<u16>) -> Result<(), A
     }
 }
 
-// How many worlds of the core there may be: there is room for one more where there is for one more row.
+// The most worlds of the core: unlimited if there is room for one more row, otherwise 0.
 fn room(rows: usize, most: usize) -> usize
     ensures none { most ≤ rows → result ≡ 0 }
 {
     if rows < most { usize::MAX } else { 0 }
 }
 
-// What came of an entry for which there was no room: want of memory, where there is room for one more row.
+// The result of an entry without room in the core: `AllocError` if there is room for one more row, otherwise `Full`.
 fn full(rows: usize, most: usize) -> Result<Entered, AllocError>
     ensures next { IfOk result (λ it. IsNext rows rows most it) }
     ensures full { IfOk result (λ it. it ≡ Entered.Full) }
@@ -129,7 +129,7 @@ fn full(rows: usize, most: usize) -> Result<Entered, AllocError>
     Ok(Entered::Full)
 }
 
-// The number of a row, which is kept unless there are so many already.
+// Returns the number of a row, and keeps the row if it is new. `Full` if it is new and there are `most` rows.
 fn keep<T: Pooled>(rows: &mut Pool<T>, row: T, most: usize) -> Result<Entered, AllocError>
     ensures adds { MayAdd rows.old.items.items rows.new.items.items row }
     ensures kept { IfOk result (λ it. IsKept rows.new.items.items it row) }
@@ -147,7 +147,7 @@ fn keep<T: Pooled>(rows: &mut Pool<T>, row: T, most: usize) -> Result<Entered, A
     Ok(Entered::At(Landing::World(number as usize)))
 }
 
-// What came of an entry, by what came of it in the core and by the refs that are set now.
+// The result of an entry, from its result `came` in the core and the refs that are set after it.
 fn row_met(
     rows: &mut Pool<SeenRow>,
     came: Entered,

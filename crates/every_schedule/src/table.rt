@@ -1,22 +1,22 @@
-//! Numbers that are filed under keys.
+//! A hash table of numbers.
 ghost use Rattle.std.specs.Prelude.{◌<◌, length};
 
 use std::alloc::{AllocError, Global};
 
-// How many slots a table has at first.
+// The least number of slots of a table that has any.
 const FIRST: usize = 64;
 
-/// Numbers, each filed under a key, in an open-addressing table. Of what is found nothing is promised: whoever looks a
-/// number up sees whether it is the one that is wanted.
+/// An open-addressing table of numbers, each filed under a key. No contract says which numbers it returns: the caller
+/// checks each number that it gets.
 #[derive(Drop)]
 pub(crate) struct Table {
-    // As many as a power of two: 0 where a slot is free, and else the number and one.
+    // No slots, or a power of two. A free slot is 0, a taken one is its number plus 1.
     slots: Vec<u32>,
     filed: usize,
 }
 
 impl Table {
-    /// No number yet.
+    /// Returns an empty table.
     pub(crate) fn new(alloc: Global) -> Table {
         Table {
             slots: Vec::new(alloc),
@@ -24,7 +24,7 @@ impl Table {
         }
     }
 
-    /// A table with room for twice as many numbers, with each number up to that of the last key filed under its key.
+    /// Returns a table of twice the size, where each place of `keys` is filed under the key there.
     pub(crate) fn refiled(&self, alloc: Global, keys: &[u64]) -> Result<Table, AllocError>
         requires { length keys.now < 4294967295 }
     {
@@ -35,7 +35,7 @@ impl Table {
         Ok(larger)
     }
 
-    /// A table with room for twice as many numbers, and none of them filed yet.
+    /// Returns an empty table of twice the size.
     pub(crate) fn larger(&self, alloc: Global) -> Result<Table, AllocError> {
         let many = self.slots.len().saturating_mul(2).max(FIRST);
         Ok(Table {
@@ -44,19 +44,19 @@ impl Table {
         })
     }
 
-    /// Whether there is no room for one more number: three quarters of the slots are taken.
+    /// Whether the table has to grow before the next number: three quarters of the slots are taken.
     pub(crate) fn is_full(&self) -> bool {
         self.filed / 3 >= self.slots.len() / 4
     }
 
-    /// The number in the slot so far behind the first one of a key, unless that slot is free.
+    /// The number in the slot `behind` places after the first slot of a key, or `None` if that slot is free.
     #[inline(always)]
     pub(crate) fn get(&self, key: u64, behind: usize) -> Option<u32> {
         let found = *self.slots.get(slot(key, behind, self.slots.len()))?;
         found.checked_sub(1)
     }
 
-    /// Files a number under a key. It is lost where all slots are taken.
+    /// Files a number under a key. Drops the number if all slots are taken.
     pub(crate) fn file(&mut self, key: u64, number: u32) {
         let many = self.slots.len();
         for behind in 0..many {
@@ -71,7 +71,7 @@ impl Table {
     }
 }
 
-// The slot so far behind the first one of a key, among so many.
+// The slot `behind` places after the first slot of a key, in a table of `many` slots.
 #[inline(always)]
 fn slot(key: u64, behind: usize, many: usize) -> usize {
     (key as usize).wrapping_add(behind) & many.wrapping_sub(1)

@@ -1,4 +1,4 @@
-//! What moves make of the states of fibers, kept by the numbers of states.
+//! The moves from one state of a fiber to another, kept by the numbers of states.
 ghost use Rattle.std.specs.Prelude.{◌≡◌, ◌++◌, ◌<◌, [], ◌∷◌, length, IfSome, OnErr, OnOk};
 ghost use Rattle.effect_term.specs.Values.{IsValue};
 ghost use Rattle.effect_term.specs.declared.reply.JoinReply.TheVariants as TheJoin;
@@ -9,14 +9,14 @@ use crate::table::Table;
 use effect_term::{CancelReply, JoinReply, Outcome, Reply, Value};
 use std::alloc::{AllocError, Global};
 
-/// A reply, with the number of a value in the place of the value.
+/// A reply in one enum, with a plain number in place of a value.
 #[derive(Clone, Copy, PartialEq, Eq)]
 pub(crate) enum Said {
-    /// The call is made.
+    /// The call was made.
     Done,
-    /// Whether the fiber was asked to cancel.
+    /// A look: whether the cancellation of the fiber was requested.
     Seen(bool),
-    /// A request: it is the first.
+    /// A request: the first one.
     Asked,
     /// A request: there was one before.
     Already,
@@ -42,14 +42,14 @@ pub(crate) enum Said {
     Full(i64),
 }
 
-/// The number of a fiber's state behind a move, and that of the child which the move starts, if it starts one.
+/// The number of a fiber's state after a move, and the number of the child that the move starts, if it starts one.
 #[derive(Clone, Copy)]
 pub(crate) struct Turn {
     pub(crate) state: u32,
     pub(crate) child: Option<u32>,
 }
 
-/// The move of a fiber in the state of this number, under this reply, and what it leads to.
+/// The move of the state of this number, under this reply, and where it leads.
 #[derive(Clone, Copy)]
 pub(crate) struct Turned {
     pub(crate) state: u32,
@@ -57,7 +57,7 @@ pub(crate) struct Turned {
     pub(crate) turn: Turn,
 }
 
-/// The moves that were made, each filed by its key. Whatever is filed, only the move that is looked for is found.
+/// The moves that were made, filed by their keys. Whatever the table returns, a lookup finds only the right move.
 #[derive(Drop)]
 pub(crate) struct Turns {
     alloc: Global,
@@ -66,7 +66,7 @@ pub(crate) struct Turns {
 }
 
 impl Turns {
-    /// No move yet.
+    /// Returns an empty list of moves.
     pub(crate) fn new(alloc: Global) -> Turns
         ensures { result.kept.items ≡ [] }
     {
@@ -77,7 +77,7 @@ impl Turns {
         }
     }
 
-    /// What the move of this state under this reply leads to, if it was made before.
+    /// Where the move of this state under this reply leads, if it was made before.
     pub(crate) fn find(&self, state: u32, said: Said) -> Option<Turn>
         ensures { IfSome result (λ turn. IsAmong self.now.kept.items
             record { state = state; said = said; turn = turn }) }
@@ -93,7 +93,7 @@ impl Turns {
         None
     }
 
-    /// Keeps one more move.
+    /// Keeps a move. `AllocError` past 2^32 - 1 moves.
     pub(crate) fn add(&mut self, state: u32, said: Said, turn: Turn) -> Result<(), AllocError>
         ensures added { OnOk result (self.new.kept.items ≡
             self.old.kept.items ++ record { state = state; said = said; turn = turn } ∷ []) }
@@ -112,7 +112,7 @@ impl Turns {
     }
 }
 
-// A larger table of these moves.
+// Returns a table of twice the size, with these moves filed.
 fn refiled(alloc: Global, kept: &[Turned], table: &Table) -> Result<Table, AllocError>
     requires { length kept.now < 4294967295 }
 {
@@ -123,19 +123,19 @@ fn refiled(alloc: Global, kept: &[Turned], table: &Table) -> Result<Table, Alloc
     Ok(larger)
 }
 
-// A number by which a move is looked up.
+// The hash under which a move is filed.
 fn key(state: u32, said: Said) -> u64 {
     let (kind, value) = said_key(said);
     mixed(mixed(mixed(0x9E37_79B9, u64::from(state)), kind), value)
 }
 
-// A number, and then this one in it.
+// The hash `key`, extended by a word.
 fn mixed(key: u64, word: u64) -> u64 {
     let product = (key ^ word).wrapping_mul(0x9E37_79B9_7F4A_7C15);
     product ^ (product >> 32)
 }
 
-// Two numbers that tell one reply from another.
+// Two numbers that differ between any two replies.
 fn said_key(said: Said) -> (u64, u64) {
     match said {
         Said::Done => (1, 0),
@@ -155,7 +155,7 @@ fn said_key(said: Said) -> (u64, u64) {
     }
 }
 
-/// The reply in one piece.
+/// Returns the reply as a `Said`.
 pub(crate) fn told(reply: Reply) -> Said
     ensures reply { reply_of result ≡ reply }
     ensures value { IsSaid result }
@@ -203,7 +203,7 @@ fn said_join(join: JoinReply) -> Said
     }
 }
 
-// The reply to a join of a fiber that ended so.
+// The reply to a join of a fiber that ended with this outcome.
 fn said_of(outcome: Outcome) -> Said
     ensures reply { reply_of result ≡ TheReply.Join (TheJoin.Ended outcome) }
     ensures value { IsSaid result }
@@ -226,7 +226,7 @@ fn said_read(read: Option<Value>) -> Said
     }
 }
 
-/// The reply that was said so.
+/// Returns the reply of this `Said`.
 pub(crate) fn reply_said(said: Said) -> Reply
     requires { IsSaid said }
     ensures { result ≡ reply_of said }

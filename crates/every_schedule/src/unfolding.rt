@@ -1,4 +1,4 @@
-//! The answers of a reduced search, with schedules of which each entry is one move.
+//! The answers of a reduced search, with schedules in which each entry is one move.
 ghost use Rattle.std.specs.Prelude.{◌≡◌, ◌≤◌, ◌<◌, ◌++◌, ℕ, [], ◌∷◌, length, true, false, IfErr, IfOk, OnOk, Some};
 ghost use Rattle.std.specs.List.{slice_get};
 ghost use Rattle.std.specs.List.Sorted.{IsPermutation};
@@ -18,15 +18,15 @@ use effect_term::Program;
 use std::alloc::{AllocError, Global};
 use world_search::{Answer, Landing};
 
-/// Answers with such schedules.
+/// Answers with schedules in which each entry is one move.
 #[derive(Drop)]
 pub(crate) struct Unfolded {
     pub(crate) answers: Vec<Answer>,
-    /// None was left out.
+    /// No answer was left out.
     pub(crate) whole: bool,
 }
 
-/// The answers whose schedules are at most so many entries long, in order.
+/// Returns the answers whose schedules have at most `most` entries: reports first, then faults, each by length.
 pub(crate) fn unfold_all(
     alloc: Global,
     program: &Program,
@@ -60,7 +60,7 @@ pub(crate) fn unfold_all(
     Ok(Unfolded { answers, whole })
 }
 
-// Reports before faults, and those of short schedules first. Where two are of one length, their order stays.
+// Sorts reports before faults, and each group by the length of schedules. Answers of one length keep their order.
 fn sort(answers: &mut Vec<Answer>) -> Result<(), AllocError>
     ensures same { IsPermutation answers.old.items answers.new.items }
     ensures order { OnOk result (AreSorted answers.new.items) }
@@ -70,7 +70,7 @@ fn sort(answers: &mut Vec<Answer>) -> Result<(), AllocError>
     Ok(())
 }
 
-// Where an end stands among others: 0 for a report, 1 for a fault.
+// The rank of an end: 0 for a report, 1 for a fault.
 fn rank(end: Landing) -> u8
     ensures { result ≡ rank_of end }
 {
@@ -80,7 +80,7 @@ fn rank(end: Landing) -> u8
     }
 }
 
-// One more answer, if its schedule is at most so many entries long. Whether it is.
+// Adds an answer if its schedule has at most `most` entries. Returns whether it was added.
 fn add(
     answers: &mut Vec<Answer>,
     schedule: Vec<u16>,
@@ -100,7 +100,7 @@ fn add(
     Ok(true)
 }
 
-/// The entries that a schedule of the reduced search makes, one by one.
+/// Returns the entries that a schedule of the reduced search makes, own moves included.
 pub(crate) fn unfold(
     alloc: Global,
     program: &Program,

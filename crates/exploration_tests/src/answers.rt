@@ -7,7 +7,7 @@ use exploration_text::{Bounds, ExploreOrder};
 use outcome_trace::Limits;
 use std::alloc::Global;
 
-// Limits that small programs keep, with so many fibers (1 to 16).
+// Limits for small programs, with this number of fibers (1 to 16).
 fn limits(fibers: u16) -> Limits
     ensures { AreLimits result }
 {
@@ -19,8 +19,8 @@ fn limits(fibers: u16) -> Limits
     }
 }
 
-/// An exploration with at most so many fibers (1 to 16), worlds and entries (up to 1,000,000), in which nothing is
-/// unwanted but a fault.
+/// An exploration with at most these numbers of fibers (1 to 16), worlds and entries (up to 1,000,000). Only a fault is
+/// unwanted.
 pub fn exploring(alloc: Global, fibers: u16, worlds: usize, entries: usize) -> ExploreOrder
     requires { entries ≤ 1000000 }
 {

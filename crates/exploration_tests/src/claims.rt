@@ -1,4 +1,4 @@
-//! Claims that are looked at in each world, worked by hand.
+//! Claims that are checked in each world, worked out by hand.
 
 ghost use Rattle.cell_registry.specs.Cells.{AreLimits};
 
@@ -18,7 +18,7 @@ struct Row<'a> {
 
 // A program with its claims.
 struct Program<'a> {
-    // What it shows.
+    // The rule that the program shows.
     rule: &'a str,
     text: &'a str,
     rows: &'a [Row<'a>],
@@ -255,7 +255,7 @@ const PROGRAMS: &[Program<'static>] = &[
     },
 ];
 
-/// Limits that small programs keep: 4 refs.
+/// Limits for small programs, with 4 refs.
 pub fn limits() -> Limits
     ensures { AreLimits result }
 {
@@ -267,7 +267,7 @@ pub fn limits() -> Limits
     }
 }
 
-/// What a search finds of claims within so many worlds.
+/// What a search of at most `worlds` worlds finds of these claims.
 pub fn searched(
     alloc: Global,
     text: &str,
@@ -299,7 +299,7 @@ pub fn is_met(claimed: &Claimed, number: usize) -> bool {
     false
 }
 
-// The claims of a program.
+// The claims of these rows.
 fn claims_of(alloc: Global, rows: &[Row<'_>]) -> Result<Vec<Claim>, Fail> {
     let mut claims = Vec::new(alloc);
     for row in rows {
@@ -312,7 +312,7 @@ fn claims_of(alloc: Global, rows: &[Row<'_>]) -> Result<Vec<Claim>, Fail> {
     Ok(claims)
 }
 
-// The first claim of which something else was found than it says.
+// The first claim whose result differs from the one in its row.
 fn wrong<'a>(rows: &'a [Row<'a>], claimed: &Claimed) -> Option<&'a str> {
     for (number, row) in rows.iter().enumerate() {
         if is_met(claimed, number) != row.is_met {
@@ -336,7 +336,7 @@ fn claims_are_met_by_the_worlds_of_small_programs(rt: HostRuntime) -> Result<(),
 }
 
 #[test]
-fn a_bound_leaves_claims_open(rt: HostRuntime) -> Result<(), Fail> {
+fn a_claim_past_a_bound_is_undecided(rt: HostRuntime) -> Result<(), Fail> {
     let words = vec![in rt.alloc(); Word::Ref(0, Comparison::Equal, 2).claimed()]?;
     let claims = vec![in rt.alloc(); Claim::new(words)]?;
     let text = "(ref r 1 (set r 2))";

@@ -1,4 +1,4 @@
-//! Whether every fair schedule of a program ends, worked by hand.
+//! Whether every fair schedule of a program ends, worked out by hand.
 
 use crate::claims::limits;
 use every_schedule::{Bounds, Ending, explore_ends};
@@ -9,7 +9,7 @@ use world_search::Unwatched;
 
 // A program, and whether each of its fair schedules ends.
 struct Row<'a> {
-    // What it shows.
+    // The rule that the program shows.
     rule: &'a str,
     text: &'a str,
     ends: bool,
@@ -64,7 +64,7 @@ const ROWS: &[Row<'static>] = &[
     },
 ];
 
-// Whether each fair schedule of a program ends. None where that isn't decided.
+// Whether each fair schedule of a program ends. `None` if that isn't decided.
 fn all_end(alloc: Global, text: &str) -> Result<Option<bool>, Fail> {
     let Ok(program) = read_program(alloc, text.as_bytes()) else {
         return Err(Fail::new("the text is refused"));
@@ -85,7 +85,7 @@ fn all_end(alloc: Global, text: &str) -> Result<Option<bool>, Fail> {
 }
 
 #[test]
-fn fair_schedules_of_small_programs_end_or_repeat_a_cycle(rt: HostRuntime) -> Result<(), Fail> {
+fn every_fair_schedule_ends_or_a_cycle_is_found(rt: HostRuntime) -> Result<(), Fail> {
     for it in ROWS {
         let found = all_end(rt.alloc(), it.text)?;
         assert!(rt; found == Some(it.ends), "{}", it.rule);

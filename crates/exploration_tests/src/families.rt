@@ -1,4 +1,4 @@
-//! Families of programs, each explored whole within a number of worlds.
+//! Families of programs, each explored completely within a number of worlds.
 
 ghost use Rattle.cell_registry.specs.Cells.{AreLimits};
 
@@ -7,8 +7,8 @@ use outcome_trace::{Limits, read_program};
 use std::alloc::Global;
 use std::test::Fail;
 
-// A program, and the most worlds that its exploration may keep: 1.25 times as many as a second search, written apart
-// from this one, kept where it made the same moves at once.
+// A program, and the most worlds that its exploration is allowed to keep: 1.25 times the worlds that another search,
+// written independently, kept with the same moves made at once.
 struct Family<'a> {
     what: &'a str,
     program: &'a str,
@@ -114,7 +114,7 @@ const FAMILIES: &[Family<'static>] = &[
     },
 ];
 
-// Limits that each of them keeps.
+// Limits for all families.
 fn limits() -> Limits
     ensures { AreLimits result }
 {
@@ -126,7 +126,7 @@ fn limits() -> Limits
     }
 }
 
-// Whether all schedules are searched within the bound.
+// Whether the exploration is complete within the family's number of worlds.
 fn is_within(alloc: Global, it: &Family<'_>) -> Result<bool, Fail> {
     let Ok(program) = read_program(alloc, it.program.as_bytes()) else {
         return Err(Fail::new("the text is refused"));

@@ -1,4 +1,4 @@
-//! The first finding of small programs, held against replays.
+//! The first finding of small programs, compared with replays.
 
 use crate::sample_answers::{explore_order, replayed};
 use crate::wants::push_wants;
@@ -9,7 +9,8 @@ use std::alloc::Global;
 use std::str;
 use std::test::Fail;
 
-// A program, the outcome that is wanted, what stands before the schedule of its first finding, and how its end begins.
+// A program, the wanted outcome, the text before the schedule of the first finding, and how the text behind the
+// schedule begins.
 struct Found {
     rule: &'static str,
     program: &'static str,
@@ -58,7 +59,7 @@ const FOUND: &[Found] = &[
     },
 ];
 
-// What is answered to a program whose first finding is asked for.
+// The answer to a program whose first finding is asked for. `None` if the text is refused.
 fn first_of(alloc: Global, order: ExploreOrder, text: &[u8]) -> Result<Option<NotedAnswer>, Fail> {
     match read_program(alloc, text) {
         Ok(program) => {
@@ -69,7 +70,7 @@ fn first_of(alloc: Global, order: ExploreOrder, text: &[u8]) -> Result<Option<No
     }
 }
 
-// Whether the first finding is this one, and a replay under its schedule answers its end.
+// Whether the first finding is the expected one, and a replay under its schedule gives its end.
 fn is_found(alloc: Global, found: &Found) -> Result<bool, Fail> {
     let mut order = explore_order(alloc);
     push_wants(&mut order.wants, &[found.want])?;
@@ -92,7 +93,7 @@ fn is_found(alloc: Global, found: &Found) -> Result<bool, Fail> {
 }
 
 #[test]
-fn the_first_finding_is_told(rt: HostRuntime) -> Result<(), Fail> {
+fn the_first_finding_is_reported_with_its_schedule(rt: HostRuntime) -> Result<(), Fail> {
     for found in FOUND {
         if !is_found(rt.alloc(), found)? {
             return Err(Fail::new(found.rule));
@@ -102,7 +103,7 @@ fn the_first_finding_is_told(rt: HostRuntime) -> Result<(), Fail> {
 }
 
 #[test]
-fn where_nothing_is_found_all_is_told(rt: HostRuntime) -> Result<(), Fail> {
+fn without_a_finding_all_answers_are_listed(rt: HostRuntime) -> Result<(), Fail> {
     let alloc = rt.alloc();
     let program = b"(race (pure 1) (pure 2))";
     let mut order = explore_order(alloc);

@@ -1,10 +1,11 @@
-//! Tests of the public calls of `exploration_text`, `sampled_schedules` and `world_search`, with texts worked by hand,
-//! schedules that are replayed, samples that are held against explorations, and searches of one small graph of worlds.
+//! Tests of the public calls of `every_schedule`, `exploration_text`, `model_runs`, `sampled_schedules` and
+//! `world_search`: texts worked out by hand, schedules that are replayed, samples that are compared with explorations,
+//! and searches of one small graph of worlds.
 //!
-//! The libraries promise that what goes out is right. These tests show what no proof does: that small programs are
-//! explored whole where memory is ample, that samples are drawn, the same ones for the same seed, that rare
-//! interleavings come in small programs, and what the texts look like. The crate has nothing but its tests, and the
-//! store of worlds that they search. They stand apart from the libraries so that these are proved without them.
+//! The contracts of the libraries pin that what is written is right. These tests show what no proof does: that small
+//! programs are explored completely where memory is ample, that samples are drawn, the same ones for the same seed,
+//! that samples of small programs have their rare interleavings, and what the texts look like. The crate has only tests
+//! and the store of worlds that they search, so that the libraries are proved without them.
 #![tactic(auto)]
 
 #[cfg(test)]

@@ -10,7 +10,7 @@ ghost use Rattle.world_search.specs.Lists.{IsMore};
 use std::alloc::{AllocError, Global};
 use world_search::{Entered, Landing, Worlds};
 
-// Where the entries of fibers 0 and 1 lead, for each place: to a place or, from 100 on, to a fault.
+// For each place, where an entry of fiber 0 and one of fiber 1 lead: to a place or, from 100 on, to a fault.
 const MOVES: [u8; 48] = [
     // 0 to 2: a line
     1, 0, //
@@ -64,7 +64,7 @@ pub(crate) struct Places {
     pub(crate) faults: Vec<u8>,
 }
 
-/// A store of this place alone.
+/// A store with this place alone.
 pub(crate) fn start(alloc: Global, place: u8) -> Result<Places, AllocError>
     ensures { IfOk result (λ it. length it.places.items ≡ 1) }
 {
@@ -76,7 +76,7 @@ pub(crate) fn start(alloc: Global, place: u8) -> Result<Places, AllocError>
     })
 }
 
-// The number at this place of a table; 0 past its end.
+// The number at this index of a table, 0 past its end.
 fn read(table: &[u8], index: usize) -> u8
     ensures { result ≡ slice_index_or table.now index 0 }
 {
@@ -86,7 +86,7 @@ fn read(table: &[u8], index: usize) -> u8
     }
 }
 
-// Where a number stands among others.
+// The first index of a number among others.
 fn find(all: &[u8], one: u8) -> Option<usize>
     ensures { IfSome result (λ i. slice_get all.now i ≡ Some one) }
 {
@@ -98,7 +98,7 @@ fn find(all: &[u8], one: u8) -> Option<usize>
     None
 }
 
-// The place is among those kept, if there is room for it.
+// Returns the index of a place among those kept. A new place is added first; `Full` if `most` are kept already.
 fn keep(places: &mut Vec<u8>, place: u8, most: usize) -> Result<Entered, AllocError>
     ensures more { OnOk result (IsMore places.old.items places.new.items) }
     ensures lands { IfOk result (λ it. (faults : List ℕ) → EntersAt places.new.items faults it (GoesWell place)) }
@@ -116,7 +116,7 @@ fn keep(places: &mut Vec<u8>, place: u8, most: usize) -> Result<Entered, AllocEr
     Ok(Entered::At(Landing::World(number)))
 }
 
-// The fault is among those kept.
+// Returns the index of a fault among those kept. A new fault is added first.
 fn note(faults: &mut Vec<u8>, fault: u8) -> Result<Entered, AllocError>
     ensures more { OnOk result (IsMore faults.old.items faults.new.items) }
     ensures lands { IfOk result (λ it. (places : List ℕ) → EntersAt places faults.new.items it (Fails fault)) }

@@ -1,4 +1,5 @@
-//! Explorations of programs made at random, with moves that are made at once, beside those without.
+//! Random programs: explorations with moves made at once, compared with the plain search, in which each move is an
+//! entry.
 
 ghost use Rattle.cell_registry.specs.Cells.{AreLimits};
 
@@ -21,24 +22,24 @@ fn limits() -> Limits
     }
 }
 
-// What came of a program.
+// The result of a comparison.
 #[derive(Clone, Copy, PartialEq, Eq)]
 enum Came {
-    // Both explorations have the same answers, more than one, and the plain search more than a hundred worlds.
+    // Both explorations have the same answers, more than one, and the plain search keeps more than 100 worlds.
     Same,
-    // The same, of fewer answers or worlds.
+    // Both have the same answers, at most one, or the plain search keeps at most 100 worlds.
     SameOfFew,
     Different,
-    // The text is refused, or an exploration met a bound.
+    // The text is refused, or the plain search met a bound.
     Skipped,
 }
 
-// Explores a program both ways.
+// Compares both explorations of a program.
 fn compared(alloc: Global, text: &str) -> Result<Came, Fail> {
     let Ok(program) = read_program(alloc, text.as_bytes()) else {
         return Ok(Came::Skipped);
     };
-    // Of a loop up to a hundred moves are made behind each entry, and each is an entry of an answer's schedule.
+    // In a loop up to 100 moves are made behind each entry, and each of them is an entry of an answer's schedule.
     let bounds = Bounds {
         worlds: 1000,
         entries: 1_000_000,
@@ -47,7 +48,8 @@ fn compared(alloc: Global, text: &str) -> Result<Came, Fail> {
     let Ok(full) = explore_full(alloc, &program, limits(), bounds) else {
         return Err(Fail::new("memory ran out"));
     };
-    // A loop without end isn't explored again: the moves that are made at once behind each entry can take much memory.
+    // A program that met a bound isn't explored again: in an endless loop, the moves made at once behind each entry can
+    // take much memory.
     if !full.complete {
         return Ok(Came::Skipped);
     }
@@ -66,7 +68,7 @@ fn compared(alloc: Global, text: &str) -> Result<Came, Fail> {
     }
 }
 
-// Compares 250 programs, of which half have more than one answer and more than a hundred worlds.
+// Compares random programs until 125 or more have several answers and more than 100 worlds, and 125 or more don't.
 fn compare_many(alloc: Global, first: u64) -> Result<(), Fail> {
     let mut rich = 0u32;
     let mut poor = 0u32;
@@ -85,7 +87,7 @@ fn compare_many(alloc: Global, first: u64) -> Result<(), Fail> {
     Err(Fail::new("too few programs have several answers"))
 }
 
-// Each test has a minute, and the machine may have other work: so they are eight.
+// A test has at most a minute, and the machine can have other work, so the programs are split into eight tests.
 #[test]
 fn random_programs_have_the_answers_of_the_plain_search(rt: HostRuntime) -> Result<(), Fail> {
     compare_many(rt.alloc(), 1)

@@ -1,10 +1,10 @@
-//! Programs made at random.
+//! Texts of random programs.
 
 use rand_core::{Rng, SeedableRng};
 use rand_xoshiro::Xoshiro256PlusPlus;
 use std::alloc::{AllocError, Global};
 
-// What a name names.
+// The kind of a name.
 #[derive(Clone, Copy)]
 enum Kind {
     Fiber,
@@ -29,7 +29,7 @@ enum Part {
     Under(Kind),
 }
 
-// A form, which needs a name of this kind to be bound, if it does.
+// A form, and the kind of a name that must be bound where the form is used, if it needs one.
 struct Form {
     needs: Option<Kind>,
     parts: &'static [Part],
@@ -277,7 +277,7 @@ const FORMS: &[Form] = &[
     },
 ];
 
-// How many names of each kind are bound.
+// The number of bound names of each kind.
 #[derive(Clone, Copy)]
 struct Scope {
     fibers: u32,
@@ -295,7 +295,7 @@ const EMPTY: Scope = Scope {
     polls: 0,
 };
 
-// How many names of this kind are bound.
+// The number of bound names of this kind.
 fn bound(scope: Scope, kind: Kind) -> u32 {
     match kind {
         Kind::Fiber => scope.fibers,
@@ -319,7 +319,7 @@ fn under(scope: Scope, kind: Kind) -> Scope {
     scope
 }
 
-// What names of this kind begin with.
+// The letter that names of this kind begin with.
 fn letter(kind: Kind) -> &'static str {
     match kind {
         Kind::Fiber => "f",
@@ -330,7 +330,7 @@ fn letter(kind: Kind) -> &'static str {
     }
 }
 
-// A number below the bound, and 0 where that is 0.
+// A random number below the bound, 0 if the bound is 0.
 fn below(draws: &mut Xoshiro256PlusPlus, bound: u32) -> u32 {
     if bound == 0 {
         return 0;
@@ -338,7 +338,7 @@ fn below(draws: &mut Xoshiro256PlusPlus, bound: u32) -> u32 {
     draws.next_u32() % bound
 }
 
-// The form of a term that nests at most so deep.
+// A random form for a term that nests at most `depth` deep.
 fn drawn_form(draws: &mut Xoshiro256PlusPlus, depth: u32, scope: Scope) -> &'static Form {
     let forms = if depth == 0 || below(draws, 6) == 0 {
         LEAVES
@@ -358,14 +358,14 @@ fn drawn_form(draws: &mut Xoshiro256PlusPlus, depth: u32, scope: Scope) -> &'sta
     &LEAVES[1]
 }
 
-// Writes a name.
+// Appends a name.
 fn push_name(text: &mut String, kind: Kind, number: u32) -> Result<(), AllocError> {
     let mut digits = itoa::Buffer::new();
     text.push_str(letter(kind))?;
     text.push_str(digits.format(number))
 }
 
-// Writes a value: the name of one that is bound, or a number from 0 to 2.
+// Appends a value: a bound name, or a number from 0 to 2.
 fn push_value(
     text: &mut String,
     draws: &mut Xoshiro256PlusPlus,
@@ -378,7 +378,7 @@ fn push_value(
     text.push_str(digits.format(below(draws, 3)))
 }
 
-// What is left to be written: a part, how deep its terms may nest, and what is bound.
+// A part that is still to be written, how deep its terms can nest, and which names are bound in it.
 #[derive(Clone, Copy)]
 struct Piece {
     part: Part,
@@ -386,7 +386,7 @@ struct Piece {
     scope: Scope,
 }
 
-// Puts the parts of a form on top, the first one last.
+// Pushes the parts of a form in reverse order, so that the first one is on top.
 fn push_parts(
     pieces: &mut Vec<Piece>,
     form: &Form,
@@ -403,8 +403,8 @@ fn push_parts(
     Ok(())
 }
 
-/// The text of a program that is made of a seed, whose forms nest at most `depth` deep. It may be refused for its
-/// length alone.
+/// The text of a random program, made from a seed, whose forms nest at most `depth` deep. Only a text that is cut off
+/// after 2000 parts is refused.
 pub fn random_text(alloc: Global, seed: u64, depth: u32) -> Result<String, AllocError> {
     let mut draws = Xoshiro256PlusPlus::seed_from_u64(seed);
     let mut text = String::new(alloc);

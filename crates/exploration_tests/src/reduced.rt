@@ -1,4 +1,4 @@
-//! Explorations with moves that are made at once, beside those without.
+//! Explorations with moves made at once, compared with full ones, in which each move is an entry.
 
 ghost use Rattle.cell_registry.specs.Cells.{AreLimits};
 
@@ -7,14 +7,14 @@ use outcome_trace::{Limits, read_program, same_end};
 use std::alloc::Global;
 use std::test::Fail;
 
-// A program, whose answers are the same in both.
+// A program whose answers are the same in both explorations.
 struct Compared<'a> {
-    // What it shows.
+    // The rule that the program shows.
     rule: &'a str,
     program: &'a str,
     fibers: u16,
     count: u64,
-    // How many answers there are.
+    // The number of answers.
     answers: usize,
 }
 
@@ -189,7 +189,7 @@ const COMPARED: &[Compared<'static>] = &[
     },
 ];
 
-// Limits that small programs keep, with so many fibers (1 to 16) and own changes (1 to 1000).
+// Limits for small programs, with these numbers of fibers (1 to 16) and own changes (1 to 1000).
 fn limits(fibers: u16, count: u64) -> Limits
     ensures { AreLimits result }
 {
@@ -201,7 +201,7 @@ fn limits(fibers: u16, count: u64) -> Limits
     }
 }
 
-// Whether an answer ends as one of the others does.
+// Whether an answer has the same end as one of the others.
 fn is_among(one: &Answer, others: &[Answer]) -> bool {
     for other in others {
         if same_end(&one.end, &other.end) {
@@ -211,7 +211,7 @@ fn is_among(one: &Answer, others: &[Answer]) -> bool {
     false
 }
 
-// Whether each of these does.
+// Whether each answer has the same end as one of the others.
 fn are_among(ones: &[Answer], others: &[Answer]) -> bool {
     for one in ones {
         if !is_among(one, others) {
@@ -221,7 +221,7 @@ fn are_among(ones: &[Answer], others: &[Answer]) -> bool {
     true
 }
 
-/// Whether both have the same answers.
+/// Whether both lists have the same ends.
 pub fn have_same_answers(ones: &[Answer], others: &[Answer]) -> bool {
     are_among(ones, others) && are_among(others, ones)
 }
@@ -233,7 +233,7 @@ struct Both {
     reduced: Exploration,
 }
 
-// Both explorations.
+// Both explorations of a program.
 fn explored_twice(alloc: Global, text: &str, limits: Limits) -> Result<Both, Fail>
     requires { AreLimits limits }
 {
@@ -254,7 +254,8 @@ fn explored_twice(alloc: Global, text: &str, limits: Limits) -> Result<Both, Fai
     Ok(Both { full, reduced })
 }
 
-// Whether both are complete and have the same answers, as many as the row says, and the reduced one has no more worlds.
+// Whether both explorations are complete and have the same answers, as many as the row says, and the reduced one keeps
+// no more worlds.
 fn is_same(alloc: Global, it: &Compared<'_>) -> Result<bool, Fail> {
     let both = explored_twice(alloc, it.program, limits(it.fibers, it.count))?;
     let ones = both.full.answers.as_slice();
@@ -270,19 +271,19 @@ fn is_same(alloc: Global, it: &Compared<'_>) -> Result<bool, Fail> {
 }
 
 #[test]
-fn reduced_explorations_find_the_same(rt: HostRuntime) -> Result<(), Fail> {
+fn reduced_explorations_have_the_answers_of_full_ones(rt: HostRuntime) -> Result<(), Fail> {
     for it in COMPARED {
         assert!(rt; is_same(rt.alloc(), it)?, "{}", it.rule);
     }
     Ok(())
 }
 
-// A fiber alone, whose worlds are counted by hand.
+// A program with one fiber, and its numbers of worlds, counted by hand.
 struct Counted<'a> {
     program: &'a str,
-    // One after each entry, and the first.
+    // The first world, and one after each entry.
     full: usize,
-    // The same without those from which an own move leads on.
+    // The first world, and one after each entry with the own moves behind it.
     reduced: usize,
 }
 
@@ -299,7 +300,7 @@ const COUNTED: &[Counted<'static>] = &[
         full: 5,
         reduced: 2,
     },
-    // A look, a mask entered, and left, a look, and the end.
+    // A look, the mask entered and left, a look, and the end.
     Counted {
         program: "(uncancelable p (pure 1))",
         full: 6,
@@ -313,14 +314,14 @@ const COUNTED: &[Counted<'static>] = &[
     },
 ];
 
-// Whether there are so many worlds.
+// Whether both explorations have the row's numbers of worlds.
 fn is_counted(alloc: Global, it: &Counted<'_>) -> Result<bool, Fail> {
     let both = explored_twice(alloc, it.program, limits(16, 1000))?;
     Ok(both.full.worlds == it.full && both.reduced.worlds == it.reduced)
 }
 
 #[test]
-fn worlds_are_counted(rt: HostRuntime) -> Result<(), Fail> {
+fn numbers_of_worlds_are_as_counted_by_hand(rt: HostRuntime) -> Result<(), Fail> {
     for it in COUNTED {
         assert!(rt; is_counted(rt.alloc(), it)?, "{}", it.program);
     }

@@ -7,7 +7,7 @@ use outcome_trace::{Answer, Limits, ReplayOrder, TextOrder, read_schedule};
 use std::alloc::Global;
 use std::test::Fail;
 
-// Limits that small programs keep, with so many fibers (1 to 16).
+// Limits for small programs, with this number of fibers (1 to 16).
 fn limits(fibers: u16) -> Limits
     ensures { AreLimits result }
 {
@@ -19,7 +19,7 @@ fn limits(fibers: u16) -> Limits
     }
 }
 
-/// The order to draw so many schedules, with at most so many fibers (1 to 16) and entries (0 to 1000).
+/// The order to draw `times` schedules, with at most these numbers of fibers (1 to 16) and entries (0 to 1000).
 pub fn order(alloc: Global, fibers: u16, seed: u64, times: u32, entries: u32) -> SampleOrder {
     SampleOrder {
         limits: limits(fibers),
@@ -30,7 +30,7 @@ pub fn order(alloc: Global, fibers: u16, seed: u64, times: u32, entries: u32) ->
     }
 }
 
-/// What is answered to a program of which so many schedules are drawn by a seed.
+/// The answer to a sample of `times` schedules of a program, drawn with this seed.
 pub fn sampled(alloc: Global, program: &str, seed: u64, times: u32) -> Result<Answer, Fail> {
     Ok(order(alloc, 16, seed, times, 1000).answer(alloc, program.as_bytes())?)
 }
@@ -48,12 +48,12 @@ pub fn explore_order(alloc: Global) -> ExploreOrder {
     }
 }
 
-/// What is answered to a program that is explored.
+/// The answer to a program that is explored.
 pub fn explored(alloc: Global, program: &str) -> Result<Answer, Fail> {
     Ok(explore_order(alloc).answer(alloc, program.as_bytes())?)
 }
 
-/// What is answered to a program under a schedule.
+/// The answer to a program under a schedule.
 pub fn replayed(alloc: Global, program: &str, schedule: &str) -> Result<Answer, Fail> {
     let entries = read_schedule(alloc, schedule)?;
     let order = ReplayOrder {

@@ -1,13 +1,13 @@
-//! Whole texts of samples, where the rules leave no choice of schedules. `golden/samples_of_one_schedule.fiber` has those
-//! that a command can ask for.
+//! Whole texts of samples of programs that have only one schedule. `golden/samples_of_one_schedule.fiber` has the
+//! samples that a command can ask for.
 
 use crate::sample_answers::order;
 use outcome_trace::{FromRead, Status, TextOrder, ToWrite, answer_text};
 use std::alloc::{AllocError, Global};
 
-// A sample, and what it answers.
+// A sample, and its answer.
 struct Sampled<'a> {
-    // What it shows.
+    // The rule that the sample shows.
     rule: &'a str,
     program: &'a str,
     fibers: u16,
@@ -17,7 +17,7 @@ struct Sampled<'a> {
     text: &'a str,
 }
 
-// A fiber alone: each of its schedules is the same.
+// Only fiber 0 moves in each program, so all of its schedules are the same.
 const SAMPLED: &[Sampled<'static>] = &[
     Sampled {
         rule: "one entry more than there may be",
@@ -77,7 +77,7 @@ const SAMPLED: &[Sampled<'static>] = &[
     },
 ];
 
-// Whether the text that goes out is the one that is wanted.
+// Whether the expected text is written, with the expected status.
 fn is_written(alloc: Global, it: &Sampled<'_>) -> bool {
     let mut out = Vec::new(alloc);
     let answered = answer_text(
@@ -90,13 +90,13 @@ fn is_written(alloc: Global, it: &Sampled<'_>) -> bool {
 }
 
 #[test]
-fn programs_are_sampled(rt: HostRuntime) {
+fn samples_have_the_expected_text(rt: HostRuntime) {
     for it in SAMPLED {
         assert!(rt; is_written(rt.alloc(), it), "{}", it.rule);
     }
 }
 
-// Whether the answer is the one that is wanted, or there is none.
+// Whether the answer is the expected one, or memory ran out.
 fn is_answered_if_at_all(alloc: Global, it: &Sampled<'_>) -> bool {
     match order(alloc, it.fibers, 1, it.times, it.entries).answer(alloc, it.program.as_bytes()) {
         Ok(answer) => answer.text.as_slice() == it.text.as_bytes() && answer.status == it.status,
@@ -104,7 +104,7 @@ fn is_answered_if_at_all(alloc: Global, it: &Sampled<'_>) -> bool {
     }
 }
 
-// Holds whichever request for memory is refused.
+// Holds with every request for memory refused in turn.
 #[test]
 fn a_text_is_sampled_or_memory_ran_out(rt: HostRuntime) {
     for it in SAMPLED {

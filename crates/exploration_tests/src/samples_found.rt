@@ -1,11 +1,11 @@
-//! What samples of small programs find, held against explorations and replays.
+//! What samples of small programs find, compared with explorations and replays.
 
 use crate::sample_answers::{explored, replayed, sampled};
 use std::alloc::Global;
 use std::str;
 use std::test::Fail;
 
-// Programs that an exploration closes. A sample of them finds all that can come, rare orders of events too.
+// Programs that are explored completely. A sample of each finds all of its answers, also those of rare interleavings.
 const PROGRAMS: &[(&str, &str)] = &[
     (
         "a release that is lost where the request comes between acquisition and guarantee",
@@ -35,13 +35,13 @@ const PROGRAMS: &[(&str, &str)] = &[
     ),
 ];
 
-// What is told behind the schedule of an answer, with the schedule.
+// The schedule of an answer, and the text behind the schedule.
 fn parts<'a>(answer: &'a str, heading: &str) -> Option<(&'a str, &'a str)> {
     let (_, rest) = answer.split_once(heading)?;
     rest.split_once("\"\n")
 }
 
-// Whether the answer is what a replay of its schedule gives, and an exploration lists it.
+// Whether a replay of the answer's schedule gives its report, and the exploration `all` lists the report.
 fn is_found(alloc: Global, program: &str, answer: &str, all: &str) -> Result<bool, Fail> {
     let Some((schedule, report)) = parts(answer, "first under \"") else {
         return Ok(false);
@@ -56,7 +56,7 @@ fn is_found(alloc: Global, program: &str, answer: &str, all: &str) -> Result<boo
     Ok(listed && replay.text.as_slice().strip_suffix(b"\n") == Some(report.trim_end().as_bytes()))
 }
 
-// How many answers of a sample are told, where each is one that an exploration lists.
+// The number of answers of a sample. `None` if the exploration `all` doesn't list each of them.
 fn found(alloc: Global, program: &str, text: &str, all: &str) -> Result<Option<usize>, Fail> {
     let mut told = 0usize;
     for answer in text.split("\n\n").skip(1) {
@@ -68,7 +68,7 @@ fn found(alloc: Global, program: &str, text: &str, all: &str) -> Result<Option<u
     Ok(Some(told))
 }
 
-// Whether a sample finds what an exploration does, and nothing else.
+// Whether a sample finds the answers of the exploration, and no others.
 fn is_all_found(alloc: Global, program: &str) -> Result<bool, Fail> {
     let sample = sampled(alloc, program, 7, 2000)?;
     let all = explored(alloc, program)?;

@@ -1,4 +1,4 @@
-//! Searches from places of the graph, each with what they find.
+//! Searches from places of the graph, and what each of them finds.
 
 use crate::places::{Places, start};
 use std::alloc::{AllocError, Global};
@@ -9,17 +9,17 @@ use world_search::{Answer, Bounds, Found, Landing, Unwatched, search};
 struct Row {
     // The first place.
     first: u8,
-    // The most places, and the most entries of a schedule.
+    // The most places that are kept, and the most entries of a schedule.
     most: usize,
     entries: usize,
     complete: bool,
-    // How many places are kept.
+    // The number of places that are kept.
     kept: usize,
-    // The schedules, and the place or fault where each leads.
+    // The schedules, and the place or fault to which each leads.
     answers: &'static [(&'static [u16], u8)],
 }
 
-// Each worked by hand. Places are met in the order of the entries, fiber 0 first.
+// Each row is worked out by hand. Places are met in the order of the entries, fiber 0 first.
 const ROWS: [Row; 17] = [
     // a line
     Row {
@@ -30,7 +30,7 @@ const ROWS: [Row; 17] = [
         kept: 3,
         answers: &[(&[0, 0], 2)],
     },
-    // as many places as may be kept, and as many entries
+    // exactly as many places and entries as the bounds allow
     Row {
         first: 0,
         most: 3,
@@ -48,7 +48,7 @@ const ROWS: [Row; 17] = [
         kept: 2,
         answers: &[],
     },
-    // one entry less: nothing is known of the last place
+    // one entry less: where entries lead from the last place isn't known
     Row {
         first: 0,
         most: 3,
@@ -66,7 +66,7 @@ const ROWS: [Row; 17] = [
         kept: 1,
         answers: &[],
     },
-    // no place: the first is kept in any case
+    // no place: the first one is kept in any case
     Row {
         first: 0,
         most: 0,
@@ -84,7 +84,7 @@ const ROWS: [Row; 17] = [
         kept: 4,
         answers: &[(&[0, 1], 6)],
     },
-    // a cycle that keeps its report
+    // a cycle of two places with one report
     Row {
         first: 7,
         most: 10,
@@ -93,7 +93,7 @@ const ROWS: [Row; 17] = [
         kept: 2,
         answers: &[(&[], 7)],
     },
-    // a cycle that doesn't: complete, and nothing to tell
+    // a cycle of two places with different reports: the search is complete, and has no answer
     Row {
         first: 9,
         most: 10,
@@ -129,7 +129,7 @@ const ROWS: [Row; 17] = [
         kept: 4,
         answers: &[(&[0], 15)],
     },
-    // two of its places aren't
+    // two places of the long way aren't kept
     Row {
         first: 14,
         most: 3,
@@ -138,7 +138,7 @@ const ROWS: [Row; 17] = [
         kept: 3,
         answers: &[(&[0], 15)],
     },
-    // the long way is too long
+    // the long way has too many entries
     Row {
         first: 14,
         most: 10,
@@ -147,7 +147,7 @@ const ROWS: [Row; 17] = [
         kept: 4,
         answers: &[(&[0], 15)],
     },
-    // the short way is too long
+    // the short way has too many entries
     Row {
         first: 14,
         most: 10,
@@ -184,12 +184,12 @@ fn end_of(places: &Places, end: Landing) -> Option<u8> {
     }
 }
 
-// Whether an answer is this one.
+// Whether an answer is the expected one.
 fn is_answer(places: &Places, answer: &Answer, wanted: &(&'static [u16], u8)) -> bool {
     answer.schedule.as_slice() == wanted.0 && end_of(places, answer.end) == Some(wanted.1)
 }
 
-// Whether the answers are these, in this order.
+// Whether the answers are the expected ones, in this order.
 fn are_answers(places: &Places, answers: &[Answer], wanted: &[(&'static [u16], u8)]) -> bool {
     if answers.len() != wanted.len() {
         return false;
@@ -226,10 +226,10 @@ fn rows(rt: HostRuntime) -> Result<(), Fail> {
     Ok(())
 }
 
-// The bytes at which a search from place 0 stops, and what it has found then: whether that is all, how many places,
-// and how many bytes are counted. Each place is one byte in its store, so each takes 14, and each of the two entries
-// that lead to the next place 8: that is 14 before the entries at the first place, 2 * 14 + 8 behind them, and 3 * 14
-// + 2 * 8 behind those at the second one.
+// A bound on bytes, and what a search from place 0 has found within it: whether it is complete, the number of places,
+// and the number of bytes. A place takes 14 bytes, one of them in its store, and each of the two entries that lead to a
+// new place takes 8. That is 14 before the entries of the first place are made, 2 * 14 + 8 after them, and
+// 3 * 14 + 2 * 8 after those of the second place.
 const BYTES: [(usize, bool, usize, usize); 7] = [
     (0, false, 1, 14),
     (14, false, 1, 14),
@@ -241,7 +241,7 @@ const BYTES: [(usize, bool, usize, usize); 7] = [
 ];
 
 #[test]
-fn a_search_stops_at_the_bytes_that_may_be_kept(rt: HostRuntime) -> Result<(), Fail> {
+fn a_search_stops_at_its_bound_on_bytes(rt: HostRuntime) -> Result<(), Fail> {
     for (memory, complete, worlds, bytes) in BYTES {
         let mut places = start(rt.alloc(), 0)?;
         let bounds = Bounds {

@@ -1,10 +1,10 @@
-//! Outcomes as they are spelled.
+//! How outcomes are spelled.
 
 use effect_term::{Outcome, Value};
 use exploration_text::{Want, read_want};
 use std::test::Fail;
 
-/// Adds the wants that words spell.
+/// Adds the wanted outcome that each word spells.
 pub fn push_wants(wants: &mut Vec<Want>, words: &[&str]) -> Result<(), Fail> {
     for word in words {
         match read_want(word) {
@@ -16,7 +16,7 @@ pub fn push_wants(wants: &mut Vec<Want>, words: &[&str]) -> Result<(), Fail> {
     Ok(())
 }
 
-// Texts that spell none.
+// Texts that spell no outcome.
 const UNSPELLED: &[&str] = &[
     "",
     "succeeded",
@@ -35,7 +35,7 @@ const UNSPELLED: &[&str] = &[
     "unended ",
 ];
 
-// Whether the text spells that fiber 0 ended so.
+// Whether the text spells this outcome of fiber 0.
 fn is_ended(text: &str, outcome: Outcome) -> bool {
     read_want(text) == Some(Want::Ended(outcome))
 }
@@ -56,7 +56,7 @@ fn outcomes_are_read(rt: HostRuntime) {
 }
 
 #[test]
-fn other_texts_are_not(rt: HostRuntime) {
+fn texts_that_spell_no_outcome_are_refused(rt: HostRuntime) {
     for text in UNSPELLED {
         assert!(rt; read_want(text).is_none(), "{text}");
     }

@@ -1,10 +1,9 @@
-//! The lines that are written while an exploration goes, and explorations that are ended by their watcher.
+//! The progress that an exploration writes, and explorations that their watcher ends.
 //!
-//! A fiber alone has one way on, so each entry leads, with the moves that are made at once behind it, to one world
-//! more: at the world with the number n, counted from 0, n + 1 worlds are known, and n entries lead there. A request for
-//! its own cancellation isn't made at once, so there are as many entries as such requests, and one before them. The
-//! watcher is asked at each hundredth world: so it hears k * 100 worlds and a depth of k * 100 - 1 when it is asked for
-//! the k-th time.
+//! A program with one fiber has one schedule, so each entry leads, with the moves made at once behind it, to one new
+//! world: n entries lead to world n, counted from 0, and n + 1 worlds are known there. A fiber's request for its own
+//! cancellation isn't made at once, so each request is an entry, and there is one entry before them. The watcher is
+//! asked at each hundredth world, for the k-th time with k * 100 worlds and a depth of k * 100 - 1.
 
 ghost use Rattle.std.specs.Prelude.{true};
 
@@ -20,36 +19,36 @@ use std::process::Abort;
 use std::test::Fail;
 use std::time::{Clock, Duration};
 
-// A fiber alone that goes on for more worlds than there may be.
+// A program with one fiber, which has more worlds than the bound.
 const LONG: &str = "(uncancelable p (repeat 90000 (canceled)))";
 
-// A program that is explored before the watcher is asked, and a text that is none.
+// The answers to a program that is explored before the watcher is asked, and to a text that is refused.
 const SHORT: &str = "explored 2 worlds: 1 report, 0 faults\n\nunder \"0*2\"\nfiber 0 succeeded 1\n";
 
 const REFUSED: &str = "refused 6 UnknownWord at 1\n";
 
-// The lines that are written, by a clock that goes on by 15 milliseconds at each look. It is looked at once at the
-// beginning, and then each time the watcher is asked. The first line comes at the 67th time, after 1,005 milliseconds, the
-// next one at the 134th, a second later, and so on; 15 milliseconds for a hundred worlds are 6,666 worlds a second.
+// The lines that are written with a clock that advances 15 milliseconds each time it is read: once at the beginning,
+// and then whenever the watcher is asked. The first line is written at the 67th time, after 1,005 milliseconds, the
+// next one at the 134th, a second later, and so on. 100 worlds in 15 milliseconds are 6,666 worlds a second.
 const TOLD: &str = "explored 6700 worlds, 6666 a second, depth 6699\n\
     explored 13400 worlds, 6666 a second, depth 13399\n\
     explored 20100 worlds, 6666 a second, depth 20099\n";
 
-// The lines until two seconds have passed, which is so at the 134th time.
+// The lines that are written in two seconds, which have passed at the 134th time.
 const TOLD_IN_TIME: &str = "explored 6700 worlds, 6666 a second, depth 6699\n\
     explored 13400 worlds, 6666 a second, depth 13399\n";
 
-// What is answered then; behind it stand the bytes.
+// The answer then, up to the number of bytes.
 const OUT_OF_TIME: &str = "stopped by time at 13400 worlds: 0 reports, 0 faults, ";
 
-// A world takes 13 bytes, and its row in the store 36 and 8 for its one fiber; each entry but the last one leads to
-// another world, which takes 8. Each entry brings three states of the fiber: the one that it makes, and two behind the
-// moves that are made at once. With the first one they are 61,501 states of 480 bytes, and all but the first two have
-// the mark of the mask, which takes 16. The cells have three states: as they begin, under the mask, and with the
-// request. Each takes 160 bytes and 32 for the fiber, 8 for each of 16 refs and 16 for each of 16 deferreds.
+// A world takes 13 bytes, its row in the store 36, and its one fiber 8. Each entry but the last one leads to another
+// world, and takes 8. Each entry adds three states of the fiber: one after the entry, and two after the moves made at
+// once. With the first state there are 61,501 states of 480 bytes. All but the first two have the mark of the mask,
+// which takes 16. The registry has three states: the first one, one under the mask, and one with the request. Each
+// takes 160 bytes, 32 for the fiber, 8 for each of 16 refs and 16 for each of 16 deferreds.
 const STOPPED: &str = "stopped at 20500 worlds: 0 reports, 0 faults, 31838684 bytes\n";
 
-// A clock that goes on by this number of milliseconds at each look, or fails.
+// A clock that advances `step` milliseconds each time it is read, or fails.
 #[derive(Drop)]
 struct Steps {
     step: u64,
@@ -72,7 +71,7 @@ impl Clock for Steps {
     }
 }
 
-// A clock that goes on by this number of milliseconds at each look.
+// A clock that advances `step` milliseconds each time it is read.
 fn stepping(step: u64) -> Steps {
     Steps {
         step,
@@ -90,7 +89,8 @@ fn failing() -> Steps {
     }
 }
 
-/// A watcher that ends the search when it is asked for the time of this number, and keeps what it heard last.
+/// A watcher that ends the search when it is asked for the time with the number `most`, and keeps the last numbers it
+/// got.
 #[derive(Drop)]
 pub struct Ends {
     most: usize,
@@ -99,7 +99,7 @@ pub struct Ends {
 }
 
 impl Ends {
-    /// One that is asked this number of times.
+    /// A watcher that is asked `most` times.
     pub fn new(most: usize) -> Ends {
         Ends {
             most,
@@ -108,7 +108,7 @@ impl Ends {
         }
     }
 
-    /// How often it was asked.
+    /// The number of times that it was asked.
     pub fn asked(&self) -> usize {
         self.asked
     }
@@ -126,7 +126,7 @@ impl Watcher for Ends {
     }
 }
 
-// A device that takes nothing.
+// A device whose writes fail.
 #[derive(Drop)]
 struct Closed;
 
@@ -140,8 +140,7 @@ impl Write for Closed {
     }
 }
 
-// The status of a program's exploration with at most 20,500 worlds and within these seconds. What it writes goes to
-// these devices.
+// Explores a program with at most 20,500 worlds in at most `seconds`, writes to these devices, and returns the status.
 fn watched<O: Write + Drop, E: Write + Drop>(
     alloc: Global,
     program: &str,
@@ -161,7 +160,7 @@ fn watched<O: Write + Drop, E: Write + Drop>(
     )
 }
 
-// Runs an exploration, and compares all that it writes and its status.
+// Runs an exploration, and compares its status and all that it writes.
 fn expect<R: Abort + AllocGlobal>(
     rt: &R,
     rule: &str,
@@ -180,7 +179,7 @@ fn expect<R: Abort + AllocGlobal>(
 }
 
 #[test]
-fn progress_is_told_once_a_second(rt: HostRuntime) {
+fn progress_is_written_once_a_second(rt: HostRuntime) {
     let rows = [
         (15, LONG, Status::Unended, STOPPED, TOLD),
         (0, LONG, Status::Unended, STOPPED, ""),
@@ -193,7 +192,7 @@ fn progress_is_told_once_a_second(rt: HostRuntime) {
 }
 
 #[test]
-fn a_clock_that_fails_tells_nothing_and_ends_nothing(rt: HostRuntime) {
+fn with_a_failing_clock_there_is_no_progress_and_no_time_limit(rt: HostRuntime) {
     let mut out = Vec::new(rt.alloc());
     let mut err = Vec::new(rt.alloc());
     let status = watched(rt.alloc(), LONG, &failing(), Some(1), &mut out, &mut err);
@@ -204,7 +203,7 @@ fn a_clock_that_fails_tells_nothing_and_ends_nothing(rt: HostRuntime) {
 }
 
 #[test]
-fn a_last_device_that_fails_changes_nothing_else(rt: HostRuntime) {
+fn a_failing_standard_error_leaves_answer_and_status(rt: HostRuntime) {
     let mut out = Vec::new(rt.alloc());
     let status = watched(rt.alloc(), LONG, &stepping(15), None, &mut out, Closed);
     assert_eq!(rt;
@@ -226,7 +225,7 @@ fn an_exploration_ends_when_its_time_is_over(rt: HostRuntime) {
 }
 
 #[test]
-fn an_exploration_without_progress_ends_then_too(rt: HostRuntime) {
+fn the_time_limit_holds_without_progress(rt: HostRuntime) {
     let clock = stepping(15);
     let order = TimedOrder {
         clock: &clock,
@@ -246,7 +245,7 @@ fn an_exploration_without_progress_ends_then_too(rt: HostRuntime) {
     assert!(rt; out.as_slice().starts_with(OUT_OF_TIME.as_bytes()));
 }
 
-// What is found of the long program while it is watched so.
+// What an exploration of the long program finds with this watcher.
 fn found_while<V: Watcher>(alloc: Global, watcher: &mut V) -> Result<Exploration, Fail> {
     let order = exploring(alloc, 1, 20_500, 30_000);
     let bounds: Bounds = order.bounds;
@@ -277,7 +276,7 @@ fn a_watcher_ends_the_search(rt: HostRuntime) -> Result<(), Fail> {
 }
 
 #[test]
-fn a_search_that_nobody_ends_goes_on_to_its_bound(rt: HostRuntime) -> Result<(), Fail> {
+fn an_unwatched_search_runs_to_its_bound(rt: HostRuntime) -> Result<(), Fail> {
     let found = found_while(rt.alloc(), &mut Unwatched)?;
     assert_eq!(rt;
         (found.complete, found.halted, found.worlds),

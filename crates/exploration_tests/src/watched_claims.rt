@@ -1,4 +1,4 @@
-//! Claims on a ref of programs made at random, beside a fiber that reads the ref at some moment.
+//! Claims on a ref of random programs, compared with a fiber that reads the ref at any moment.
 
 use crate::claims::{is_met, limits, searched};
 use effect_term::{Outcome, Value};
@@ -9,13 +9,13 @@ use rand_xoshiro::Xoshiro256PlusPlus;
 use std::alloc::Global;
 use std::test::Fail;
 
-// The values that are asked for.
+// The values that the claims compare the ref with.
 const VALUES: [i32; 16] = [-3, -2, -1, 0, 1, 2, 3, 4, 5, 6, 7, 8, 9, 10, 11, 12];
 
-// The most worlds.
+// The most worlds of a search.
 const WORLDS: usize = 20_000;
 
-// What a fiber does, by a number below 8.
+// What a fiber can do, chosen by a random number below 8.
 const ACTS: [&str; 8] = [
     "(set r 0)",
     "(set r 3)",
@@ -27,7 +27,7 @@ const ACTS: [&str; 8] = [
     "(canceled)",
 ];
 
-// Three acts, in turn.
+// Appends three random acts, one after another.
 fn push_acts(text: &mut String, random: &mut Xoshiro256PlusPlus) -> Result<(), Fail> {
     text.push_str("(seq")?;
     for _act in 0..3u32 {
@@ -38,7 +38,8 @@ fn push_acts(text: &mut String, random: &mut Xoshiro256PlusPlus) -> Result<(), F
     Ok(())
 }
 
-// A program of three fibers that use a ref, of which one may be canceled, behind what follows the ref.
+// A program of three fibers that use a ref, where fiber `f` is canceled or not. The text `watcher` is put behind the
+// ref, and `end` at the end.
 fn random_program(alloc: Global, seed: u64, watcher: &str, end: &str) -> Result<String, Fail> {
     let mut random = Xoshiro256PlusPlus::seed_from_u64(seed);
     let mut text = String::new(alloc);
@@ -59,7 +60,7 @@ fn random_program(alloc: Global, seed: u64, watcher: &str, end: &str) -> Result<
     Ok(text)
 }
 
-// Whether fiber 1 has read this value in one of these answers.
+// Whether fiber 1 reads this value in one of the answers.
 fn is_read(exploration: &Exploration, value: Value) -> bool {
     for answer in exploration.answers.as_slice() {
         if let Ok(report) = &answer.end {
@@ -73,7 +74,7 @@ fn is_read(exploration: &Exploration, value: Value) -> bool {
     false
 }
 
-// That the ref has each of these values.
+// For each of `VALUES`, the claim that the ref has this value.
 fn claims(alloc: Global) -> Result<Vec<Claim>, Fail> {
     let mut claims = Vec::new(alloc);
     for value in VALUES {
@@ -83,7 +84,7 @@ fn claims(alloc: Global) -> Result<Vec<Claim>, Fail> {
     Ok(claims)
 }
 
-// What an exploration finds of a program within the same worlds.
+// What an exploration of a program finds within `WORLDS` worlds.
 fn explored(alloc: Global, text: &str) -> Result<Exploration, Fail> {
     let Ok(program) = read_program(alloc, text.as_bytes()) else {
         return Err(Fail::new(text));
@@ -99,7 +100,7 @@ fn explored(alloc: Global, text: &str) -> Result<Exploration, Fail> {
     Ok(exploration)
 }
 
-// How many of the values are met, where exactly these are read, or none where others are.
+// The number of values whose claims are met. `None` if these aren't exactly the values that are read.
 fn agreeing(claimed: &Claimed, exploration: &Exploration) -> Option<u32> {
     let mut met = 0u32;
     for (number, value) in VALUES.iter().enumerate() {
@@ -114,7 +115,7 @@ fn agreeing(claimed: &Claimed, exploration: &Exploration) -> Option<u32> {
     Some(met)
 }
 
-// Compares one program. How many of the values are met, or 0 where a bound was met.
+// Compares one program. Returns the number of values whose claims are met, or 0 if a bound was met.
 fn compared(alloc: Global, seed: u64) -> Result<u32, Fail> {
     let plain = random_program(alloc, seed, "", ")")?;
     let watched = random_program(alloc, seed, "(start w (get r) ", "))")?;

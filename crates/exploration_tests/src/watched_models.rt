@@ -1,4 +1,4 @@
-//! Models and samples whose searches are ended by their watcher.
+//! Models and samples whose searches their watcher ends.
 
 use crate::watched::Ends;
 use cell_registry::Limits;
@@ -13,7 +13,7 @@ use std::process::Abort;
 use std::test::Fail;
 use world_search::{Unwatched, Watcher};
 
-// Three fibers that count for ever in two refs, which has no last world, and no answer.
+// Three fibers count for ever in two refs: there is no last world, and no answer.
 const COUNTERS: &[u8] = b"(model counters (want 0) (run (ref a 0) (ref b 0) \
     (start f (forever (modify a 1))) (start g (forever (modify b 1))) (forever (modify a 1) (modify b 1))))";
 
@@ -22,7 +22,7 @@ const BOUNDS: SearchBounds = SearchBounds {
     memory: 1 << 30,
 };
 
-// What becomes of the model while it is watched so.
+// The result of the model with this watcher.
 fn ran<V: Watcher>(alloc: Global, watcher: &mut V) -> Result<ModelResult, Fail> {
     let Ok(source) = read_source(alloc, COUNTERS) else {
         return Err(Fail::new("the file is refused"));
@@ -38,7 +38,7 @@ fn ran<V: Watcher>(alloc: Global, watcher: &mut V) -> Result<ModelResult, Fail> 
     Err(Fail::new("the file has no model"))
 }
 
-// What was found of the only term of a model, and its verdict.
+// Compares what was found of the model's only term. The verdict must be undecided.
 fn expect<R: Abort + AllocGlobal>(
     rt: &R,
     became: &ModelResult,
@@ -61,8 +61,8 @@ fn expect<R: Abort + AllocGlobal>(
     assert_eq!(rt; became.searches.len(), 1);
 }
 
-// The watcher is asked at each hundredth world. So it ends the search at a hundred worlds. Then 200 schedules are drawn,
-// and it isn't asked any more.
+// The watcher is asked at each hundredth world, and ends the search when it is asked first. Then 200 schedules are
+// drawn, and the watcher isn't asked again.
 #[test]
 fn a_model_whose_time_is_over_is_undecided(rt: HostRuntime) -> Result<(), Fail> {
     let mut ends = Ends::new(1);
@@ -78,7 +78,7 @@ fn a_model_whose_time_is_over_is_undecided(rt: HostRuntime) -> Result<(), Fail> 
 }
 
 #[test]
-fn a_model_that_nobody_ends_goes_on_to_its_bound(rt: HostRuntime) -> Result<(), Fail> {
+fn an_unwatched_model_runs_to_its_bound(rt: HostRuntime) -> Result<(), Fail> {
     let result = ran(rt.alloc(), &mut Unwatched)?;
     expect(&rt, &result, false, 2000, 2000);
     Ok(())
@@ -91,7 +91,7 @@ const LIMITS: Limits = Limits {
     count: 1000,
 };
 
-// What a sample of at most this number of schedules has found while it is watched so.
+// What a sample of at most `times` schedules finds with this watcher.
 fn sampled<V: Watcher>(alloc: Global, times: u32, watcher: &mut V) -> Result<Sample, Fail> {
     let Ok(program) = read_program(alloc, b"(race (say 1) (say 2))") else {
         return Err(Fail::new("the program is refused"));
@@ -102,8 +102,8 @@ fn sampled<V: Watcher>(alloc: Global, times: u32, watcher: &mut V) -> Result<Sam
     }
 }
 
-// The watcher is asked before each schedule. When it ends the sample, this has the schedules that were drawn until then,
-// the same as of a sample of as many.
+// The watcher is asked before each schedule. A sample that it ends has the schedules drawn until then, the same as a
+// sample of that size.
 #[test]
 fn a_watcher_ends_a_sample(rt: HostRuntime) -> Result<(), Fail> {
     let ended = sampled(rt.alloc(), 1000, &mut Ends::new(6))?;

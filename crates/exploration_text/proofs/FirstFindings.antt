@@ -38,7 +38,7 @@ reached_so code k most a is stays (inr fault) = record {
 at_most : (n a b : ℕ) → a ≤ b → n ≤ max a 1 → n ≤ max b 1
 at_most n a b low h = omega (arith, low, h)
 
--- an answer of the same schedule, as a replay answers it, is as the one that shows it
+-- if an answer is a finding, the answer of a replay under its schedule is one
 again : (code : Tree) (k : Limits) (wants : List Want) (b a : Answer) (last drawn : Bool) → a.schedule ≡ b.schedule →
     reported (core code k b.schedule) ≡ a.end → reported (core code k b.schedule) ≡ b.end → is_failure wants b.end ≡ true →
     (last ≡ true → IsReached code k b) → (last ≡ false → HasEndedFirst b.end) → IsSpellable b →
@@ -84,7 +84,7 @@ searched_found code k wants i answers b a there unwanted each spelled same ends 
     let is = all_at (IsReached code k) answers i b there each in
     again code k wants b a true false same ends is.reached unwanted (λ h. is) (λ h. absurd cc) (all_at IsSpellable answers i b there spelled)
 
--- an exploration that was ended besides
+-- an exploration that is marked as ended
 ended_so : (code : Tree) (k : Limits) (bounds : Bounds) (timed : Bool) (wants : List Want) (e : Exploration) → timed ≡ true →
     IsFirst code k bounds timed wants (Explored e) → IsFirst code k bounds timed wants (Explored (record e { halted = true }))
 ended_so code k bounds timed wants e limited h = (
@@ -102,12 +102,12 @@ ended_so code k bounds timed wants e limited h = (
   h.2,
 )
 
--- a search that is whole or was ended can't have met a bound
+-- a search that is complete or was ended didn't stop at a bound
 no_bound : {C : Type 0} (e : Exploration) → (e.complete ≡ true) ⊎ (e.halted ≡ true) → e.complete ≡ false → e.halted ≡ false → C
 no_bound e (inl whole) part going = let bad : true ≡ false = sym whole ∙ part in absurd cc
 no_bound e (inr halted) part going = let bad : true ≡ false = sym halted ∙ going in absurd cc
 
--- an exploration within fewer worlds that is whole or was ended
+-- an exploration within fewer worlds that is complete or was ended
 pub widened : (code : Tree) (k : Limits) (fewer bounds : Bounds) (timed : Bool) (wants : List Want) (first : First) → fewer.worlds ≤ bounds.worlds →
     fewer.entries ≡ bounds.entries → fewer.memory ≡ bounds.memory → IsDecided first → IsFirst code k fewer timed wants first →
     IsFirst code k bounds timed wants first
@@ -146,7 +146,7 @@ last_first code k bounds n timed wants first (inl decided) h =
     widened code k (bounds_within bounds n) bounds timed wants first (min_low bounds.worlds n) refl refl decided h
 last_first code k bounds n timed wants first (inr low) h = subst (λ (b : Bounds). IsFirst code k b timed wants first) (same_bounds bounds n low) h
 
--- of two searches the one that has found more
+-- the result of two searches
 pub more_first : (code : Tree) (k : Limits) (fewer bounds : Bounds) (timed : Bool) (wants : List Want) (before later result : First) →
     fewer.worlds ≤ bounds.worlds → fewer.entries ≡ bounds.entries → fewer.memory ≡ bounds.memory → IsOfMore before later result →
     IsFirst code k fewer timed wants before → IsFirst code k bounds timed wants later → IsFirst code k bounds timed wants result

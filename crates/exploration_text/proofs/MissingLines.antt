@@ -1,4 +1,4 @@
--- The lines of wanted outcomes that nothing comes to, one at a time.
+-- The lines of wanted outcomes that no answer has, one at a time.
 use Rattle.std.proofs.Common.{◌≡◌, ◌+◌, ◌<◌, ◌≤◌, ℕ, Bool, true, false, if◌then◌else◌, List, [], ◌∷◌, ◌++◌, length, drop, get_or, refl, sym, ap, ◌∙◌}
 use Rattle.std.proofs.Common.{append_assoc, append-nil}
 use Rattle.std.proofs.lemmas.List.{drop_all}
@@ -6,7 +6,7 @@ use Rattle.exploration_text.specs.declared.wants.Want.{Want}
 use Rattle.exploration_text.specs.Missing.{missing_line, missing_lines}
 use Rattle.exploration_text.proofs.Parts.{from_here}
 
--- with the lines of the wants that are left behind it, the text so far is that of all
+-- followed by the lines of the wants that are left, the text so far is that of all wants
 abbrev pub IsFront : Bool → (Want → Bool) → List Want → ℕ → List ℕ → Type 0
 IsFront all comes wants i text = text ++ missing_lines all comes (drop i wants) ≡ missing_lines all comes wants
 

@@ -8,7 +8,7 @@ use Rattle.every_schedule.specs.declared.exploration.Answer.{Answer}
 use Rattle.exploration_text.specs.declared.wants.Want.{Want}
 use Rattle.exploration_text.specs.ExplorationText.{AreAnswersText, IsAnswerText, IsPartText, is_listed_so}
 
--- with the text of the answers from this one on behind it, it is that of all
+-- followed by the text of the answers from number i on, the text is that of all answers
 abbrev pub IsFront : Bool → List Want → List Answer → ℕ → List ℕ → Type 0
 IsFront u wants all i text =
     (behind : List ℕ) → IsPartText u wants (drop i all) behind → IsPartText u wants all (text ++ behind)

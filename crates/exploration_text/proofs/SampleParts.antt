@@ -7,7 +7,7 @@ use Rattle.sampled_schedules.specs.declared.comings.Coming.{Coming}
 use Rattle.exploration_text.specs.declared.wants.Want.{Want}
 use Rattle.exploration_text.specs.SampleText.{AreComingsText, IsComingText}
 
--- with the text of the answers from this one on behind it, it is that of all
+-- followed by the text of the answers from number i on, the text is that of all answers
 abbrev pub IsFront : List Want → List Coming → ℕ → List ℕ → Type 0
 IsFront wants all i text = (behind : List ℕ) → AreComingsText wants (drop i all) behind → AreComingsText wants all (text ++ behind)
 

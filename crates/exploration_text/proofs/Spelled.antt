@@ -11,13 +11,13 @@ fits : (v : ℤ) → IsValue v → FitsSigned w64 v
 fits (pos n) h = fits_signed_from_abs w64 (pos n) (omega arith)
 fits (negsuc n) h = fits_signed_from_abs w64 (negsuc n) (omega arith)
 
--- what is read of the text of a value is the value
+-- reading the text of a value gives the value
 pub parsed : {E : Type 0} (v : ℤ) (text : List ℕ) (r : Result ℤ E) → IsValue v → text ≡ signed_decimal v →
     ParsesSigned w64 10 text r → r ≡ Ok v
 parsed (pos n) text r h is p = parse-signed_decimal w64 (pos n) text r (fits (pos n) h) (omega arith) is p
 parsed (negsuc n) text r h is p = parse-signed_decimal w64 (negsuc n) text r (fits (negsuc n) h) (omega arith) is p
 
--- where no value is read of the number, the text is that of none
+-- if the number gives no value, the text spells no value
 pub unspelled : {E X : Type 0} (number : ℤ) (text : List ℕ) (r : Result ℤ E) (v : Option X) → r ≡ Ok number →
     ParsesSigned w64 10 text r →
     IfNone v (IsValue (to_z w64 (of_z w64 number)) → text ≡ signed_decimal (to_z w64 (of_z w64 number)) → ⊥) →

@@ -1,4 +1,4 @@
--- What is answered to a text whose program is explored.
+-- The answer to a text whose program is explored.
 use Rattle.std.specs.Prelude.{◌≡◌, ◌⊎◌, ◌<◌, ◌≤◌, ℕ, Bool, List, length, max, true, false}
 use Rattle.std.specs.List.{All}
 use Rattle.cell_registry.specs.declared.limits.Limits.{Limits}
@@ -17,8 +17,8 @@ use Rattle.exploration_text.specs.declared.wants.Want.{Want}
 use Rattle.exploration_text.specs.Missing.{missing_of_exploration}
 use Rattle.exploration_text.specs.ExplorationText.{IsExplorationText, exploration_status}
 
--- An exploration of code under these limits, within these bounds, whose time was limited or wasn't. Where it is
--- complete, the end of every schedule is listed. Where it isn't, a bound was met, or its time was over, which it says.
+-- An exploration of code under these limits, within these bounds; `timed` is whether its time was limited. If it is
+-- complete, the end of every schedule is listed. If not, a bound was met, or `halted` is set and the time was over.
 -- Each answer is the end of its schedule, and no end is listed twice.
 pub record IsExplorationOf (code : Tree) (limits : Limits) (bounds : Bounds) (timed : Bool) (e : Exploration)
     : Type 0
@@ -33,7 +33,7 @@ pub record IsExplorationOf (code : Tree) (limits : Limits) (bounds : Bounds) (ti
     pub spare : e.complete ≡ true → e.bytes < bounds.memory
     pub short : All (λ a. length a.schedule ≤ bounds.entries) e.answers
 
--- the text and the status of an exploration of the program within the bounds, whose time was limited or wasn't
+-- the text and the status of an exploration of the program within the bounds; `timed` is whether its time was limited
 pub record IsExploredAnswer (t : Term) (limits : Limits) (bounds : Bounds) (timed : Bool) (wants : List Want)
     (answer : List ℕ) (status : Status) : Type 0
   where
@@ -42,14 +42,14 @@ pub record IsExploredAnswer (t : Term) (limits : Limits) (bounds : Bounds) (time
     pub text_is : IsExplorationText wants exploration answer
     pub status_is : status ≡ exploration_status wants exploration
 
--- such a text and status, beside the lines of the wanted outcomes to which no answer comes
+-- the text and the status of an exploration, and the lines of the wanted outcomes that no answer has
 pub record IsNotedExplored (t : Term) (limits : Limits) (bounds : Bounds) (timed : Bool) (wants : List Want)
     (note answer : List ℕ) (status : Status) : Type 0
   where
     pub explored : IsExploredAnswer t limits bounds timed wants answer status
     pub note_is : note ≡ missing_of_exploration wants explored.exploration
 
--- what `explore` answers under limits, with its status: a refusal, or the exploration of the program that the text
+-- the answer of `explore` under limits, with its status: a refusal, or the exploration of the program that the text
 -- spells
 abbrev pub IsExploreAnswer : Limits → Bounds → (timed : Bool) → List Want → List ℕ → List ℕ → Status → Type 0
 IsExploreAnswer limits bounds timed wants =

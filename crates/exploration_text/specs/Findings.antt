@@ -1,4 +1,4 @@
--- The first thing that shows that a program isn't right, and what is answered where it is looked for.
+-- The first finding of a program, and the answer of a search for it.
 use Rattle.std.specs.Prelude.{◌≡◌, ◌⊎◌, ◌<◌, ℕ, Bool, true, false, List, [], ◌∷◌, ◌++◌, codes, length, Option, Some}
 use Rattle.std.specs.Prelude.{Result, Ok, Err, min}
 use Rattle.std.specs.List.{All}
@@ -27,13 +27,13 @@ use Rattle.exploration_text.specs.ExploreAnswers.{IsExplorationOf, IsExploredAns
 use Rattle.exploration_text.specs.Missing.{missing_of_exploration}
 use Rattle.exploration_text.specs.Wants.{first_outcome, is_failure}
 
--- it is a report in which fiber 0 has ended
+-- the end is a report in which fiber 0 has ended
 abbrev pub HasEndedFirst : Result Report RunError → Type 0
 HasEndedFirst (Ok r) = (o : Outcome) × (first_outcome r.fibers ≡ Some o)
 HasEndedFirst (Err e) = ⊥
 
--- The schedule of a finding leads to its end, which is a fault, or not wanted. Either no further entry changes this
--- end, or fiber 0 has ended in it. The schedule can be spelled.
+-- The schedule of a finding leads to its end, which is a fault, or not wanted. No further entry changes this end, or
+-- fiber 0 has ended in it. The schedule can be spelled.
 pub record IsFinding (code : Tree) (limits : Limits) (wants : List Want) (f : Finding) : Type 0 where
   pub reached : reported (core code limits f.answer.schedule) ≡ f.answer.end
   pub unwanted : is_failure wants f.answer.end ≡ true
@@ -52,19 +52,19 @@ abbrev pub source_text : Bool → List ℕ
 source_text true = codes "found at random: not wanted, "
 source_text false = codes "found by search: not wanted, "
 
--- whether more entries can change its end
+-- whether further entries can change the end of a finding
 abbrev pub extent_text : Bool → List ℕ
 extent_text true = codes "final, under "
 extent_text false = codes "others may go on, under "
 
--- how a finding was found, whether its end is final, its schedule in quotes, and its end
+-- the text of a finding: how it was found, whether its end is final, its schedule in quotes, and its end
 pub record IsFindingText (f : Finding) (text : List ℕ) : Type 0 where
   pub schedule : List ℕ
   pub spelled : SpellsEntries schedule f.answer.schedule
   pub text_is : text ≡ source_text f.drawn ++ (extent_text f.last ++
       (34 ∷ (schedule ++ (34 ∷ 10 ∷ end_text f.answer.end))))
 
--- the text of a finding, with the status of what isn't wanted
+-- the text of a finding, with the status `Errored`
 pub record IsFoundAnswer (t : Term) (limits : Limits) (wants : List Want) (answer : List ℕ) (status : Status) : Type 0
   where
     pub finding : Finding
@@ -79,15 +79,15 @@ pub record IsUnfoundAnswer (t : Term) (limits : Limits) (bounds : Bounds) (timed
     pub explored : IsExploredAnswer t limits bounds timed wants answer status
     pub none : has_failure wants explored.exploration.answers ≡ false
 
--- such an answer, beside the lines of the wanted outcomes that no schedule comes to
+-- such a text and status, and the lines of the wanted outcomes that no schedule comes to
 pub record IsNotedUnfound (t : Term) (limits : Limits) (bounds : Bounds) (timed : Bool) (wants : List Want)
     (note answer : List ℕ) (status : Status) : Type 0
   where
     pub unfound : IsUnfoundAnswer t limits bounds timed wants answer status
     pub note_is : note ≡ missing_of_exploration wants unfound.explored.exploration
 
--- what is answered to a program with this note, with its status: a finding, which has no note, or an exploration that
--- lists none
+-- the answer to a program, with its note and its status: a finding, which has no note, or an exploration that lists no
+-- finding
 abbrev pub IsFirstAnswer : Term → Limits → Bounds → (timed : Bool) → List Want → (note : List ℕ) → List ℕ → Status →
     Type 0
 IsFirstAnswer t limits bounds timed wants note answer status =
@@ -96,7 +96,7 @@ IsFirstAnswer t limits bounds timed wants note answer status =
 
 -- ---- for private clauses
 
--- a search with more worlds would find nothing else, or its watcher has ended it
+-- the search has a finding, is complete, or was ended by its watcher
 abbrev pub IsDecided : First → Type 0
 IsDecided (Found f) = Unit {0}
 IsDecided (Explored e) = (e.complete ≡ true) ⊎ (e.halted ≡ true)
@@ -105,18 +105,17 @@ IsDecided (Explored e) = (e.complete ≡ true) ⊎ (e.halted ≡ true)
 abbrev pub bounds_within : Bounds → ℕ → Bounds
 bounds_within bounds worlds = record bounds { worlds = min bounds.worlds worlds }
 
--- of two searches the later one, or, where its watcher has ended it, the one before, as ended with it
+-- the result of the later of two searches, or, if its watcher ended it, the result of the one before, marked as ended
 abbrev pub IsOfMore : (before later result : First) → Type 0
 IsOfMore before later result = (result ≡ later) ⊎
     ((e : Exploration) × (last : Exploration) × (before ≡ Explored e) × (later ≡ Explored last) ×
     (last.halted ≡ true) × (result ≡ Explored (record e { halted = true })))
 
--- the schedule wasn't cut short at so many entries, or it leads to a fault
+-- the schedule has fewer than `most` entries, or leads to a fault
 abbrev pub IsLast : ℕ → Answer → Type 0
 IsLast most a = (length a.schedule < most) ⊎ ((e : RunError) × (a.end ≡ Err e))
 
--- an answer whose schedule has at most so many entries shows that the program isn't right: its end is final, or
--- fiber 0 has ended
+-- an answer whose schedule has at most `most` entries is a finding: its end is final, or fiber 0 has ended
 pub data Shows (wants : List Want) (most : ℕ) (a : Answer) : (last : Bool) → Type 0 where
   final : is_failure wants a.end ≡ true → IsLast most a → Shows wants most a true
   ended : is_failure wants a.end ≡ true → HasEndedFirst a.end → Shows wants most a false

@@ -1,4 +1,4 @@
--- What is answered to a text whose program's schedules are sampled.
+-- The answer to a text whose program's schedules are sampled.
 use Rattle.std.specs.Prelude.{◌≡◌, ℕ, false, List, Ok}
 use Rattle.std.specs.List.{All}
 use Rattle.cell_registry.specs.declared.limits.Limits.{Limits}
@@ -18,8 +18,8 @@ use Rattle.exploration_text.specs.declared.wants.Want.{Want}
 use Rattle.exploration_text.specs.Missing.{missing_of_sample}
 use Rattle.exploration_text.specs.SampleText.{IsSampleText, sample_status}
 
--- Of code under these limits: each answer is what its schedule leads to, no entries more change one that isn't marked
--- as cut short, and so many schedules were drawn, of which these are the answers.
+-- A sample of code under these limits: each answer is what its schedule leads to, no further entries change an answer
+-- that isn't marked as cut short, and the answers are those of `times` schedules that were drawn.
 pub record IsSampleAt (code : Tree) (limits : Limits) (times entries : ℕ) (s : Sample) : Type 0 where
   pub each : All (λ c. reported (core code limits c.answer.schedule) ≡ c.answer.end) s.comings
   pub uncut : All (λ c. c.cut ≡ false → StaysSo code limits c.answer.end) s.comings
@@ -35,14 +35,14 @@ pub record IsSampledAnswer (t : Term) (limits : Limits) (times entries : ℕ) (w
     pub text_is : IsSampleText wants sample answer
     pub status_is : status ≡ sample_status wants sample
 
--- such a text and status, beside the lines of the wanted outcomes that nothing came to
+-- the text and the status of a sample, and the lines of the wanted outcomes that no answer has
 pub record IsNotedSample (t : Term) (limits : Limits) (times entries : ℕ) (wants : List Want) (note answer : List ℕ)
     (status : Status) : Type 0
   where
     pub sampled : IsSampledAnswer t limits times entries wants answer status
     pub note_is : note ≡ missing_of_sample wants sampled.sample
 
--- what `sample` answers under limits, with its status: a refusal, or a sample of the schedules of the program that the
+-- the answer of `sample` under limits, with its status: a refusal, or a sample of the schedules of the program that the
 -- text spells
 pub data IsSampleAnswer (limits : Limits) (times entries : ℕ) (wants : List Want) : List ℕ → List ℕ → Status → Type 0
   where

@@ -15,66 +15,66 @@ use Rattle.sampled_schedules.specs.declared.comings.Sample.{Sample}
 use Rattle.exploration_text.specs.declared.wants.Want.{Want}
 use Rattle.exploration_text.specs.Wants.{first_outcome, is_failure}
 
--- whether a fiber with this outcome may still end: it hasn't, and each schedule that came to it was cut short
+-- whether a fiber with this outcome can still end: it hasn't ended, and each schedule that came to it was cut short
 abbrev pub may_end : Bool → Option Outcome → Bool
 may_end true None = true
 may_end _ _ = false
 
--- Whether an answer shows that the program isn't right: a fault, or, where outcomes are wanted, a report whose fiber 0
--- has another one. A fiber 0 that may still end shows nothing.
+-- Whether an end is a finding: a fault, or, if outcomes are wanted, a report in which fiber 0 has another outcome and
+-- can't still end.
 abbrev pub is_finding : List Want → Bool → Result Report RunError → Bool
 is_finding wants cut (Err e) = true
 is_finding wants cut (Ok r) = if may_end cut (first_outcome r.fibers) then false else is_failure wants (Ok r)
 
--- whether an answer is listed as not wanted, which none is where nothing is wanted
+-- whether an answer is listed as not wanted; if no outcome is wanted, none is
 abbrev pub is_unwanted : List Want → Coming → Bool
 is_unwanted [] c = false
 is_unwanted (w ∷ wants) c = is_finding (w ∷ wants) c.cut c.answer.end
 
--- how many schedules were drawn, and how many reports and faults came of them
+-- the numbers of schedules that were drawn, and of the reports and faults that they led to
 abbrev pub first_line : Sample → List ℕ
 first_line s = codes "sampled " ++
     (counted s.schedules (codes "schedule") ++ (codes ": " ++
     (counted (count_by (λ c. is_ok c.answer.end) s.comings) (codes "report") ++ (codes ", " ++
     (counted (count_by (λ c. is_err c.answer.end) s.comings) (codes "fault") ++ 10 ∷ [])))))
 
--- what stands between how often an answer came and its schedule: that each of those schedules was cut short, if so
+-- the text between how often an answer came and its schedule: whether each of its schedules was cut short
 abbrev pub between : Bool → List ℕ
 between true = codes ", cut short, first under "
 between false = codes ", first under "
 
--- what an answer begins with, behind a blank line: whether it is wanted, and that it came
+-- the front of an answer: a blank line, and whether the answer is wanted
 abbrev pub front : Bool → List ℕ
 front true = 10 ∷ codes "not wanted, came "
 front false = 10 ∷ codes "came "
 
--- what stands before the schedule of an answer that came so often
+-- the text before the schedule of an answer that came this number of times
 abbrev pub heading : Bool → ℕ → Bool → List ℕ
 heading unwanted times cut = front unwanted ++ (counted times (codes "time") ++ between cut)
 
--- a blank line, whether the answer is not wanted, how often it came and whether cut short, the first schedule that came
--- to it in quotes, and the answer
+-- a blank line, whether the answer is not wanted, how often it came, whether all its schedules were cut short, the
+-- first of them in quotes, and the answer
 pub record IsComingText (wants : List Want) (c : Coming) (text : List ℕ) : Type 0 where
   pub schedule : List ℕ
   pub spelled : SpellsEntries schedule c.answer.schedule
   pub text_is : text ≡ heading (is_unwanted wants c) c.times c.cut ++ (34 ∷ (schedule ++ (34 ∷ 10 ∷ end_text c.answer.end)))
 
--- the texts of answers, one behind the other
+-- the texts of answers, one after another
 abbrev pub AreComingsText : List Want → List Coming → List ℕ → Type 0
 AreComingsText wants [] text = text ≡ []
 AreComingsText wants (c ∷ comings) text = (first : List ℕ) × (behind : List ℕ) × (text ≡ first ++ behind) ×
     IsComingText wants c first × AreComingsText wants comings behind
 
--- the first line, and then the answers
+-- the first line, then the answers
 pub record IsSampleText (wants : List Want) (s : Sample) (text : List ℕ) : Type 0 where
   pub rest : List ℕ
   pub text_is : text ≡ first_line s ++ rest
   pub comings_are : AreComingsText wants s.comings rest
 
--- whether an answer shows that the program isn't right
+-- whether one of the answers is a finding
 abbrev pub has_finding : List Want → List Coming → Bool
 has_finding wants comings = list_any (λ c. is_finding wants c.cut c.answer.end) comings
 
--- how the program ends then: as where fiber 0 errored, if an answer shows that the program isn't right, or succeeded
+-- the status of a sample: `Errored` if an answer is a finding, else `Succeeded`
 abbrev pub sample_status : List Want → Sample → Status
 sample_status wants s = if has_finding wants s.comings then ends.Errored else ends.Succeeded

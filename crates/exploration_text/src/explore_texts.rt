@@ -1,4 +1,4 @@
-//! What comes of a text under every schedule: the text of its exploration, or why there is none.
+//! The answer to a text whose program is explored under every schedule.
 
 ghost use Rattle.std.specs.Prelude.{◌≤◌, false};
 ghost use Rattle.cell_registry.specs.Cells.{AreLimits};
@@ -15,18 +15,17 @@ use every_schedule::{Bounds, Unwatched, Watcher, explore_watched};
 use outcome_trace::{Answer, InWords, ProgramOrder};
 use std::alloc::{AllocError, Global};
 
-/// Tells all that can come of the program that the text spells, under every schedule
-/// ([`text_of_exploration`]), with the status of
-/// [`exploration_status`], or the line of the text's refusal, with `Status::Refused`.
+/// Answers a text by the exploration of its program under every schedule ([`text_of_exploration`]), with the status of
+/// [`exploration_status`], or by the line of the text's refusal, with `Status::Refused`.
 #[derive(Drop)]
 pub struct ExploreOrder {
-    /// How many fibers, refs and deferreds there may be (each 1 to 1000), and how often a fiber may change its own
-    /// state (1 to 1,099,511,627,775). A world takes memory for each of these numbers but the last.
+    /// The greatest numbers of fibers, refs and deferreds (each 1 to 1000), and of a fiber's changes of its own state
+    /// (1 to 1,099,511,627,775). A world takes memory for each of these numbers but the last.
     pub limits: Limits,
-    /// How many worlds are kept at most, how many entries a schedule has at most (0 to 1,000,000), and at how many
-    /// bytes the search stops.
+    /// The greatest number of worlds, the greatest number of entries of a schedule (0 to 1,000,000), and the number of
+    /// bytes at which the search stops.
     pub bounds: Bounds,
-    /// The outcomes of fiber 0 that are wanted; none where any is.
+    /// The outcomes of fiber 0 that are wanted; empty if any outcome is.
     pub wants: Vec<Want>,
     pub ghost ranges: { AreLimits limits },
     pub ghost entries: { bounds.entries ≤ 1000000 },

@@ -1,4 +1,4 @@
-//! What comes of a text whose program is explored until something shows that it isn't right.
+//! The answer to a text whose program is explored until a finding.
 
 ghost use Rattle.std.specs.Prelude.{◌≡◌, IfOk};
 ghost use Rattle.exploration_text.specs.ExplorationText.{IsSpellable};
@@ -15,13 +15,12 @@ use every_schedule::Watcher;
 use outcome_trace::{Answer, InWords, Status, schedule_text};
 use std::alloc::{AllocError, Global};
 
-/// Looks for the first finding of the program that the text spells ([`first_finding`]), and answers its text with
-/// `Status::Errored`. Where there is none, the answer is what [`ExploreOrder`] answers, with a note that names the
-/// wanted outcomes to which no schedule comes. A text that is refused is answered by the line of its refusal, with
-/// `Status::Refused`.
+/// Answers a text by the first finding of its program ([`first_finding`]), with `Status::Errored`. If there is none,
+/// the answer is that of [`ExploreOrder`], with a note that names the wanted outcomes to which no schedule comes. A
+/// refused text is answered by the line of its refusal, with `Status::Refused`.
 #[derive(Drop)]
 pub struct FirstOrder {
-    /// What is explored, how far, and what is wanted.
+    /// The limits, the bounds and the wanted outcomes.
     pub order: ExploreOrder,
 }
 

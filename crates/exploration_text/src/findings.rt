@@ -1,5 +1,5 @@
-//! The first thing that shows that a program isn't right: schedules that are drawn at random meet it soon where there
-//! are many that do, and a search of every schedule meets it where there is one.
+//! The search for the first finding of a program. Random schedules meet a finding soon if many schedules lead to one; a
+//! search of every schedule meets a finding if there is one.
 
 ghost use Rattle.std.specs.Prelude.{◌≡◌, ◌⊎◌, ◌≤◌, ℕ, IfNone, IfOk, IfSome, Some as There, false, true};
 ghost use Rattle.std.specs.List.{slice_get};
@@ -22,15 +22,15 @@ use outcome_trace::{Report, replay};
 use sampled_schedules::{Coming, sample};
 use std::alloc::{AllocError, Global};
 
-// How many samples are drawn of each length, how many schedules each has, and the lengths: how many entries a schedule
-// has at most. Short ones come first, since they are easier to read. All of them take less than a second.
+// The number of samples of each length, of schedules of each sample, and the lengths: the greatest numbers of entries.
+// Short schedules come first, since they are easier to read. All samples take less than a second.
 const SAMPLES: u64 = 10;
 
 const SCHEDULES: u32 = 100;
 
 const LENGTHS: &[u32] = &[64, 256, 1000];
 
-// How many worlds the searches before the last one have, so that a finding that is near is reported soon.
+// The greatest number of worlds of each search before the last one, so that a near finding is reported soon.
 const NEAR: usize = 10_000;
 
 const FAR: usize = 1_000_000;
@@ -40,7 +40,7 @@ const FAR: usize = 1_000_000;
 pub struct Finding {
     /// The schedule, and the report or the fault that a replay under it answers.
     pub answer: Answer,
-    /// Whether no further entry changes this end. Otherwise fiber 0 has ended, and other fibers may go on.
+    /// Whether no further entry changes this end. Otherwise fiber 0 has ended, and other fibers can go on.
     pub last: bool,
     /// Whether the schedule was drawn at random. Otherwise the search of every schedule found it.
     pub drawn: bool,
@@ -56,10 +56,10 @@ pub enum First {
 }
 
 /// Draws 3,000 schedules of a program by fixed seeds, 1,000 each of at most 64, 256 and 1,000 entries, and returns the
-/// first finding among their ends. Where there is none, explores every schedule, and returns the first answer that is a
-/// finding, or the exploration. The search looks for a finding where it has 10,000 worlds, 1,000,000 worlds and at its
-/// end: these are three searches, of which the watcher can end each. Where it ends one that has fewer worlds than the
-/// one before, the exploration is that of the one before.
+/// first finding among their ends. If there is none, explores every schedule, and returns the first answer that is a
+/// finding, or the exploration. The exploration consists of three searches: of at most 10,000 worlds, of at most
+/// 1,000,000 worlds, and within the bounds. The watcher can end each search. If the watcher ends a search with fewer
+/// worlds than the one before, the result is the exploration before.
 pub fn first_finding<V: Watcher>(
     alloc: Global,
     program: &Program,
@@ -75,7 +75,7 @@ pub fn first_finding<V: Watcher>(
     }
 }
 
-// What three searches find, each with more worlds than the one before.
+// The result of three searches, each with more worlds than the one before.
 fn searched_in_turn<V: Watcher>(
     alloc: Global,
     program: &Program,
@@ -109,8 +109,8 @@ fn within(bounds: Bounds, worlds: usize) -> Bounds
     }
 }
 
-// Whether no search follows one with at most this number of worlds: it has decided, or was ended, or the bounds allow no
-// more worlds.
+// Whether a search with at most this number of worlds is the last one: it has a finding, it is complete, the watcher
+// ended it, or the bounds allow no more worlds.
 fn is_last(first: &First, bounds: Bounds, worlds: usize) -> bool
     ensures { result ≡ true → IsDecided first.now ⊎ bounds.worlds ≤ worlds }
 {
@@ -123,8 +123,8 @@ fn is_last(first: &First, bounds: Bounds, worlds: usize) -> bool
     }
 }
 
-// What the later of two searches has found. Where it was ended and has fewer worlds, what the one before has found, which
-// was ended with it.
+// The result of the later of two searches. If the watcher ended the later one and it has fewer worlds, the result of
+// the one before, marked as ended.
 fn of_more(before: First, later: First) -> First
     ensures { IsOfMore before later result }
 {
@@ -134,7 +134,7 @@ fn of_more(before: First, later: First) -> First
     }
 }
 
-// The same of a later search that found nothing.
+// The same for a later search without a finding.
 fn more_of(before: First, last: Exploration) -> First
     ensures { IsOfMore before (Searched last) result }
 {
@@ -152,7 +152,7 @@ fn more_of(before: First, last: Exploration) -> First
     }
 }
 
-// What a search within these bounds finds.
+// The result of a search within these bounds.
 fn searched<V: Watcher>(
     alloc: Global,
     program: &Program,
@@ -180,7 +180,7 @@ fn searched<V: Watcher>(
     }))
 }
 
-// The first finding among the ends of all schedules that are drawn.
+// The first finding among the ends of all random schedules.
 fn drawn_finding(
     alloc: Global,
     program: &Program,
@@ -197,7 +197,7 @@ fn drawn_finding(
     Ok(None)
 }
 
-// The first finding among the ends of the schedules that are drawn with so many entries at most.
+// The first finding among the ends of the random schedules of at most `length` entries.
 fn finding_within(
     alloc: Global,
     program: &Program,
@@ -260,7 +260,7 @@ fn first_shown<'a>(
     None
 }
 
-// Whether no further entry changes the end of an answer, where it is a finding.
+// Whether no further entry changes the end of an answer; `None` if the answer is no finding.
 fn shown(answer: &Answer, wants: &[Want], entries: u32) -> Option<bool>
     ensures { IfSome result (Shows wants.now entries answer.now) }
 {
@@ -295,7 +295,7 @@ fn first_failure<'a>(answers: &'a [Answer], wants: &[Want]) -> Option<&'a Answer
     None
 }
 
-// What a replay under a schedule answers, with the schedule.
+// The schedule, with the report or fault of a replay under it.
 fn replayed(
     alloc: Global,
     program: &Program,
@@ -314,7 +314,7 @@ fn replayed(
     })
 }
 
-// What a replay under a schedule answers. Want of memory is no answer.
+// The report or fault of a replay under a schedule. `AllocError` if memory ran out.
 fn replayed_end(
     alloc: Global,
     program: &Program,

@@ -1,11 +1,11 @@
-//! From a text that spells a program to the text of its exploration: all that can come of it under every schedule, each
-//! with a schedule, and how the program ends then. And to the text of a sample of its schedules: what they came to, how
-//! often each came, and the first schedule that did.
+//! Texts of explorations and samples of the program that a text spells. The text of an exploration lists the final
+//! reports and the faults, each with a schedule. The text of a sample lists the ends of random schedules, how often
+//! each end came, and the first schedule that led to it. Each text has a status.
 //!
-//! It stands on the exploration of a program (`every_schedule`), on samples (`sampled_schedules`), and on texts and
-//! their answers (`outcome_trace`, `text_io`). It promises that what goes out is exactly the text of an exploration
-//! that has missed nothing where it says that it is complete, and whose answers are each reached by the schedule that
-//! is told; or the text of a sample, in which each answer is what its schedule leads to.
+//! The crate uses the exploration of a program (`every_schedule`), samples (`sampled_schedules`), and texts and their
+//! answers (`outcome_trace`, `text_io`). It promises that the answer is exactly the text of an exploration or of a
+//! sample. An exploration whose text says that it is complete has missed nothing, and the schedule of each answer leads
+//! to it.
 #![tactic(auto)]
 
 mod explore_texts;

@@ -1,4 +1,4 @@
-//! The wanted outcomes of fiber 0 that nothing comes to.
+//! The wanted outcomes of fiber 0 that no answer has.
 
 ghost use Rattle.std.specs.Prelude.{◌≡◌, ◌++◌, IfOk, OnOk, Some};
 ghost use Rattle.std.specs.Fmt.{signed_decimal};
@@ -18,8 +18,8 @@ use outcome_trace::Report;
 use sampled_schedules::{Coming, Sample};
 use std::alloc::{AllocError, Global};
 
-/// A line for each wanted outcome that no answer of an exploration has: that no schedule comes to it, or, where not all
-/// was explored, that none was found. `AllocError` where memory is refused.
+/// A line for each wanted outcome that no answer of an exploration has: no schedule comes to the outcome, or, if not
+/// every schedule was explored, none was found that does. `AllocError` where memory is refused.
 pub fn missing_of_exploration(
     alloc: Global,
     exploration: &Exploration,
@@ -65,7 +65,7 @@ fn answer_has(answers: &[Answer], want: &Want) -> bool
     false
 }
 
-// Whether one of the ends of a sample has a wanted outcome.
+// Whether an end of a sample has a wanted outcome.
 fn coming_has(comings: &[Coming], want: &Want) -> bool
     ensures { result ≡ list_any (λ c. has_outcome want.now c.answer.end) comings.now }
 {
@@ -77,7 +77,7 @@ fn coming_has(comings: &[Coming], want: &Want) -> bool
     false
 }
 
-// Whether an end is a report whose fiber 0 is as wanted.
+// Whether an end is a report in which fiber 0 has the wanted outcome.
 fn has_outcome(end: &Result<Report, RunError>, want: &Want) -> bool
     ensures { result ≡ has_outcome want.now end.now }
 {
@@ -87,7 +87,7 @@ fn has_outcome(end: &Result<Report, RunError>, want: &Want) -> bool
     }
 }
 
-// Writes that nothing comes to a wanted outcome, by whether every schedule was explored.
+// Writes the line of a wanted outcome that no answer has; `all` is whether every schedule was explored.
 fn push_line(text: &mut Vec<u8>, all: bool, want: Want) -> Result<(), AllocError>
     ensures { OnOk result (text.new.items ≡ text.old.items ++ missing_line all want) }
 {
@@ -96,7 +96,7 @@ fn push_line(text: &mut Vec<u8>, all: bool, want: Want) -> Result<(), AllocError
     text.extend_from_slice(b"`\n")
 }
 
-// What is told before the outcome.
+// The text before the outcome.
 fn missing_front(all: bool) -> &'static [u8]
     ensures { result.now ≡ missing_front all }
 {

@@ -11,18 +11,18 @@ use std::alloc::{AllocError, Global};
 /// An answer, and a note beside it.
 #[derive(Drop)]
 pub struct NotedAnswer {
-    /// What goes out, with its status.
+    /// The text that is written, with its status.
     pub answer: Answer,
-    /// What is told beside it; empty where there is nothing to tell.
+    /// The text of the note; empty if there is no note.
     pub note: Vec<u8>,
 }
 
-/// What is to be answered to a program, with a note.
+/// An order that answers a program with a note.
 pub trait NotedOrder {
-    /// How a text is answered that spells no program.
+    /// The form of the answer to a text that spells no program.
     type Refusals: RefusalForm;
 
-    // What may be answered to a program with this note, and with which status.
+    // Whether an answer to a program is right, with its note and status.
     ghost notes: { Self → List ℕ → Term → List ℕ → Status → Type 0 };
 
     /// The answer to a program, with its note. `AllocError` where memory ran out.

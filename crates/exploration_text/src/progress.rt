@@ -1,4 +1,4 @@
-//! Lines that tell how far an exploration has come, while it goes.
+//! Lines that report the progress of an exploration.
 
 ghost use Rattle.std.specs.Prelude.{◌≡◌, false, is_some};
 
@@ -8,9 +8,9 @@ use outcome_trace::{Status, TextFault, TextOut, tell_fault, write_text};
 use std::alloc::{AllocError, Global};
 use std::time::{Clock, Duration, Instant};
 
-/// Writes a line at most once a second, from the first second on: how many worlds were found, how many of them a second
-/// since it began, and how long the schedules are. Where the clock fails no line is written, and after a write that
-/// failed no other. The search ends at the limit.
+/// Writes a line at most once a second, from the first second on: the number of worlds found, the worlds a second since
+/// the beginning, and the length of the schedules. If the clock fails, no line is written; after a failed write, no
+/// further line is. The search ends at the limit.
 #[derive(Drop)]
 pub(crate) struct Progress<'c, 'e, C: Clock, E: TextOut> {
     pub(crate) alloc: Global,
@@ -25,7 +25,7 @@ pub(crate) struct Progress<'c, 'e, C: Clock, E: TextOut> {
 }
 
 impl<'c, 'e, C: Clock, E: TextOut> Progress<'c, 'e, C, E> {
-    // Writes how far it has come by now, unless a line was written within the last second.
+    // Writes a line of progress, unless one was written within the last second or a write has failed.
     fn tell(&mut self, worlds: usize, depth: usize, time: Duration)
         ensures { self.new.seconds ≡ self.old.seconds }
     {
@@ -42,7 +42,7 @@ impl<'c, 'e, C: Clock, E: TextOut> Progress<'c, 'e, C, E> {
         }
     }
 
-    /// Writes a note, where there is one, unless a write has failed already.
+    /// Writes a note, if there is one, unless a write has failed.
     pub(crate) fn tell_note(&mut self, note: &[u8]) {
         if self.failed || note.is_empty() {
             return;
@@ -53,7 +53,7 @@ impl<'c, 'e, C: Clock, E: TextOut> Progress<'c, 'e, C, E> {
         }
     }
 
-    /// Tells of a fault, unless a write has failed already.
+    /// Writes the line of a fault, unless a write has failed. Returns `Status::Fault`.
     pub(crate) fn tell_fault(&mut self, fault: TextFault) -> Status
         ensures { result ≡ Status.Fault }
     {
@@ -95,7 +95,7 @@ fn is_second(before: Duration, now: Duration) -> bool {
     }
 }
 
-// So many in this time, a second; 0 where the time is too short to tell.
+// The number a second, for `many` in this time; 0 if the time is below 1 millisecond.
 fn rate(many: usize, time: Duration) -> u64 {
     let seconds = time.as_secs().saturating_mul(1000);
     let millis = seconds.saturating_add(u64::from(time.subsec_millis()));
@@ -105,7 +105,7 @@ fn rate(many: usize, time: Duration) -> u64 {
     }
 }
 
-// How far an exploration has come.
+// The line of progress of an exploration.
 fn progress_line(
     alloc: Global,
     worlds: usize,

@@ -1,4 +1,4 @@
-//! What comes of a text under schedules that are drawn: the text of their sample, or why there is none.
+//! The answer to a text whose program's schedules are sampled.
 
 ghost use Rattle.std.specs.Prelude.{◌≤◌, IfOk};
 ghost use Rattle.cell_registry.specs.Cells.{AreLimits};
@@ -14,20 +14,20 @@ use outcome_trace::{Answer, InWords, TextOrder, read_program, refusal};
 use sampled_schedules::sample;
 use std::alloc::{AllocError, Global};
 
-/// Tells what schedules of the program that the text spells come to, which are drawn at random ([`text_of_sample`]),
-/// with the status of [`sample_status`], or the line of the text's refusal, with `Status::Refused`.
+/// Answers a text by a sample of random schedules of its program ([`text_of_sample`]), with the status of
+/// [`sample_status`], or by the line of the text's refusal, with `Status::Refused`.
 #[derive(Drop)]
 pub struct SampleOrder {
-    /// How many fibers, refs and deferreds there may be (each 1 to 1000), and how often a fiber may change its own
-    /// state (1 to 1,099,511,627,775).
+    /// The greatest numbers of fibers, refs and deferreds (each 1 to 1000), and of a fiber's changes of its own state
+    /// (1 to 1,099,511,627,775).
     pub limits: Limits,
-    /// What the schedules are drawn by. The same seed draws the same schedules.
+    /// The seed of the random schedules. The same seed draws the same schedules.
     pub seed: u64,
-    /// How many schedules are drawn.
+    /// The number of schedules that are drawn.
     pub times: u32,
-    /// How many entries a schedule has at most (0 to 1,000,000).
+    /// The greatest number of entries of a schedule (0 to 1,000,000).
     pub entries: u32,
-    /// The outcomes of fiber 0 that are wanted; none where any is.
+    /// The outcomes of fiber 0 that are wanted; empty if any outcome is.
     pub wants: Vec<Want>,
     pub ghost ranges: { AreLimits limits },
     pub ghost spelled: { entries ≤ 1000000 },
@@ -71,7 +71,7 @@ impl NotedOrder for SampleOrder {
     }
 }
 
-// What comes of a program under schedules that are drawn.
+// The answer to a program, by a sample of its schedules.
 fn sampled_answer(
     alloc: Global,
     program: &Program,

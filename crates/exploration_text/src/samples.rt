@@ -1,4 +1,4 @@
-//! The text of a sample, and how the program ends behind it.
+//! The text and the status of a sample.
 
 ghost use Rattle.std.specs.Prelude.{◌≡◌, ◌++◌, IfOk, OnOk, codes, count_by, string_bytes};
 ghost use Rattle.std.specs.List.{All};
@@ -17,11 +17,11 @@ use outcome_trace::{Refused, Report, Status, line, schedule_text, text_of_report
 use sampled_schedules::{Coming, Sample};
 use std::alloc::{AllocError, Global};
 
-/// The text of a sample: how many schedules were drawn, and how many different reports and faults came of them; then
-/// each of these in the order in which it came first, behind a blank line: whether it is not wanted, how often it came,
-/// whether its schedules were cut short, and the first of them, as a replay under the schedule writes it.
+/// The text of a sample: the numbers of schedules, of different reports and of different faults. Each of these ends
+/// follows after a blank line, in the order in which they came first: whether it is not wanted, how often it came,
+/// whether all its schedules were cut short, its first schedule, and the report or fault as a replay writes it.
 ///
-/// The entries of each schedule are at most 999, and it has at most 1,000,000. `AllocError` where memory is refused.
+/// Each schedule has at most 1,000,000 entries, each at most 999. `AllocError` where memory is refused.
 pub fn text_of_sample(alloc: Global, sample: &Sample, wants: &[Want]) -> Result<Vec<u8>, AllocError>
     requires { All (λ c. IsSpellable c.answer) sample.now.comings }
     ensures { IfOk result (λ text. IsSampleText wants.now sample.now text.items) }
@@ -32,9 +32,9 @@ pub fn text_of_sample(alloc: Global, sample: &Sample, wants: &[Want]) -> Result<
     Ok(text)
 }
 
-/// How the program ends behind the text: `Status::Errored` where some schedule came to a fault, or to a report whose
-/// outcome of fiber 0 isn't among those that are wanted, if any is; else `Status::Succeeded`. A report in which fiber 0
-/// hasn't ended counts only where one of its schedules wasn't cut short.
+/// The status of a sample: `Status::Errored` if a schedule came to a fault, or if outcomes are wanted and a schedule
+/// came to a report with another outcome of fiber 0; else `Status::Succeeded`. A report in which fiber 0 hasn't ended
+/// counts only if one of its schedules wasn't cut short.
 pub fn sample_status(sample: &Sample, wants: &[Want]) -> Status
     ensures { result ≡ sample_status wants.now sample.now }
 {
@@ -45,7 +45,7 @@ pub fn sample_status(sample: &Sample, wants: &[Want]) -> Status
     }
 }
 
-// Whether an answer shows that the program isn't right.
+// Whether one of the ends is a finding.
 fn has_finding(comings: &[Coming], wants: &[Want]) -> bool
     ensures { result ≡ has_finding wants.now comings.now }
 {
@@ -57,7 +57,7 @@ fn has_finding(comings: &[Coming], wants: &[Want]) -> bool
     false
 }
 
-// Whether an end shows that the program isn't right, where each of its schedules was cut short or not.
+// Whether an end is a finding; `cut` is whether each of its schedules was cut short.
 fn is_finding(cut: bool, end: &Result<Report, RunError>, wants: &[Want]) -> bool
     ensures { result ≡ is_finding wants.now cut end.now }
 {
@@ -67,7 +67,7 @@ fn is_finding(cut: bool, end: &Result<Report, RunError>, wants: &[Want]) -> bool
     }
 }
 
-// Whether fiber 0 may still end, where each schedule was cut short or not.
+// Whether fiber 0 can still end; `cut` is whether each schedule was cut short.
 fn may_end(cut: bool, outcome: Option<Outcome>) -> bool
     ensures { result ≡ may_end cut outcome }
 {
@@ -77,15 +77,15 @@ fn may_end(cut: bool, outcome: Option<Outcome>) -> bool
     }
 }
 
-/// Whether what some schedules came to is listed as not wanted: where outcomes of fiber 0 are wanted, a report that has
-/// another one, and a fault.
+/// Whether an end is listed as not wanted: if outcomes of fiber 0 are wanted, a fault is, and so is a report with
+/// another outcome in which fiber 0 can't still end.
 pub fn is_unwanted(coming: &Coming, wants: &[Want]) -> bool
     ensures { result ≡ is_unwanted wants.now coming.now }
 {
     !wants.is_empty() && is_finding(coming.cut, &coming.answer.end, wants)
 }
 
-// The text of what schedules came to.
+// The text of the ends of a sample.
 fn comings_text(alloc: Global, comings: &[Coming], wants: &[Want]) -> Result<Vec<u8>, AllocError>
     requires { All (λ c. IsSpellable c.answer) comings.now }
     ensures { IfOk result (λ text. AreComingsText wants.now comings.now text.items) }
@@ -98,7 +98,7 @@ fn comings_text(alloc: Global, comings: &[Coming], wants: &[Want]) -> Result<Vec
     Ok(text)
 }
 
-// The text of what some schedules came to, behind the first of them.
+// The text of an end, after its first schedule.
 fn coming_text(alloc: Global, coming: &Coming, wants: &[Want]) -> Result<Vec<u8>, AllocError>
     requires { IsSpellable coming.now.answer }
     ensures { IfOk result (λ text. IsComingText wants.now coming.now text.items) }
@@ -114,8 +114,8 @@ fn coming_text(alloc: Global, coming: &Coming, wants: &[Want]) -> Result<Vec<u8>
     Ok(text)
 }
 
-// What is before a schedule: whether its end is not wanted, how often it came, and whether each of its schedules was cut
-// short.
+// The text before a schedule: whether its end is not wanted, how often the end came, and whether each of its schedules
+// was cut short.
 fn heading(alloc: Global, unwanted: bool, times: u32, cut: bool) -> Result<String, AllocError>
     ensures { IfOk result (λ text. string_bytes text ≡ heading unwanted times cut) }
 {
@@ -125,7 +125,7 @@ fn heading(alloc: Global, unwanted: bool, times: u32, cut: bool) -> Result<Strin
     Ok(text)
 }
 
-// What an answer begins with, behind a blank line.
+// The front of an end's text, with a blank line.
 fn front(unwanted: bool) -> &'static str
     ensures { result.now ≡ front unwanted }
 {
@@ -136,7 +136,7 @@ fn front(unwanted: bool) -> &'static str
     }
 }
 
-// What stands between how often an end came and the first schedule that came to it.
+// The text between how often an end came and its first schedule.
 fn between(cut: bool) -> &'static str
     ensures { result.now ≡ between cut }
 {
@@ -157,7 +157,7 @@ fn end_text(alloc: Global, end: &Result<Report, RunError>) -> Result<Vec<u8>, Al
     }
 }
 
-// How many schedules were drawn, and how much came of them.
+// The first line: the numbers of schedules, of reports and of faults.
 fn first_line(alloc: Global, sample: &Sample) -> Result<String, AllocError>
     ensures { IfOk result (λ line. string_bytes line ≡ first_line sample.now) }
 {
@@ -172,21 +172,21 @@ fn first_line(alloc: Global, sample: &Sample) -> Result<String, AllocError>
     Ok(line)
 }
 
-// How many are reports.
+// The number of ends that are reports.
 fn reports(comings: &[Coming]) -> usize
     ensures { result ≡ count_by (λ c. is_ok c.answer.end) comings.now }
 {
     comings.iter().filter(|c| c.answer.end.is_ok()).count()
 }
 
-// How many are faults.
+// The number of ends that are faults.
 fn faults(comings: &[Coming]) -> usize
     ensures { result ≡ count_by (λ c. is_err c.answer.end) comings.now }
 {
     comings.iter().filter(|c| c.answer.end.is_err()).count()
 }
 
-// A number of things.
+// Writes a number with its noun, as `1 time` and `2 times`.
 fn push_counted(text: &mut String, number: usize, noun: &str) -> Result<(), AllocError>
     ensures { OnOk result (string_bytes text.new ≡ string_bytes text.old ++ counted number noun.now) }
 {

@@ -1,4 +1,4 @@
-//! The text of an exploration, and how the program ends behind it.
+//! The text and the status of an exploration.
 
 ghost use Rattle.std.specs.Prelude.{◌≡◌, ◌++◌, IfOk, OnOk, codes, count_by, string_bytes};
 ghost use Rattle.std.specs.List.{All, list_any};
@@ -16,11 +16,11 @@ use itoa::Buffer;
 use outcome_trace::{Refused, Report, Status, line, schedule_text, text_of_report};
 use std::alloc::{AllocError, Global};
 
-/// The text of an exploration: its first line ([`first_line`]); then each answer behind a blank line and its schedule,
-/// as a replay under the schedule writes it. Where outcomes of fiber 0 are wanted, the answers that have another one
-/// and the faults stand first, and are headed as not wanted.
+/// The text of an exploration: its first line ([`first_line`]), then each answer after a blank line and its schedule,
+/// as a replay under the schedule writes it. If outcomes of fiber 0 are wanted, the reports with another outcome and
+/// the faults come first, headed as not wanted.
 ///
-/// The entries of each schedule are at most 999, and it has at most 1,000,000. `AllocError` where memory is refused.
+/// Each schedule has at most 1,000,000 entries, each at most 999. `AllocError` where memory is refused.
 pub fn text_of_exploration(
     alloc: Global,
     exploration: &Exploration,
@@ -38,9 +38,9 @@ pub fn text_of_exploration(
     Ok(text)
 }
 
-/// How the program ends behind the text: `Status::Errored` where a fault is listed, or a report whose outcome of
-/// fiber 0 isn't among those that are wanted, if any is; else `Status::Succeeded` where all was explored, and
-/// `Status::Unended` where it wasn't.
+/// The status of an exploration: `Status::Errored` if a fault is listed, or if outcomes are wanted and a report with
+/// another outcome of fiber 0 is listed; else `Status::Succeeded` if every schedule was explored, and `Status::Unended`
+/// if not.
 pub fn exploration_status(exploration: &Exploration, wants: &[Want]) -> Status
     ensures { result ≡ exploration_status wants.now exploration.now }
 {
@@ -75,14 +75,14 @@ pub(crate) fn is_failure(end: &Result<Report, RunError>, wants: &[Want]) -> bool
     }
 }
 
-/// How fiber 0 has ended, if it has.
+/// The outcome of fiber 0, if it has ended.
 pub(crate) fn first_outcome(report: &Report) -> Option<Outcome>
     ensures { result ≡ first_outcome report.now.fibers }
 {
     report.fibers.as_slice().first()?.outcome
 }
 
-// Whether fiber 0 has come to one of these.
+// Whether fiber 0 has one of the wanted outcomes.
 fn is_wanted(report: &Report, wants: &[Want]) -> bool
     ensures { result ≡ list_any (λ want. is_met want (first_outcome report.now.fibers)) wants.now }
 {
@@ -101,8 +101,8 @@ fn is_unwanted(answer: &Answer, wants: &[Want]) -> bool
     !wants.is_empty() && is_failure(&answer.end, wants)
 }
 
-/// Whether an answer is one of those that are listed as not wanted, where these are asked for, or else one of the
-/// others. Not wanted are, where outcomes of fiber 0 are wanted, a report that has another one, and a fault.
+/// Whether an answer is listed as not wanted, if `unwanted`; else whether it isn't. If outcomes of fiber 0 are wanted,
+/// a fault and a report with another outcome aren't wanted.
 pub fn is_listed_so(answer: &Answer, wants: &[Want], unwanted: bool) -> bool
     ensures { result ≡ is_listed_so unwanted wants.now answer.now }
 {
@@ -133,10 +133,10 @@ fn part_text(
     Ok(text)
 }
 
-/// The text of one answer in the text of its exploration: a blank line, its schedule, headed as not wanted where it is
-/// listed so, and then the report or the fault, as a replay under the schedule writes it.
+/// The text of one answer of an exploration: a blank line, its schedule, headed as not wanted if `unwanted`, and then
+/// the report or the fault, as a replay under the schedule writes it.
 ///
-/// The entries of the schedule are at most 999, and it has at most 1,000,000. `AllocError` where memory is refused.
+/// The schedule has at most 1,000,000 entries, each at most 999. `AllocError` where memory is refused.
 pub fn text_of_answer(alloc: Global, answer: &Answer, unwanted: bool) -> Result<Vec<u8>, AllocError>
     requires { IsSpellable answer.now }
     ensures { IfOk result (λ text. IsAnswerText unwanted answer.now text.items) }
@@ -151,7 +151,7 @@ pub fn text_of_answer(alloc: Global, answer: &Answer, unwanted: bool) -> Result<
     Ok(text)
 }
 
-// What stands before a schedule.
+// The text before a schedule.
 fn heading(unwanted: bool) -> &'static [u8]
     ensures { result.now ≡ heading unwanted }
 {
@@ -172,8 +172,8 @@ pub(crate) fn end_text(alloc: Global, end: &Result<Report, RunError>) -> Result<
     }
 }
 
-/// The first line of the text of an exploration: whether all was explored or its time was over before, how many worlds
-/// were found, how many reports and faults are listed, and, where not all was explored, how many bytes were counted.
+/// The first line of the text of an exploration: whether every schedule was explored or the time was over, the numbers
+/// of worlds, of reports and of faults, and, if not every schedule was explored, the number of bytes that were counted.
 /// `AllocError` where memory is refused.
 pub fn first_line(alloc: Global, exploration: &Exploration) -> Result<String, AllocError>
     ensures { IfOk result (λ line. string_bytes line ≡ first_line exploration.now) }
@@ -190,7 +190,7 @@ pub fn first_line(alloc: Global, exploration: &Exploration) -> Result<String, Al
     Ok(line)
 }
 
-// What the first line begins with: whether all was explored, and if not, whether its time was over.
+// The front of the first line: whether every schedule was explored, and if not, whether the time was over.
 fn line_front(complete: bool, halted: bool) -> &'static str
     ensures { result.now ≡ line_front complete halted }
 {
@@ -203,7 +203,7 @@ fn line_front(complete: bool, halted: bool) -> &'static str
     }
 }
 
-// Writes the end of the first line: where not all was explored, how many bytes were counted.
+// Writes the end of the first line, with the number of bytes if not every schedule was explored.
 fn push_line_end(line: &mut String, complete: bool, bytes: usize) -> Result<(), AllocError>
     ensures { OnOk result (string_bytes line.new ≡ string_bytes line.old ++ line_end complete bytes) }
 {
@@ -214,21 +214,21 @@ fn push_line_end(line: &mut String, complete: bool, bytes: usize) -> Result<(), 
     line.push_str("\n")
 }
 
-// How many answers are reports.
+// The number of answers that are reports.
 fn reports(answers: &[Answer]) -> usize
     ensures { result ≡ count_by (λ a. is_ok a.end) answers.now }
 {
     answers.iter().filter(|a| a.end.is_ok()).count()
 }
 
-// How many answers are faults.
+// The number of answers that are faults.
 fn faults(answers: &[Answer]) -> usize
     ensures { result ≡ count_by (λ a. is_err a.end) answers.now }
 {
     answers.iter().filter(|a| a.end.is_err()).count()
 }
 
-// A number of things.
+// Writes a number with its noun, as `1 world` and `2 worlds`.
 fn push_counted(text: &mut String, number: usize, noun: &str) -> Result<(), AllocError>
     ensures { OnOk result (string_bytes text.new ≡ string_bytes text.old ++ counted number noun.now) }
 {

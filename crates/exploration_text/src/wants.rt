@@ -11,14 +11,14 @@ use itoa::Buffer;
 /// An outcome of fiber 0 that is wanted.
 #[derive(Clone, Copy, PartialEq, Eq, Debug)]
 pub enum Want {
-    /// It ended so.
+    /// Fiber 0 ended with this outcome.
     Ended(Outcome),
-    /// It hasn't ended.
+    /// Fiber 0 hasn't ended.
     Unended,
 }
 
 impl Want {
-    /// Whether a fiber with this outcome, if it has ended, is as wanted.
+    /// Whether a fiber with this outcome, `None` if it hasn't ended, is as wanted.
     pub fn is_met(self, outcome: Option<Outcome>) -> bool
         ensures { result ≡ is_met self outcome }
     {
@@ -32,7 +32,7 @@ impl Want {
     }
 }
 
-// Whether two outcomes are one.
+// Whether two outcomes are equal.
 fn is_outcome(one: Outcome, other: Outcome) -> bool
     ensures { result ≡ is_outcome one other }
 {
@@ -86,7 +86,7 @@ fn read_value(text: &str) -> Option<Value>
     }
 }
 
-// The value that is this number, where the text is as it is printed.
+// The number as a value, if the text spells the number as it is printed.
 fn value_as_printed(number: i64, text: &str) -> Option<Value>
     ensures some { IfSome result (λ value. text.now ≡ signed_decimal value) }
     ensures same { IfSome result (λ value. value ≡ number) }

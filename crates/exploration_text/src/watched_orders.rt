@@ -11,12 +11,12 @@ use outcome_trace::{Answer, ProgramOrder, RefusalForm};
 use std::alloc::{AllocError, Global};
 use std::time::Clock;
 
-/// What is to be answered to a program that is explored, while its search is watched.
+/// An order that explores a program while its search is watched.
 pub trait WatchedOrder {
-    /// How a text is answered that spells no program.
+    /// The form of the answer to a text that spells no program.
     type Refusals: RefusalForm;
 
-    // What may be answered to a program with this note, with its status, by whether the watcher can end the search.
+    // Whether an answer to a program is right, with its note and status, by whether the watcher can end the search.
     ghost finds: { Self → Bool → List ℕ → Term → List ℕ → Status → Type 0 };
 
     /// The answer to a program, with its note. `AllocError` where memory ran out.
@@ -30,13 +30,13 @@ pub trait WatchedOrder {
             n.answer.text.items n.answer.status) };
 }
 
-/// An order whose search ends after this number of seconds by a clock, if one is given. What was found until then is
-/// answered.
+/// An order whose search ends after this number of seconds by a clock, if a number is given. The answer has what was
+/// found until then.
 #[derive(Drop)]
 pub struct TimedOrder<'c, C: Clock, W: WatchedOrder + Drop> {
     /// The clock.
     pub clock: &'c C,
-    /// After how many seconds the search ends, if it does.
+    /// The number of seconds after which the search ends; `None` for no limit.
     pub seconds: Option<u64>,
     /// What is explored, and how it is written.
     pub order: W,

@@ -1,4 +1,4 @@
-//! The exploration of a text, which tells how far it has come while it goes.
+//! The exploration of a text's program, with lines that report its progress.
 
 ghost use Rattle.std.specs.Prelude.{◌≡◌, ◌<◌, ◌^◌, ℕ, List, false, Err as Fails, IfErr, IfOk, Ok as GoesWell};
 ghost use Rattle.std.specs.Prelude.{Result as TheResult, is_some};
@@ -18,13 +18,13 @@ use outcome_trace::{
 use std::alloc::{AllocError, Global};
 use std::time::{Clock, Duration, Instant};
 
-/// Reads a text, and writes what its program comes to under every schedule, exactly as `obey_text` does with a
-/// [`TimedOrder`](crate::TimedOrder) of these seconds; meanwhile a line goes to the last device at most once a second,
-/// from the first second on, as `explored 120000 worlds, 61000 a second, depth 48`.
+/// Reads a text, and writes the answer of the order, exactly as `obey_text` does with a
+/// [`TimedOrder`](crate::TimedOrder) of these seconds. Meanwhile a line of progress goes to the last device at most
+/// once a second, from the first second on, as `explored 120000 worlds, 61000 a second, depth 48`.
 ///
-/// Gives the answer's status, or `Status::Fault` where a device failed, the input didn't end within `TEXT_BOUND`
-/// reads, or memory ran out, which is told on the last device, unless a write there has failed. That device may
-/// fail: it changes nothing else.
+/// Returns the answer's status, or `Status::Fault` where a device failed, the input didn't end within `TEXT_BOUND`
+/// reads, or memory ran out. The line of this fault goes to the last device, unless a write there has failed. A failure
+/// of the last device changes nothing else.
 pub fn obey_watched<C: Clock, W: WatchedOrder, I: TextIn, O: TextOut, E: TextOut>(
     clock: &C,
     alloc: Global,
@@ -61,7 +61,7 @@ pub fn obey_watched<C: Clock, W: WatchedOrder, I: TextIn, O: TextOut, E: TextOut
     }
 }
 
-// An answer that went out: its note and its status.
+// An answer that was written: its note and its status.
 #[derive(Drop)]
 struct Watched {
     note: Vec<u8>,
@@ -95,7 +95,7 @@ fn watched_text<W: WatchedOrder, I: TextIn, O: TextOut, V: Watcher>(
     })
 }
 
-// The answer to a text, with its note. A refusal has none.
+// The answer to a text, with its note. A refusal has no note.
 fn read_answer<W: WatchedOrder, V: Watcher>(
     alloc: Global,
     text: &[u8],

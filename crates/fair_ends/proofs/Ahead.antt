@@ -1,5 +1,4 @@
--- Free moves made ahead: where they lead from one world to another, each further entry is one of them, or leads on from
--- the other world as well.
+-- Free moves made ahead, which lead from one world to another: each further entry is one of them, or leads on from the other world as well.
 use Rattle.std.proofs.Common.{◌≡◌, ◌≢◌, ℕ, zero, suc, ◌+◌, ◌<◌, ◌≤◌, Bool, true, false, List, [], ◌∷◌, ◌++◌, length, Some, Result, Ok, Err, refl, sym, ap, ◌∙◌, subst, arith}
 use Rattle.std.specs.Prelude.{nat_eq}
 use Rattle.std.specs.List.{slice_get}
@@ -75,7 +74,7 @@ module _ {W E : Type 0} (entry : W → ℕ → Result W E) (Free : W → ℕ →
     pub others : (h : ℕ) → many h rest ≤ many h ps
     pub shorter : suc (length rest) ≡ length ps
 
-  -- it isn't one of them, and leads on from where they lead
+  -- the entry isn't one of the moves ahead, and leads on from where they lead
   abbrev pub Passed : List ℕ → Result W E → Result W E → Type 0
   Passed ps x (Ok z) = (y : W) × (x ≡ Ok y) × LeadBy entry Free y ps z
   Passed ps x (Err e) = x ≡ Err e

@@ -1,5 +1,4 @@
--- Where worlds have ranks, each fair schedule comes to an end. Behind each world to which it leads, some free moves lead to
--- a world with a rank.
+-- If worlds have ranks, each fair schedule ends. From each world to which it leads, some free moves lead to a world with a rank.
 use Rattle.std.proofs.Common.{◌≡◌, ◌≢◌, ℕ, zero, suc, ◌+◌, ◌-◌, ◌<◌, ◌≤◌, Bool, true, false, List, [], ◌∷◌, ◌++◌, length, Some, Result}
 use Rattle.std.proofs.Common.{Ok, Err, refl, sym, ap, ◌∙◌, subst, arith}
 use Rattle.std.specs.List.{slice_get}
@@ -30,7 +29,7 @@ module _ {W E : Type 0} (entry : W → ℕ → Result W E) (Free : W → ℕ →
   end_fault : (n : ℕ) (e : E) → pos n ≡ Err e → End
   end_fault n e is = (n, subst (IsEnd entry Rests) (sym is) tt)
 
-  -- behind the first n entries, these free moves of numbers below `most` lead to the world v
+  -- after the first n entries, these free moves of numbers below `most` lead to the world v
   record At (n : ℕ) (ps : List ℕ) (v : W) : Type 0 where
     world : W
     is : pos n ≡ Ok world
@@ -39,7 +38,7 @@ module _ {W E : Type 0} (entry : W → ℕ → Result W E) (Free : W → ℕ →
 
   -- ---- the next entry
   module _ (n : ℕ) (ps : List ℕ) (v : W) (at : At n ps v) where
-    -- it is one of the moves ahead
+    -- the next entry is one of the moves ahead
     take_on : (some : 0 < many (s n) ps) → (qs : List ℕ) × At (suc n) qs v × (suc (many (s n) qs) ≡ many (s n) ps) ×
         ((h : ℕ) → many h qs ≤ many h ps) × (suc (length qs) ≡ length ps)
     take_on some =
@@ -56,7 +55,7 @@ module _ {W E : Type 0} (entry : W → ℕ → Result W E) (Free : W → ℕ →
           t.shorter,
         )
 
-    -- it leads on from v
+    -- the next entry leads on from v
     pass_on : (none : many (s n) ps ≡ 0) (z : W) → entry v (s n) ≡ Ok z → At (suc n) ps z
     pass_on none z goes =
         let p : Passed entry Free ps (entry at.world (s n)) (Ok z) =
@@ -67,7 +66,7 @@ module _ {W E : Type 0} (entry : W → ℕ → Result W E) (Free : W → ℕ →
           low = at.low;
         }
 
-    -- it ends in a fault there
+    -- the next entry ends in a fault at v
     pass_fault : (none : many (s n) ps ≡ 0) (e : E) → entry v (s n) ≡ Err e → End
     pass_fault none e goes =
         let p : Passed entry Free ps (entry at.world (s n)) (Err e) =
@@ -81,7 +80,7 @@ module _ {W E : Type 0} (entry : W → ℕ → Result W E) (Free : W → ℕ →
   at_once : (n : ℕ) (v : W) → At n [] v → Rests v → End
   at_once n v at rests = (n, subst (IsEnd entry Rests) (sym (at.is ∙ ap Ok at.leads)) rests)
 
-  -- the next entry is one of the moves ahead, or it leads on to a world at rest
+  -- the next entry is one of the moves ahead, or leads on to a world at rest
   settle_by : (l : ℕ) → Settles l → (n : ℕ) (ps : List ℕ) (v : W) → At n ps v → length ps ≤ suc l → Rests v →
       ((z : W) → At (suc n) ps z → Rests z → many (s n) ps ≡ 0 → End) → (m : ℕ) → many (s n) ps ≡ m → End
   settle_by l less n ps v at short rests other zero is =
@@ -114,7 +113,7 @@ module _ {W E : Type 0} (entry : W → ℕ → Result W E) (Free : W → ℕ →
       let later : m.0 ≡ n + (m.0 - n) = omega arith in
       settle_waits l (settles l) (m.0 - n) n f (f ∷ fs) v at short some rests (subst (λ k. s k ≡ f) later m.2)
 
-  -- ---- where they lead to a world of a rank
+  -- ---- where the free moves lead to a world with a rank
   -- the number and the rank of a world
   record Has (v : W) : Type 0 where
     number : ℕ
@@ -125,22 +124,22 @@ module _ {W E : Type 0} (entry : W → ℕ → Result W E) (Free : W → ℕ →
   end_quiet : (n : ℕ) (ps : List ℕ) (v : W) → At n ps v → (h : Has v) → h.rank.quiet ≡ true → End
   end_quiet n ps v at h quiet = settles (length ps) n ps v at (omega arith) ((ranked h.number h.rank v h.rank_is h.world_is).rests quiet)
 
-  -- from each world of a rank below r, whatever led there, the schedule comes to an end
+  -- the schedule ends from each world of a rank below r, whatever led there
   abbrev Reaches : ℕ → Type 0
   Reaches r = (n : ℕ) (ps : List ℕ) (v : W) → At n ps v → (h : Has v) → h.rank.rank < r → End
 
-  -- from each world of this rank and helpful fiber, if fewer than c of the moves ahead are the helpful fiber's
+  -- the schedule ends from each world of at most this rank with this helpful fiber, if fewer than c of the moves ahead are the helpful fiber's
   abbrev Helped : ℕ → ℕ → ℕ → Type 0
   Helped r helper c = (n : ℕ) (ps : List ℕ) (v : W) → At n ps v → (h : Has v) → h.rank.rank ≤ r → h.rank.helper ≡ helper → many helper ps < c → End
 
   module _ (r : ℕ) (lower : Reaches r) (helper c : ℕ) (less : Helped r helper c) where
-    -- behind an entry of another fiber, at a world of this rank or a lower one, and of this helpful fiber
+    -- the schedule ends after an entry of another fiber, at a world of at most this rank with this helpful fiber
     abbrev Again : ℕ → Type 0
     Again n = (qs : List ℕ) (x : W) → At (suc n) qs x → (k : Has x) → k.rank.rank ≤ r → k.rank.helper ≡ helper → many helper qs ≤ c → s n ≢ helper → End
 
     module _ (n : ℕ) (ps : List ℕ) (v : W) (at : At n ps v) (h : Has v) (low : h.rank.rank ≤ r) (helps : h.rank.helper ≡ helper)
         (few : many helper ps ≤ c) (again : Again n) where
-      -- a move ahead
+      -- the next entry is a move ahead
       ahead : 0 < many (s n) ps → End
       ahead some =
           let t = take_on n ps v at some in
@@ -156,7 +155,7 @@ module _ {W E : Type 0} (entry : W → ℕ → Result W E) (Free : W → ℕ →
       low_all made free are among f some zero is = let sum = many_append f ps free in are f (among f (many_in f free (omega arith)))
       low_all made free are among f some (suc i) is = at.low f (omega arith)
 
-      -- a step, with free moves behind it
+      -- the next entry is a step, followed by free moves
       onward : (made : List ℕ) → Makes entry Free step most v (s n) made → many (s n) ps ≡ 0 → (z : W) → entry v (s n) ≡ Ok z →
           IsBehind entry Free made (Ok z) (step v (s n)) → (y : Result W E) → step v (s n) ≡ y →
           Leads entry Free step Rests most ws ranks h.rank (s n) made y → End
@@ -213,7 +212,7 @@ module _ {W E : Type 0} (entry : W → ℕ → Result W E) (Free : W → ℕ →
         waits d (suc n) qs x on k down helping fewer (subst (λ i. s i ≡ helper) (let same : n + suc d ≡ suc n + d = omega arith in same) comes))
         h.rank.quiet refl
 
-    -- it comes again
+    -- the helpful fiber comes again
     comes_again : (n : ℕ) (ps : List ℕ) (v : W) → At n ps v → (h : Has v) → h.rank.rank ≤ r → h.rank.helper ≡ helper → many helper ps ≤ c →
         (b : Bool) → h.rank.quiet ≡ b → End
     comes_again n ps v at h low helps few true is = end_quiet n ps v at h is

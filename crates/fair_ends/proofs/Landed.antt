@@ -14,16 +14,16 @@ use Rattle.fair_ends.specs.declared.table.Row.{Row}
 use Rattle.fair_ends.specs.Private.Tables.{fault, IsEdge, IsRow, IsStill, LandsOn, LeadsToWorld}
 
 module _ {W E : Type 0} (entry : W → ℕ → Result W E) (Free : W → ℕ → Type 0) (step : W → ℕ → Result W E) (most : ℕ) (ws : List W) where
-  -- what leads to a world's number leads to that world
+  -- a result at the number of a world is that world
   pub world_at : (t : ℕ) (y : Result W E) → LandsOn ws t y → t ≢ fault → (w : W) × (slice_get ws t ≡ Some w) × (y ≡ Ok w)
   world_at t (Ok x) on isnt = (x, on.0, refl)
   world_at t (Err e) on isnt = absurd (isnt on)
 
-  -- and to the one that has this number
+  -- it is the world that has this number
   pub lands_at : (t : ℕ) (y : Result W E) (w : W) → LandsOn ws t y → t ≢ fault → slice_get ws t ≡ Some w → y ≡ Ok w
   lands_at t y w on isnt at = let to = world_at t y on isnt in to.2 ∙ ap Ok (same_Some to.0 w (sym to.1 ∙ at))
 
-  -- an entry that is made alone and leads back, or isn't made, changes nothing
+  -- if the step of a fiber makes no entry of that fiber, or that entry alone and leads back, the entry changes nothing
   pub still : (t f : ℕ) (w : W) (e : Edge) → IsEdge entry Free step most ws w f e → slice_get ws t ≡ Some w → t ≢ fault → IsStill t f e → entry w f ≡ Ok w
   still t f w e is at isnt (inl none) = is.makes.still none
   still t f w e is at isnt (inr alone) =
@@ -47,7 +47,7 @@ module _ {W E : Type 0} (entry : W → ℕ → Result W E) (Free : W → ℕ →
       by (inr (inl less)) = let e = get_low row.edges.items f less in here e.0 e.1 (each f e.0 e.1)
       by (inr (inr more)) = past (omega arith)
 
-  -- the entries of one step more
+  -- the entries of one more step
   pub walk_next : (at f : ℕ) (entries : List ℕ) (row : Row) (e : Edge) (w : W) → at ≢ fault → LandsOn ws at (run entry (Ok w) entries) →
       ((x : W) → slice_get ws at ≡ Some x → IsRow entry Free step most ws x row) → slice_get row.edges.items f ≡ Some e →
       LandsOn ws e.target (run entry (Ok w) (entries ++ e.made.items))
@@ -57,7 +57,7 @@ module _ {W E : Type 0} (entry : W → ℕ → Result W E) (Free : W → ℕ →
       subst (LandsOn ws e.target)
       (sym (run-append entry (Ok w) entries e.made.items ∙ ap (λ x. run entry x e.made.items) to.2 ∙ edge.makes.leads)) edge.lands
 
-  -- one entry more, made alone
+  -- one more entry, made alone
   pub alone_next : (vs us : List W) (first : W) (s : List ℕ) (i at to f : ℕ) → i < length s → f ≡ get_or s i 0 → LeadsToWorld entry vs first (take i s) at →
       ((w : W) → slice_get vs at ≡ Some w → (x : W) × (slice_get us to ≡ Some x) × (entry w f ≡ Ok x)) → LeadsToWorld entry us first (take (i + 1) s) to
   alone_next vs us first s i at to f low is led next =

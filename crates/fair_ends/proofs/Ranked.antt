@@ -19,7 +19,7 @@ module _ {W E : Type 0} (entry : W → ℕ → Result W E) (Free : W → ℕ →
       Leads entry Free step Rests most ws ranks a f [] (Ok w)
   stays i a f w at there isnt = (i, a, at, there, inr (inr (refl, refl, isnt, none_in a.helper)))
 
-  -- a step to a world so that the rank falls
+  -- a step to a world under which the rank falls or stays
   pub leads_falls : (a b : Rank) (f t : ℕ) (made : List ℕ) (y : Result W E) → LandsOn ws t y → t ≢ fault → slice_get ranks t ≡ Some b → Falls a f made b →
       Leads entry Free step Rests most ws ranks a f made y
   leads_falls a b f t made (Ok x) on isnt at falls = (t, b, on.0, at, inr falls)

@@ -32,7 +32,7 @@ module _ {W E : Type 0} (entry : W → ℕ → Result W E) (Free : W → ℕ →
       AreEdges entry Free step most vs n w edges
   edges_more ws vs n w edges more h = (h.0, λ f e at. edge_more ws vs w f e more (h.1 f e at))
 
-  -- one edge more
+  -- one more edge
   pub edges_next : (ws : List W) (n : ℕ) (w : W) (edges : List Edge) (edge : Edge) → AreEdges entry Free step most ws n w edges →
       IsEdge entry Free step most ws w n edge → AreEdges entry Free step most ws (n + 1) w (edges ++ (edge ∷ []))
   edges_next ws n w edges edge h on = (
@@ -61,7 +61,7 @@ module _ {W E : Type 0} (entry : W → ℕ → Result W E) (Free : W → ℕ →
     few = h.few;
   }
 
-  -- one row more
+  -- one more row
   pub rows_next : (ws vs : List W) (rows : List Row) (row : Row) → IsMore ws vs → length rows < length ws → AreRows entry Free step most ws rows →
       ((w : W) → slice_get vs (length rows) ≡ Some w → IsRow entry Free step most vs w row) → AreRows entry Free step most vs (rows ++ (row ∷ []))
   rows_next ws vs rows row more low h last i r w at there = elim (get_end rows row r i at) [

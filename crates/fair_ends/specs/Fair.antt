@@ -9,7 +9,7 @@ abbrev pub first_of : (ℕ → ℕ) → ℕ → List ℕ
 first_of s zero = []
 first_of s (suc n) = first_of s n ++ (s n ∷ [])
 
--- each fiber below `many` comes again and again
+-- each fiber below `many` has entries again and again
 abbrev pub IsFair : ℕ → (ℕ → ℕ) → Type 0
 IsFair many s = (f n : ℕ) → f < many → (m : ℕ) × (n ≤ m) × (s m ≡ f)
 
@@ -32,20 +32,20 @@ module _ {W E : Type 0} (step : W → ℕ → Result W E) (Rests : W → Type 0)
     pub returns : run step (Ok world) cycle ≡ Ok world
     pub fair : (f : ℕ) → IsIn f cycle ⊎ (step world f ≡ Ok world)
 
--- ---- entries with free moves behind them
+-- ---- entries followed by free moves
 module _ {W E : Type 0} (entry : W → ℕ → Result W E) (Free : W → ℕ → Type 0) where
   -- these free moves lead from one world to the other
   abbrev pub LeadBy : W → List ℕ → W → Type 0
   LeadBy w [] v = w ≡ v
   LeadBy w (f ∷ fs) v = Free w f × (x : W) × (entry w f ≡ Ok x) × LeadBy x fs v
 
-  -- behind where an entry has led, free moves lead on to y; each of them is one of these entries
+  -- free moves lead from where an entry has led to y; each of them is one of the entries `made`
   abbrev pub IsBehind : List ℕ → Result W E → Result W E → Type 0
   IsBehind made (Ok x) y = (free : List ℕ) × (v : W) × LeadBy x free v × (y ≡ Ok v) ×
       ((f : ℕ) → IsIn f free → IsIn f made)
   IsBehind made (Err e) y = y ≡ Err e
 
-  -- These entries are that of fiber f and free moves behind it, and lead where the step of fiber f does. If none of
+  -- The entries `made` are that of fiber f and free moves after it, and lead where the step of fiber f does. If none of
   -- them is of fiber f, its entry changes nothing
   pub record Makes (step : W → ℕ → Result W E) (most : ℕ) (w : W) (f : ℕ) (made : List ℕ) : Type 0 where
     pub leads : run entry (Ok w) made ≡ step w f
@@ -57,7 +57,7 @@ module _ {W E : Type 0} (entry : W → ℕ → Result W E) (Free : W → ℕ →
   abbrev pub StaysAtRest : (W → Type 0) → Type 0
   StaysAtRest Rests = (w : W) (f : ℕ) → Rests w → (x : W) × (entry w f ≡ Ok x) × Rests x
 
-  -- free moves are free, and a world at rest stays so
+  -- free moves commute with the entries of other fibers, and a world at rest stays at rest
   pub record AreRight (Rests : W → Type 0) : Type 0 where
     pub free : AreFree entry Free
     pub rest : StaysAtRest Rests

@@ -1,4 +1,4 @@
-//! Whether ranks are right.
+//! Checks whether ranks are right.
 
 ghost use Rattle.std.specs.Prelude.{◌≡◌, ◌≢◌, ℕ, ◌<◌, length, true, Some, IfOk, Result as TheResult};
 ghost use Rattle.std.specs.List.{slice_get};
@@ -52,7 +52,7 @@ fn is_ranked<W: Resting>(
     Ok(falls_everywhere(worlds, row, ranks, index))
 }
 
-// Whether each step at this world, which isn't quiet, leads to a fault, to a quiet world, or so that the rank falls.
+// Whether the helpful fiber of this world, which isn't quiet, is born, and each step passes (`passes`).
 fn falls_everywhere<W: Resting>(worlds: &W, row: &Row, ranks: &[Rank], index: usize) -> bool
     requires low { index < length ranks.now }
     requires even { length ranks.now ≡ length (W.worlds worlds.now) }
@@ -84,7 +84,7 @@ fn is_helped(ranks: &[Rank], index: usize, edges: &[Edge]) -> bool
     usize::from(ranks[index].helper) < edges.len()
 }
 
-// Whether the step of a fiber at a world is right.
+// Whether the step of a fiber at a world leads to a fault or to a quiet world, or changes the rank as `falls` allows.
 fn passes<W: Resting>(worlds: &W, ranks: &[Rank], index: usize, fiber: usize, edge: &Edge) -> bool
     requires low { index < length ranks.now }
     requires even { length ranks.now ≡ length (W.worlds worlds.now) }
@@ -103,8 +103,8 @@ fn passes<W: Resting>(worlds: &W, ranks: &[Rank], index: usize, fiber: usize, ed
     ranks[to].quiet || falls(ranks, index, to, fiber, edge)
 }
 
-// Whether the rank falls from one world to the other, or it and the helpful fiber stay under a step that makes no entry
-// of that fiber.
+// Whether the rank falls from one world to the other; or the rank and the helpful fiber stay, and the step isn't that
+// fiber's and makes no entry of it.
 fn falls(ranks: &[Rank], index: usize, to: usize, fiber: usize, edge: &Edge) -> bool
     requires index { index < length ranks.now }
     requires to { to < length ranks.now }
@@ -114,14 +114,14 @@ fn falls(ranks: &[Rank], index: usize, to: usize, fiber: usize, edge: &Edge) -> 
     is_lower(ranks[index], fiber, edge, ranks[to])
 }
 
-// The same of their ranks.
+// The same for the two ranks.
 fn is_lower(rank: Rank, fiber: usize, edge: &Edge, next: Rank) -> bool
     ensures { result ≡ true → Falls rank fiber edge.now.made.items next }
 {
     next.rank < rank.rank || keeps(rank, fiber, edge, next)
 }
 
-// Whether the rank and the helpful fiber stay under a step that makes no entry of that fiber.
+// Whether the rank and the helpful fiber stay, and the step isn't that fiber's and makes no entry of it.
 fn keeps(rank: Rank, fiber: usize, edge: &Edge, next: Rank) -> bool
     ensures rank { result ≡ true → next.rank ≡ rank.rank }
     ensures helper { result ≡ true → next.helper ≡ rank.helper }

@@ -6,14 +6,14 @@ use std::alloc::{AllocError, Global};
 /// The component of a world that is in none yet.
 pub const NONE: u32 = u32::MAX;
 
-// A world whose entries are gone through, and the fiber that is next.
+// A world whose entries are being followed, and the fiber whose entry is next.
 #[derive(Clone, Copy)]
 struct Call {
     world: u32,
     fiber: u32,
 }
 
-// How far the search has come. An order of 0 is that of a world that wasn't met.
+// The state of a search. A world that wasn't met has the order 0.
 #[derive(Drop)]
 struct Search {
     orders: Vec<u32>,
@@ -25,7 +25,7 @@ struct Search {
     closed: u32,
 }
 
-/// The number of each world's component. From a component entries lead to those with lower numbers alone.
+/// Returns the number of each world's component. Entries that leave a component lead to lower numbers.
 pub fn components_of(alloc: Global, rows: &[Row]) -> Result<Vec<u32>, AllocError> {
     let mut search = Search {
         orders: filled(alloc, rows.len(), 0)?,
@@ -45,7 +45,7 @@ pub fn components_of(alloc: Global, rows: &[Row]) -> Result<Vec<u32>, AllocError
     Ok(search.components)
 }
 
-/// As many times this number.
+/// Returns a list of `many` times this number.
 pub fn filled(alloc: Global, many: usize, number: u32) -> Result<Vec<u32>, AllocError> {
     let mut numbers = Vec::new(alloc);
     for _ in 0..many {
@@ -54,7 +54,7 @@ pub fn filled(alloc: Global, many: usize, number: u32) -> Result<Vec<u32>, Alloc
     Ok(numbers)
 }
 
-// No fewer than the steps of a search: one for each entry, one for each world, and one more.
+// At least the steps of a search: one for each entry, one for each world, and one more.
 fn steps_of(rows: &[Row]) -> usize {
     let mut steps: usize = 1;
     for row in rows {
@@ -63,7 +63,7 @@ fn steps_of(rows: &[Row]) -> usize {
     steps
 }
 
-/// The number at a place, or this one where there is none.
+/// The number at a place, or `other` if there is none.
 pub fn number_at(numbers: &[u32], place: u32, other: u32) -> u32 {
     match numbers.get(place as usize) {
         Some(number) => *number,
@@ -71,7 +71,7 @@ pub fn number_at(numbers: &[u32], place: u32, other: u32) -> u32 {
     }
 }
 
-/// The number at a place, if there is one, becomes this one.
+/// Sets the number at a place, if there is one.
 pub fn set_at(numbers: &mut Vec<u32>, place: u32, number: u32) {
     if (place as usize) < numbers.len() {
         numbers[place as usize] = number;
@@ -79,7 +79,7 @@ pub fn set_at(numbers: &mut Vec<u32>, place: u32, number: u32) {
 }
 
 impl Search {
-    // A world is met.
+    // Meets a world.
     fn visit(&mut self, world: u32) -> Result<(), AllocError> {
         self.met = self.met.saturating_add(1);
         set_at(&mut self.orders, world, self.met);
@@ -89,7 +89,7 @@ impl Search {
         Ok(())
     }
 
-    // One step. Whether there was one.
+    // Makes one step. Returns whether there was one.
     fn go_on(&mut self, rows: &[Row]) -> Result<bool, AllocError> {
         match self.calls.pop() {
             None => Ok(false),
@@ -100,7 +100,7 @@ impl Search {
         }
     }
 
-    // The next entry at a world, or the end of its entries.
+    // Follows the next entry at a world, or leaves the world after its last entry.
     fn go_on_at(&mut self, rows: &[Row], call: Call) -> Result<(), AllocError> {
         match target_of(rows, call) {
             None => {
@@ -117,7 +117,7 @@ impl Search {
         }
     }
 
-    // An entry leads from one world to another, or ends in a fault.
+    // Follows an entry from one world to another, or to a fault.
     fn meet(&mut self, from: u32, to: u32) -> Result<(), AllocError> {
         if to == FAULT {
             return Ok(());
@@ -132,7 +132,7 @@ impl Search {
         Ok(())
     }
 
-    // All entries at a world were gone through.
+    // Leaves a world after its last entry.
     fn leave(&mut self, world: u32) {
         let low = number_at(self.lows.as_slice(), world, 0);
         if low == number_at(self.orders.as_slice(), world, 0) {
@@ -144,14 +144,14 @@ impl Search {
         }
     }
 
-    // From this world entries lead to one of this order.
+    // Notes that entries lead from this world to one of this order.
     fn lower(&mut self, world: u32, order: u32) {
         if order < number_at(self.lows.as_slice(), world, 0) {
             set_at(&mut self.lows, world, order);
         }
     }
 
-    // The worlds from this one on are a component.
+    // Makes a component of the worlds on the stack, down to this one.
     fn close(&mut self, world: u32) {
         let number = self.closed;
         self.closed = self.closed.saturating_add(1);

@@ -8,8 +8,8 @@ use crate::table::{Edge, Row};
 use crate::walking::is_idle;
 use std::alloc::{AllocError, Global};
 
-/// A cycle in the nearest component that a fair schedule need not leave, as steps: in it, for each fiber, a step that
-/// makes an entry of it stays there. None where no world is flagged as one of such a component.
+/// Finds a cycle, as steps, in the nearest component that a fair schedule need not leave: for each fiber, a step that
+/// makes an entry of that fiber stays in the component. `None` if `stuck` flags no world.
 pub fn cycle_in(
     alloc: Global,
     rows: &[Row],
@@ -32,7 +32,7 @@ pub fn cycle_in(
     }
 }
 
-// Of each world, whether it is in the component.
+// Returns the flags of the worlds that are in the component.
 fn members_of(alloc: Global, components: &[u32], component: u32) -> Result<Vec<bool>, AllocError> {
     let mut flags = Vec::new(alloc);
     for it in components {
@@ -41,8 +41,8 @@ fn members_of(alloc: Global, components: &[u32], component: u32) -> Result<Vec<b
     Ok(flags)
 }
 
-// Steps within a component that lead from a world back to it, and make an entry of each fiber, unless its entry at that
-// world changes nothing.
+// Returns steps within a component that lead from the world `begins` back to it, and make an entry of each fiber whose
+// entry at that world can change something.
 fn round(
     alloc: Global,
     rows: &[Row],
@@ -75,7 +75,7 @@ fn round(
     }
 }
 
-// How many fibers are born at a world.
+// The number of fibers that are born at a world.
 fn many_at(rows: &[Row], world: u32) -> usize {
     match rows.get(world as usize) {
         None => 0,
@@ -83,7 +83,7 @@ fn many_at(rows: &[Row], world: u32) -> usize {
     }
 }
 
-// Whether the entry of a fiber at a world may change something.
+// Whether the entry of a fiber at a world can change something.
 fn moves(rows: &[Row], world: u32, fiber: u16) -> bool {
     match edge_at(rows, world, fiber) {
         None => false,
@@ -97,7 +97,7 @@ fn edge_at(rows: &[Row], world: u32, fiber: u16) -> Option<&Edge> {
     row.edges.get(usize::from(fiber))
 }
 
-// This world alone is flagged.
+// Returns flags in which only this world is set.
 fn goal_at(alloc: Global, many: usize, world: u32) -> Result<Vec<bool>, AllocError> {
     let mut goals = flags_of(alloc, many, false)?;
     set_flag(&mut goals, world, true);
@@ -125,7 +125,7 @@ fn entry_of(
     }
 }
 
-// A schedule, and behind it the step that makes an entry of this fiber.
+// Adds the step that makes an entry of this fiber to a schedule.
 fn with_entry(
     rows: &[Row],
     components: &[u32],
@@ -145,7 +145,7 @@ fn with_entry(
     }
 }
 
-// Entries behind those of a schedule.
+// Adds entries to a schedule.
 fn append(schedule: &mut Vec<u16>, more: &[u16]) -> Result<(), AllocError> {
     for fiber in more {
         schedule.push(*fiber)?;

@@ -19,21 +19,20 @@ use crate::walking::fair_cycle;
 use std::alloc::{AllocError, Global};
 use world_search::{Bounds, Watcher};
 
-/// Whether every fair schedule from the first world of a store, the one of number 0, comes to an end: to a fault, or to
-/// a world at rest.
+/// Decides whether every fair schedule from world 0 of a store ends: in a fault, or in a world at rest.
 ///
-/// A schedule has no end here. It is fair where the entry of each fiber comes again and again; an entry of a fiber that
-/// waits, has ended or isn't born changes nothing. Each world is met by the steps of the store: an entry, and behind it
-/// some free moves that are made at once. That these are free, and that a world at rest stays so, is a premise of the
-/// clause `ends` ([`Resting`]'s store says why it holds).
+/// Schedules are infinite here. A schedule is fair if each fiber has entries again and again; an entry of a fiber that
+/// waits, has ended or isn't born changes nothing. The search makes the steps of the store: an entry, followed at once
+/// by some free moves. The clause `ends` has the premise that these moves are free, and that a world at rest stays at
+/// rest; the caller shows both for its store ([`Resting`]).
 ///
-/// A world's rank is the number of its strongly connected component. Its helpful fiber is one of which no entry is made
-/// by a step that stays in the component; where a component has none, a fair schedule can stay in it.
+/// A world's rank is the number of its strongly connected component. A fiber is helpful if its steps, and all steps
+/// that make an entry of it, leave the component. In a component without one, a fair schedule can stay for ever.
 ///
-/// Whatever the answer, it was checked at each world, or along the cycle. [`Ending::Undecided`] comes where as many
-/// worlds were met as may be kept, or as many bytes are counted as may be ([`Bounds`]; the bound on entries isn't used).
-/// It also comes where the watcher ends the search; the watcher is asked at each hundredth world whether it goes on.
-/// `AllocError` where memory is refused.
+/// The ranks are checked at each world before [`Ending::Ends`] is returned, and the cycle before [`Ending::Repeats`].
+/// [`Ending::Undecided`] is returned at the bound on worlds or on memory ([`Bounds`]; the bound on entries isn't used),
+/// if the watcher ends the search, or if a check fails. The watcher is asked at each hundredth world whether the search
+/// goes on. `AllocError` if memory is refused.
 pub fn decide_ends<W: Resting, V: Watcher>(
     alloc: Global,
     worlds: &mut W,
@@ -59,7 +58,7 @@ pub fn decide_ends<W: Resting, V: Watcher>(
     }
 }
 
-// The same ending, with a cycle that is no longer than it has to be.
+// Returns the same ending. If it has a cycle, shortens the cycle.
 fn with_short_cycle<W: Resting>(worlds: &mut W, found: Ending) -> Result<Ending, AllocError>
     requires { 0 < length (W.worlds worlds.old) }
     ensures grows { OnOk result (IsMore (W.worlds worlds.old) (W.worlds worlds.new)) }
@@ -79,7 +78,7 @@ fn with_short_cycle<W: Resting>(worlds: &mut W, found: Ending) -> Result<Ending,
     }
 }
 
-// The same, by the table of all worlds.
+// Decides by the table of all worlds whether every fair schedule ends.
 fn judge<W: Resting>(alloc: Global, worlds: &W, rows: &[Row]) -> Result<Ending, AllocError>
     requires table { IsTable W.entry W.free W.step W.most_born (W.worlds worlds.now) rows.now }
     requires some { 0 < length rows.now }
@@ -104,7 +103,7 @@ fn judge<W: Resting>(alloc: Global, worlds: &W, rows: &[Row]) -> Result<Ending, 
     }
 }
 
-// The entries of a cycle of steps, if it is one that a fair schedule can repeat.
+// Returns the entries of a cycle of steps if a fair schedule can repeat them, otherwise `Undecided`.
 fn checked<W: Resting>(
     alloc: Global,
     worlds: &W,

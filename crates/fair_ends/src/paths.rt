@@ -11,7 +11,7 @@ struct Step {
     fiber: u16,
 }
 
-// How far a search has come.
+// The state of a search.
 #[derive(Drop)]
 struct Search {
     steps: Vec<Step>,
@@ -21,13 +21,13 @@ struct Search {
 /// A schedule, and the world to which it leads.
 #[derive(Drop)]
 pub struct Path {
-    /// The fibers whose entries are made, in turn.
+    /// The fibers whose steps are made, in turn.
     pub schedule: Vec<u16>,
     /// The number of the world.
     pub end: u32,
 }
 
-/// The shortest schedule from a world to one of the goals, over worlds that are allowed. None where there is none.
+/// The shortest schedule from a world to one of the goals, through allowed worlds. `None` if there is none.
 pub fn shortest(
     alloc: Global,
     rows: &[Row],
@@ -58,7 +58,7 @@ pub fn shortest(
     Ok(None)
 }
 
-// No world was met.
+// Returns the steps to `many` worlds, none of which was met.
 fn unmet(alloc: Global, many: usize) -> Result<Vec<Step>, AllocError> {
     let mut steps = Vec::new(alloc);
     for _ in 0..many {
@@ -79,7 +79,7 @@ pub fn is_set(flags: &[bool], world: u32) -> bool {
     }
 }
 
-/// The same flag of each world.
+/// Returns `many` flags that are all `flag`.
 pub fn flags_of(alloc: Global, many: usize, flag: bool) -> Result<Vec<bool>, AllocError> {
     let mut flags = Vec::new(alloc);
     for _ in 0..many {
@@ -88,7 +88,7 @@ pub fn flags_of(alloc: Global, many: usize, flag: bool) -> Result<Vec<bool>, All
     Ok(flags)
 }
 
-/// The flag of a world, if there is one, becomes this one.
+/// Sets the flag of a world, if there is one.
 pub fn set_flag(flags: &mut Vec<bool>, world: u32, flag: bool) {
     let place = world as usize;
     if place < flags.len() {
@@ -97,7 +97,7 @@ pub fn set_flag(flags: &mut Vec<bool>, world: u32, flag: bool) {
 }
 
 impl Search {
-    // A world is met, if it wasn't before.
+    // Meets a world, if it wasn't met before.
     fn meet(&mut self, world: u32, from: u32, fiber: u16) -> Result<(), AllocError> {
         let place = world as usize;
         if place >= self.steps.len() || self.steps[place].met {
@@ -112,7 +112,7 @@ impl Search {
         Ok(())
     }
 
-    // The worlds to which the entries at this one lead are met.
+    // Meets the allowed worlds to which the steps at a world lead.
     fn spread(&mut self, rows: &[Row], allowed: &[bool], world: u32) -> Result<(), AllocError> {
         if let Some(row) = rows.get(world as usize) {
             let mut fiber: u16 = 0;
@@ -127,7 +127,7 @@ impl Search {
         Ok(())
     }
 
-    // The entries that led from one world to the other.
+    // The steps that led from one world to the other.
     fn back(&self, alloc: Global, from: u32, to: u32) -> Result<Vec<u16>, AllocError> {
         let mut schedule = Vec::new(alloc);
         let mut at = to;

@@ -1,12 +1,12 @@
 //! The rank of a world.
 
-/// What is known of a world: it is quiet, or how far an end is under fair schedules.
+/// What is known of a world: whether it is quiet, and how far it is from an end under fair schedules.
 #[derive(Clone, Copy)]
 pub struct Rank {
     /// The world is at rest.
     pub quiet: bool,
-    /// No step makes it larger.
+    /// The rank: no step raises it.
     pub rank: u32,
-    /// The helpful fiber: its step makes the rank less, and so does one that makes an entry of it.
+    /// The helpful fiber: its step lowers the rank, and so does each step that makes an entry of that fiber.
     pub helper: u16,
 }

@@ -1,4 +1,4 @@
-//! Ranks, found by the components of a table: the rank of a world is the number of its component.
+//! Ranks from the components of a table: the rank of a world is the number of its component.
 
 use crate::components::number_at;
 use crate::paths::{flags_of, set_flag};
@@ -8,23 +8,23 @@ use crate::table::{FAULT, Row};
 use crate::walking::has;
 use std::alloc::{AllocError, Global};
 
-/// A world, and the component in which it is.
+/// A world, and its component.
 #[derive(Clone, Copy)]
 struct Member {
     component: u32,
     world: u32,
 }
 
-/// The ranks of all worlds, and the worlds that a fair schedule need not leave.
+/// The ranks of all worlds, and the worlds in components that a fair schedule need not leave.
 #[derive(Drop)]
 pub struct Ranking {
     /// The rank of each world.
     pub ranks: Vec<Rank>,
-    /// Of each world, whether it is in a component in which a fair schedule can stay for ever.
+    /// The flags of the worlds in components in which a fair schedule can stay for ever.
     pub stuck: Vec<bool>,
 }
 
-/// Ranks, found by components.
+/// Returns the ranks of all worlds, from their components.
 pub fn rank_all<W: Resting>(
     alloc: Global,
     worlds: &W,
@@ -54,7 +54,7 @@ pub fn rank_all<W: Resting>(
     Ok(ranking)
 }
 
-// The members of all components, by the numbers of these.
+// Returns the members of all components, by the numbers of the components.
 fn members_of(alloc: Global, components: &[u32]) -> Result<Vec<Member>, AllocError> {
     let mut members = Vec::new(alloc);
     let mut world: u32 = 0;
@@ -69,7 +69,7 @@ fn members_of(alloc: Global, components: &[u32]) -> Result<Vec<Member>, AllocErr
     Ok(members)
 }
 
-// The ranks before anything is known of quiet worlds and of helpful fibers.
+// Returns the ranks before any quiet world or helpful fiber is known.
 fn begun(alloc: Global, components: &[u32]) -> Result<Vec<Rank>, AllocError> {
     let mut ranks = Vec::new(alloc);
     for component in components {
@@ -82,13 +82,13 @@ fn begun(alloc: Global, components: &[u32]) -> Result<Vec<Rank>, AllocError> {
     Ok(ranks)
 }
 
-// The component of a member, if there is one.
+// The component of the member at a place, if there is one.
 fn component_at(members: &[Member], place: usize) -> Option<u32> {
     let member = members.get(place)?;
     Some(member.component)
 }
 
-// The ranks of one component, whose members are from one place on and before another.
+// Sets the ranks of one component, whose members have the places from `start` to before `end`.
 fn rank_one<W: Resting>(
     worlds: &W,
     rows: &[Row],
@@ -110,7 +110,7 @@ fn rank_one<W: Resting>(
     Ok(())
 }
 
-// What is known of a world.
+// Sets whether a world is quiet, and its helpful fiber.
 fn set_rank(ranks: &mut Vec<Rank>, world: u32, quiet: bool, helper: u16) {
     if (world as usize) < ranks.len() {
         let rank = ranks[world as usize].rank;
@@ -122,8 +122,8 @@ fn set_rank(ranks: &mut Vec<Rank>, world: u32, quiet: bool, helper: u16) {
     }
 }
 
-// Whether the worlds of a component are at rest: no entry leads to one that isn't, and the first of them is. Then all are,
-// since entries lead from it to the others.
+// Whether the worlds of a component are at rest: each entry leads to a member or to a quiet world, and the first member
+// is at rest. Then all are, since entries lead from the first member to the others.
 fn is_quiet<W: Resting>(
     worlds: &W,
     rows: &[Row],
@@ -159,7 +159,7 @@ fn keeps(rows: &[Row], ranks: &[Rank], member: Member) -> bool {
     true
 }
 
-// The same of one entry.
+// Whether the world `to` is a member or quiet.
 fn keeps_at(ranks: &[Rank], member: Member, to: u32) -> bool {
     match ranks.get(to as usize) {
         None => false,
@@ -167,7 +167,7 @@ fn keeps_at(ranks: &[Rank], member: Member, to: u32) -> bool {
     }
 }
 
-// The first fiber of which no entry is made by a step that stays in the component.
+// The first fiber that helps (`helps`), if there is one.
 fn helper_of(
     rows: &[Row],
     components: &[u32],
@@ -208,7 +208,7 @@ fn helps(
     true
 }
 
-/// The first fiber whose step stays in the component of a world and makes an entry of this fiber, if there is one.
+/// The first fiber whose step stays in the component of a world and makes an entry of `fiber`, if there is one.
 pub fn makes_within(rows: &[Row], components: &[u32], world: u32, fiber: u16) -> Option<u16> {
     let row = rows.get(world as usize)?;
     let mut by: u16 = 0;
@@ -221,7 +221,7 @@ pub fn makes_within(rows: &[Row], components: &[u32], world: u32, fiber: u16) ->
     None
 }
 
-/// Whether the step of a fiber leads from a world to one of the same component.
+/// Whether the step of a fiber leads from a world to one of the same component, or the fiber isn't born.
 pub fn stays(rows: &[Row], components: &[u32], world: u32, fiber: u16) -> bool {
     match target_at(rows, world, fiber) {
         None => true,

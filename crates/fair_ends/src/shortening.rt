@@ -1,4 +1,4 @@
-//! Cycles made shorter.
+//! Makes cycles shorter.
 
 ghost use Rattle.std.specs.Prelude.{◌≡◌, ◌<◌, ◌≤◌, ℕ, length, take, true, IfOk, IfSome, OnOk, Some, Ok as GoesWell};
 ghost use Rattle.std.specs.List.{slice_get};
@@ -13,11 +13,11 @@ use crate::walking::has;
 use std::alloc::AllocError;
 use world_search::{Entered, Landing};
 
-// A cycle of more entries stays as it is.
+// A cycle with more entries isn't shortened.
 const LONGEST: usize = 10_000;
 
-/// The cycle up to where its entries first lead back and are of all its fibers. Free moves that are made at once make
-/// it longer than it has to be.
+/// Cuts the cycle where its entries first lead back and include all its fibers. Free moves that are made at once can
+/// make a cycle longer than needed.
 pub fn shortened<W: Resting>(worlds: &mut W, found: Cycle) -> Result<Cycle, AllocError>
     requires { 0 < length (W.worlds worlds.old) }
     ensures grows { OnOk result (IsMore (W.worlds worlds.old) (W.worlds worlds.new)) }
@@ -35,7 +35,7 @@ pub fn shortened<W: Resting>(worlds: &mut W, found: Cycle) -> Result<Cycle, Allo
     Ok(Cycle { stem, cycle })
 }
 
-// Where entries lead from the first world, each made alone. None if they end in a fault.
+// The world that entries lead to from the first world, each made alone. `None` if they end in a fault.
 fn walk_alone<W: Resting>(worlds: &mut W, entries: &[u16]) -> Result<Option<usize>, AllocError>
     requires { 0 < length (W.worlds worlds.old) }
     ensures grows { OnOk result (IsMore (W.worlds worlds.old) (W.worlds worlds.new)) }
@@ -54,7 +54,7 @@ fn walk_alone<W: Resting>(worlds: &mut W, entries: &[u16]) -> Result<Option<usiz
     Ok(Some(at))
 }
 
-// How many of the entries of a cycle, which begins at this world, lead back to it and are of all its fibers.
+// The number of first entries of a cycle that lead from `begins` back to it and include all fibers of the cycle.
 fn first_return<W: Resting>(
     worlds: &mut W,
     begins: usize,
@@ -82,7 +82,7 @@ fn first_return<W: Resting>(
     Ok(cycle.len())
 }
 
-// Where the entry of a fiber leads, made alone. None if it ends in a fault.
+// The world that the entry of a fiber, made alone, leads to. `None` if it ends in a fault.
 fn next_alone<W: Resting>(
     worlds: &mut W,
     at: usize,
@@ -102,7 +102,7 @@ fn next_alone<W: Resting>(
     }
 }
 
-// Whether each of these fibers is among the first n.
+// Whether each fiber of the cycle is among its first `many` entries.
 fn has_all_of(cycle: &[u16], many: usize) -> bool
     requires { many ≤ length cycle.now }
     ensures { result ≡ true → (f : ℕ) → IsIn f cycle.now → IsIn f (take many cycle.now) }

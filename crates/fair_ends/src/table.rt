@@ -9,10 +9,10 @@ use crate::resting::Resting;
 use std::alloc::{AllocError, Global};
 use world_search::{Bounds, Entered, Landing, Watcher, Worlds};
 
-/// What is kept in the place of a world's number where a step ends in a fault.
+/// The target of a step that ends in a fault, in place of the number of a world.
 pub const FAULT: u32 = u32::MAX;
 
-// The watcher is asked at one of this number of worlds.
+// The watcher is asked once in this number of worlds.
 const ASKED_EACH: usize = 100;
 
 /// Where the step of a fiber leads.
@@ -20,7 +20,7 @@ const ASKED_EACH: usize = 100;
 pub struct Edge {
     /// The number of a world, or [`FAULT`].
     pub target: u32,
-    /// The fibers whose entries it makes, in turn.
+    /// The fibers whose entries the step makes, in turn.
     pub made: Vec<u16>,
 }
 
@@ -31,7 +31,7 @@ pub struct Row {
     pub edges: Vec<Edge>,
 }
 
-/// The rows of all worlds that any schedule leads to. None where a bound was met, or the watcher ended the search.
+/// Returns the rows of all worlds that any schedule leads to. `None` at a bound, or if the watcher ended the search.
 pub fn table_of<W: Resting, V: Watcher>(
     alloc: Global,
     worlds: &mut W,
@@ -80,7 +80,7 @@ fn size_of_edge(edge: &Edge) -> usize {
     edge.made.len().saturating_mul(2).saturating_add(56)
 }
 
-// Whether the watcher lets the search go on, if it is asked at the world of this number.
+// Whether the search goes on at the world of this number. The watcher is asked at each hundredth world.
 fn lets_go_on<W: Worlds, V: Watcher>(watcher: &mut V, worlds: &W, index: usize) -> bool
     ensures same { V.can_stop watcher.new ≡ V.can_stop watcher.old }
 {
@@ -90,7 +90,7 @@ fn lets_go_on<W: Worlds, V: Watcher>(watcher: &mut V, worlds: &W, index: usize) 
     watcher.goes_on(worlds.len(), index)
 }
 
-// Where the steps at a world lead. None where one of them leads to a world for which there is no room.
+// Returns where the steps at a world lead. `None` if there is no room for one of the worlds to which they lead.
 fn row_at<W: Resting>(
     alloc: Global,
     worlds: &mut W,
@@ -117,7 +117,7 @@ fn row_at<W: Resting>(
     Ok(Some(Row { edges }))
 }
 
-// The number of where a step leads, if there is one below that of a fault.
+// The target of a step: [`FAULT`], or a world's number below that. `None` if there is no such target.
 fn target(entered: Entered) -> Option<u32>
     ensures { IfSome result (λ t. IsTarget entered t) }
 {

@@ -20,7 +20,7 @@ struct Course {
     entries: Vec<u16>,
 }
 
-/// The entries that these steps make, one by one, if they are a cycle that a fair schedule can repeat for ever.
+/// Returns the entries that these steps make, if they are a cycle that a fair schedule can repeat for ever.
 pub fn fair_cycle<W: Resting>(
     alloc: Global,
     worlds: &W,
@@ -50,7 +50,7 @@ pub fn fair_cycle<W: Resting>(
     }))
 }
 
-// Where steps lead from a world.
+// Returns where steps lead from a world, and the entries that they make.
 fn walk<W: Resting>(
     alloc: Global,
     worlds: &W,
@@ -71,7 +71,7 @@ fn walk<W: Resting>(
     Ok(Course { end, entries })
 }
 
-// Where the step of a fiber leads. The entries that it makes are added.
+// Returns where the step of a fiber leads, and adds the entries that the step makes.
 fn next<W: Resting>(
     worlds: &W,
     rows: &[Row],
@@ -96,7 +96,7 @@ fn next<W: Resting>(
     }
 }
 
-// Whether each fiber has an entry, or its entry at the world of this row and this number changes nothing.
+// Whether each fiber has an entry, or its entry at the world `begins`, which has this row, changes nothing.
 fn has_all(entries: &[u16], row: &Row, begins: u32) -> bool
     ensures { result ≡ true → (f : ℕ) (e : TheEdge) → slice_get row.now.edges.items f ≡ Some e →
         IsIn f entries.now ⊎ IsStill begins f e }
@@ -113,14 +113,14 @@ fn has_all(entries: &[u16], row: &Row, begins: u32) -> bool
     true
 }
 
-// Whether a fiber has an entry, or its entry at the world of this number changes nothing.
+// Whether a fiber has an entry, or its entry at the world `begins` changes nothing.
 fn comes(entries: &[u16], edge: &Edge, begins: u32, fiber: u16) -> bool
     ensures { result ≡ true → IsIn fiber entries.now ⊎ IsStill begins fiber edge.now }
 {
     has(entries, fiber) || is_idle(edge, begins, fiber)
 }
 
-/// Whether the step of a fiber at the world of this number makes no entry of it, or its entry alone, which leads back.
+/// Whether the step of a fiber at a world makes no entry of that fiber, or its entry alone, which leads back.
 pub(crate) fn is_idle(edge: &Edge, world: u32, fiber: u16) -> bool
     ensures { result ≡ true → IsStill world fiber edge.now }
 {
@@ -131,7 +131,7 @@ pub(crate) fn is_idle(edge: &Edge, world: u32, fiber: u16) -> bool
     made.len() == 1 && made[0] == fiber && edge.target == world
 }
 
-/// Whether one of these is this fiber.
+/// Whether one of these entries is this fiber's.
 pub(crate) fn has(entries: &[u16], fiber: u16) -> bool
     ensures yes { result ≡ true → IsIn fiber entries.now }
     ensures no { result ≡ false → IsIn fiber entries.now → ⊥ }

@@ -1,6 +1,6 @@
 //! The program: one command line over the standard streams.
 //!
-//! What its words ask for is done by `command_line`.
+//! `command_line` obeys the words.
 #![tactic(auto)]
 
 use command_line::{command, refuse_words};
@@ -12,10 +12,10 @@ use std::io::{ErrorKind, IsTerminal};
 use std::process::ExitCode;
 use std::rt::Env;
 
-// What is told of words that aren't text, which `clap` isn't given here, in its own terms.
+// The message for words that aren't text, in `clap`'s terms. `clap` never gets such words.
 const NOT_TEXT: &str = "invalid UTF-8 was detected in one or more arguments";
 
-// Whether the environment has a text under this name, other than the empty one.
+// Whether the environment variable `name` is set, and not to the empty text.
 fn is_set<R: Env + Alloc>(rt: &R, name: &str) -> bool {
     match env::var(rt, name) {
         Ok(text) => !text.is_empty(),

@@ -1,4 +1,4 @@
--- Items behind others, one more at a time.
+-- Items after others, one more at a time.
 use Rattle.std.proofs.Common.{◌≡◌, ℕ, ◌+◌, ◌<◌, ◌≤◌, List, [], ◌∷◌, ◌++◌, length, drop, get_or, map, refl, sym, ap, ◌∙◌}
 use Rattle.std.proofs.lemmas.List.{drop_all}
 use Rattle.fiber_frames.specs.declared.mark.Mark.{Mark}

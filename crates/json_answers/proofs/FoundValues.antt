@@ -21,7 +21,7 @@ use Rattle.json_answers.specs.SampleData.{AreComingsData, IsComingData, IsSample
 pub one_more : (vs new : List Value) (v : Value) → new ≡ vs ++ v ∷ [] → map view new ≡ map view vs ++ view v ∷ []
 one_more vs new v is = ap (λ xs. map view xs) is ∙ map-append view vs (v ∷ [])
 
--- with the values of the answers from this one on behind them, they are those of all
+-- followed by the values of the answers from number i on, the values are those of all answers
 abbrev pub IsFront : Bool → List Want → List Answer → ℕ → List Data → Type 0
 IsFront u wants all i ds =
     (behind : List Data) → IsPartData u wants (drop i all) behind → IsPartData u wants all (ds ++ behind)
@@ -56,7 +56,7 @@ all_listed u wants all i ds past front =
     subst (λ xs. IsPartData u wants xs []) (sym (drop_all i all past)) refl in
     subst (λ t. IsPartData u wants all t) (append-nil ds) (front [] none)
 
--- with the values of what schedules came to from this one on behind them, they are those of all
+-- followed by the values of the ends from number i on, the values are those of all ends
 abbrev pub IsCameFront : List Want → List Coming → ℕ → List Data → Type 0
 IsCameFront wants all i ds = (behind : List Data) → AreComingsData wants (drop i all) behind → AreComingsData wants all (ds ++ behind)
 

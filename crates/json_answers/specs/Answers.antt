@@ -1,4 +1,4 @@
--- What is answered to a text in JSON, with its status.
+-- The answer to a text in JSON, with its status.
 use Rattle.std.specs.Prelude.{◌≡◌, ℕ, List, Ok, Err, Some}
 use Rattle.cell_registry.specs.declared.limits.Limits.{Limits}
 use Rattle.cell_registry.specs.declared.limits.RunError.{RunError}
@@ -16,7 +16,7 @@ use Rattle.outcome_trace.specs.ReplayAnswers.{replayed, report_status}
 use Rattle.json_answers.specs.ReportData.{fault_data, line_of_data, report_data}
 use Rattle.json_answers.specs.Refusals.{parse_data, program_data, term_data}
 
--- where there is no program: the text's first fault, or the limit that the term which it spells goes past
+-- the refusal of a text that spells no program: by its first fault, or by the limit that its term goes past
 pub data IsJsonRefusal : List ℕ → List ℕ → Status → Type 0 where
   no_term : (text : List ℕ) (e : ParseError) → reading text ≡ Err e →
       IsJsonRefusal text (line_of_data (parse_data e)) ends.Refused
@@ -27,17 +27,17 @@ pub data IsJsonRefusal : List ℕ → List ℕ → Status → Type 0 where
 abbrev pub IsJsonCounts : Term → List ℕ → Status → Type 0
 IsJsonCounts t answer status = (answer ≡ line_of_data (program_data t)) × (status ≡ ends.Succeeded)
 
--- what `check` answers: a refusal, or the counts of the program that the text spells
+-- the answer of `check`: a refusal, or the counts of the program that the text spells
 abbrev pub IsJsonCheck : List ℕ → List ℕ → Status → Type 0
 IsJsonCheck = IsProgramAnswer IsJsonRefusal IsJsonCounts
 
--- what comes of a program under a schedule and limits: the report or the fault of the core
+-- the result of a program under a schedule and limits: the report or the fault of the core
 pub data IsJsonRun (t : Term) (schedule : List ℕ) (limits : Limits) : List ℕ → Status → Type 0 where
   reports : (r : Report) → replayed t limits schedule ≡ Ok r →
       IsJsonRun t schedule limits (line_of_data (report_data r.fibers)) (report_status r.fibers)
   faults : (e : RunError) → replayed t limits schedule ≡ Err e →
       IsJsonRun t schedule limits (line_of_data (fault_data e)) ends.Fault
 
--- what `replay` answers: a refusal, or what comes of the program that the text spells
+-- the answer of `replay`: a refusal, or the result of the program that the text spells
 abbrev pub IsJsonReplay : List ℕ → Limits → List ℕ → List ℕ → Status → Type 0
 IsJsonReplay schedule limits = IsProgramAnswer IsJsonRefusal (λ t. IsJsonRun t schedule limits)

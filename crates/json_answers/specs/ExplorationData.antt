@@ -1,4 +1,4 @@
--- Explorations as JSON. The members of an object stand in the order of their keys.
+-- Explorations as JSON. The members of an object are in the order of their keys.
 use Rattle.std.specs.Prelude.{◌≡◌, ℕ, Bool, true, false, not, List, [], ◌∷◌, ◌++◌, codes, Result, Ok, Err}
 use Rattle.std.specs.List.{filter}
 use Rattle.cell_registry.specs.declared.limits.RunError.{RunError}
@@ -19,24 +19,24 @@ found_data schedule wanted (Ok r) = object (member (codes "report") (report_data
 found_data schedule wanted (Err e) = object (member (codes "fault") (fault_data e)
     (member (codes "schedule") (string schedule) (member (codes "wanted") (boolean wanted) no_members)))
 
--- an answer of an exploration, which is listed as not wanted, or among the others
+-- an answer of an exploration; `unwanted` is whether the answer is listed as not wanted
 pub record IsAnswerData (unwanted : Bool) (a : Answer) (d : Data) : Type 0 where
   pub schedule : List ℕ
   pub spelled : SpellsEntries schedule a.schedule
   pub data_is : d ≡ found_data schedule (not unwanted) a.end
 
--- answers, one behind the other
+-- answers, one after another
 abbrev pub AreAnswersData : Bool → List Answer → List Data → Type 0
 AreAnswersData unwanted [] ds = ds ≡ []
 AreAnswersData unwanted (a ∷ answers) ds = (d : Data) × (behind : List Data) × (ds ≡ d ∷ behind) ×
     IsAnswerData unwanted a d × AreAnswersData unwanted answers behind
 
--- those that are listed as not wanted, or the others
+-- the answers that are listed as not wanted, or the others
 abbrev pub IsPartData : Bool → List Want → List Answer → List Data → Type 0
 IsPartData unwanted wants answers ds = AreAnswersData unwanted (filter (λ a. is_listed_so unwanted wants a) answers) ds
 
--- answers, whether they are all, and how many worlds were found; where they may not be all, how many bytes were
--- counted, and whether the time was over, too
+-- answers, whether they are all, and the number of worlds; if they may not be all, also the number of bytes, and
+-- whether the time was over
 abbrev pub exploration_data : Items → (complete halted : Bool) → (worlds bytes : ℕ) → Data
 exploration_data answers true halted worlds bytes = object (member (codes "answer") (string (codes "exploration"))
     (member (codes "answers") (array answers) (member (codes "complete") (boolean true)

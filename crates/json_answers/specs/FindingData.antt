@@ -1,5 +1,5 @@
--- A finding as JSON, and what is answered in JSON where one is looked for. The members of an object stand in the order
--- of their keys.
+-- A finding as JSON, and the answer in JSON of a search for the first finding. The members of an object are in the
+-- order of their keys.
 use Rattle.std.specs.Prelude.{◌≡◌, ◌⊎◌, ℕ, Bool, true, false, List, [], codes, Result, Ok, Err}
 use Rattle.cell_registry.specs.declared.limits.Limits.{Limits}
 use Rattle.cell_registry.specs.declared.limits.RunError.{RunError}
@@ -39,7 +39,7 @@ pub record IsFindingData (f : Finding) (d : Data) : Type 0 where
   pub spelled : SpellsEntries schedule f.answer.schedule
   pub data_is : d ≡ finding_data schedule f.drawn f.last f.answer.end
 
--- the value of a finding, with the status of what isn't wanted
+-- the value of a finding, with the status `Errored`
 pub record IsJsonFound (t : Term) (limits : Limits) (wants : List Want) (answer : List ℕ) (status : Status) : Type 0
   where
     pub finding : Finding
@@ -56,15 +56,15 @@ pub record IsJsonUnfound (t : Term) (limits : Limits) (bounds : Bounds) (timed :
     pub explored : IsJsonExplored t limits bounds timed wants answer status
     pub none : has_failure wants explored.exploration.answers ≡ false
 
--- such an answer, beside the lines of the wanted outcomes that no schedule comes to
+-- such a value and status, and the lines of the wanted outcomes that no schedule comes to
 pub record IsNotedJsonUnfound (t : Term) (limits : Limits) (bounds : Bounds) (timed : Bool) (wants : List Want)
     (note answer : List ℕ) (status : Status) : Type 0
   where
     pub unfound : IsJsonUnfound t limits bounds timed wants answer status
     pub note_is : note ≡ missing_of_exploration wants unfound.explored.exploration
 
--- what is answered to a program with this note, with its status: a finding, which has no note, or an exploration that
--- lists none
+-- the answer to a program, with its note and its status: a finding, which has no note, or an exploration that lists no
+-- finding
 abbrev pub IsJsonFirstAnswer : Term → Limits → Bounds → (timed : Bool) → List Want → (note : List ℕ) → List ℕ →
     Status → Type 0
 IsJsonFirstAnswer t limits bounds timed wants note answer status =

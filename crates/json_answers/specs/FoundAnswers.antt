@@ -1,4 +1,4 @@
--- What is answered in JSON to a text whose program is explored, or whose schedules are sampled.
+-- The answer in JSON to a text whose program is explored, or whose schedules are sampled.
 use Rattle.std.specs.Prelude.{◌≡◌, ℕ, Bool, List, Ok}
 use Rattle.cell_registry.specs.declared.limits.Limits.{Limits}
 use Rattle.derived_ops.specs.Expansion.{code_of}
@@ -24,7 +24,7 @@ use Rattle.json_answers.specs.ExplorationData.{IsExplorationData}
 use Rattle.json_answers.specs.ReportData.{line_of_data}
 use Rattle.json_answers.specs.SampleData.{IsSampleData}
 
--- the value and the status of an exploration of the program, whose time was limited or wasn't
+-- the value and the status of an exploration of the program; `timed` is whether its time was limited
 pub record IsJsonExplored (t : Term) (limits : Limits) (bounds : Bounds) (timed : Bool) (wants : List Want)
     (answer : List ℕ) (status : Status) : Type 0
   where
@@ -35,14 +35,14 @@ pub record IsJsonExplored (t : Term) (limits : Limits) (bounds : Bounds) (timed 
     pub text_is : answer ≡ line_of_data value
     pub status_is : status ≡ exploration_status wants exploration
 
--- such a value and status, beside the lines of the wanted outcomes to which no answer comes
+-- the value and the status of an exploration, and the lines of the wanted outcomes that no answer has
 pub record IsNotedJsonExplored (t : Term) (limits : Limits) (bounds : Bounds) (timed : Bool) (wants : List Want)
     (note answer : List ℕ) (status : Status) : Type 0
   where
     pub explored : IsJsonExplored t limits bounds timed wants answer status
     pub note_is : note ≡ missing_of_exploration wants explored.exploration
 
--- what `explore` answers under limits: a refusal, or the exploration of the program that the text spells
+-- the answer of `explore` under limits: a refusal, or the exploration of the program that the text spells
 abbrev pub IsJsonExplore : Limits → Bounds → (timed : Bool) → List Want → List ℕ → List ℕ → Status → Type 0
 IsJsonExplore limits bounds timed wants =
     IsProgramAnswer IsJsonRefusal (λ t. IsJsonExplored t limits bounds timed wants)
@@ -58,14 +58,14 @@ pub record IsJsonSampled (t : Term) (limits : Limits) (seed times entries : ℕ)
     pub text_is : answer ≡ line_of_data value
     pub status_is : status ≡ sample_status wants sample
 
--- such a value and status, beside the lines of the wanted outcomes that nothing came to
+-- the value and the status of a sample, and the lines of the wanted outcomes that no answer has
 pub record IsNotedJsonSample (t : Term) (limits : Limits) (seed times entries : ℕ) (wants : List Want)
     (note answer : List ℕ) (status : Status) : Type 0
   where
     pub sampled : IsJsonSampled t limits seed times entries wants answer status
     pub note_is : note ≡ missing_of_sample wants sampled.sample
 
--- what `sample` answers under limits: a refusal, or a sample of the schedules of the program that the text spells
+-- the answer of `sample` under limits: a refusal, or a sample of the schedules of the program that the text spells
 pub data IsJsonSample (limits : Limits) (seed times entries : ℕ) (wants : List Want)
     : List ℕ → List ℕ → Status → Type 0
   where

@@ -19,7 +19,7 @@ refused_at name number place = object (member (codes "answer") (string (codes "r
     (member (codes "name") (string name) (member (codes "number") (count number)
     (member (codes "place") (count place) no_members))))
 
--- of a text that isn't one of the grammar
+-- the refusal of a text outside the grammar
 abbrev pub parse_data : ParseError → Data
 parse_data parse.NoMemory = null
 parse_data (parse.BadByte p) = refused_at (codes "BadByte") 4 p
@@ -33,7 +33,7 @@ parse_data (parse.TooDeep p) = refused_at (codes "TooDeep") 11 p
 parse_data (parse.TooLong p) = refused_at (codes "TooLong") 12 p
 parse_data (parse.Trailing p) = refused_at (codes "Trailing") 13 p
 
--- of a text's term that is no program
+-- the refusal of a term that is no program
 abbrev pub term_data : TermError → Data
 term_data term.NoMemory = null
 term_data (term.Unbound slot) = null
@@ -44,13 +44,13 @@ term_data (term.DeepMasks n) = object (member (codes "answer") (string (codes "r
 term_data term.Large = object (member (codes "answer") (string (codes "refused"))
     (member (codes "name") (string (codes "Large")) (member (codes "number") (count 26) no_members)))
 
--- the refusal of a text: its first fault, or the limit that the term which it spells goes past
+-- the refusal of a text: by its first fault, or by the limit that its term goes past
 pub data IsRefusalData : List ℕ → Data → Type 0 where
   no_term : (text : List ℕ) (e : ParseError) → reading text ≡ Err e → IsRefusalData text (parse_data e)
   no_program : (text : List ℕ) (t : Term) (e : TermError) → reading text ≡ Ok (atoms_of t) → limit_passed t ≡ Some e →
       IsRefusalData text (term_data e)
 
--- a count, which is the greatest of 64 bits where it is above that
+-- a count, or 2^64 - 1 if the count is greater
 abbrev pub capped : ℕ → Data
 capped n = count (min n (2 ^ 64 - 1))
 

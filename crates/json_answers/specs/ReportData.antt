@@ -1,4 +1,4 @@
--- Reports and faults of a run as JSON. The members of an object stand in the order of their keys.
+-- Reports and faults of a run as JSON. The members of an object are in the order of their keys.
 use Rattle.std.specs.Prelude.{◌+◌, ℕ, Option, Some, None, List, [], ◌∷◌, ◌++◌, codes}
 use Rattle.cell_registry.specs.declared.limits.Band.{Band}
 use Rattle.cell_registry.specs.declared.limits.Band.TheVariants.{Fibers, Refs, Deferreds}
@@ -40,19 +40,19 @@ abbrev pub marks_items : List Mark → Items
 marks_items [] = no_items
 marks_items (m ∷ marks) = item (mark_data m) (marks_items marks)
 
--- how a fiber ended, or that it didn't
+-- the outcome of a fiber, or `unended`
 abbrev pub outcome_data : Option Outcome → Data
 outcome_data (Some (Succeeded v)) = named (codes "succeeded") (number (of_integer v))
 outcome_data (Some (Errored c)) = named (codes "errored") (number (of_integer c))
 outcome_data (Some Canceled) = string (codes "canceled")
 outcome_data None = string (codes "unended")
 
--- the fiber of this number
+-- the value of the fiber of this number
 abbrev pub fiber_data : ℕ → FiberReport → Data
 fiber_data n f = object (member (codes "fiber") (count n) (member (codes "marks") (array (marks_items f.marks))
     (member (codes "outcome") (outcome_data f.outcome) no_members)))
 
--- fibers whose numbers go up from this one
+-- fibers, numbered from n on
 abbrev pub fibers_items : ℕ → List FiberReport → Items
 fibers_items n [] = no_items
 fibers_items n (f ∷ fibers) = item (fiber_data n f) (fibers_items (n + 1) fibers)
@@ -81,6 +81,6 @@ fault_data (run.Lost f) = object (member (codes "answer") (string (codes "fault"
 fault_data run.NoWorker = object (member (codes "answer") (string (codes "fault"))
     (member (codes "name") (string (codes "NoWorker")) (member (codes "number") (count 22) no_members)))
 
--- a value's text without spaces, and a line feed
+-- the text of a value without spaces, and a line feed
 abbrev pub line_of_data : Data → List ℕ
 line_of_data d = compact_text d ++ 10 ∷ []

@@ -1,4 +1,4 @@
--- Samples as JSON. The members of an object stand in the order of their keys.
+-- Samples as JSON. The members of an object are in the order of their keys.
 use Rattle.std.specs.Prelude.{◌≡◌, ℕ, Bool, not, List, [], ◌∷◌, codes, Result, Ok, Err}
 use Rattle.cell_registry.specs.declared.limits.RunError.{RunError}
 use Rattle.text_io.specs.Schedule.{SpellsEntries}
@@ -11,8 +11,8 @@ use Rattle.serde_json.specs.Data.{Data, boolean, string, array, object, Items, n
 use Rattle.serde_json.specs.View.{items_of}
 use Rattle.json_answers.specs.ReportData.{count, fault_data, report_data}
 
--- how many schedules came to a report or a fault, whether each of them was cut short, the text of the first, and whether
--- the end is wanted
+-- a report or a fault, the number of its schedules, whether each of them was cut short, the text of the first, and
+-- whether the end is wanted
 abbrev pub came_data : ℕ → Bool → List ℕ → Bool → Result Report RunError → Data
 came_data times cut schedule wanted (Ok r) = object (member (codes "came") (count times) (member (codes "cut") (boolean cut)
     (member (codes "report") (report_data r.fibers) (member (codes "schedule") (string schedule)
@@ -21,25 +21,25 @@ came_data times cut schedule wanted (Err e) = object (member (codes "came") (cou
     (member (codes "fault") (fault_data e) (member (codes "schedule") (string schedule)
     (member (codes "wanted") (boolean wanted) no_members)))))
 
--- what some of the schedules came to
+-- an end of schedules
 pub record IsComingData (wants : List Want) (c : Coming) (d : Data) : Type 0 where
   pub schedule : List ℕ
   pub spelled : SpellsEntries schedule c.answer.schedule
   pub data_is : d ≡ came_data c.times c.cut schedule (not (is_unwanted wants c)) c.answer.end
 
--- what schedules came to, one behind the other
+-- the ends of schedules, one after another
 abbrev pub AreComingsData : List Want → List Coming → List Data → Type 0
 AreComingsData wants [] ds = ds ≡ []
 AreComingsData wants (c ∷ comings) ds = (d : Data) × (behind : List Data) × (ds ≡ d ∷ behind) ×
     IsComingData wants c d × AreComingsData wants comings behind
 
--- what so many schedules came to that were drawn by this seed
+-- the ends of `times` schedules that were drawn by this seed
 abbrev pub sample_data : Items → ℕ → ℕ → Data
 sample_data answers seed times = object (member (codes "answer") (string (codes "sample"))
     (member (codes "answers") (array answers) (member (codes "seed") (count seed)
     (member (codes "times") (count times) no_members))))
 
--- a sample, whose answers stand in the order in which they came first
+-- a sample, with its ends in the order in which they came first
 pub record IsSampleData (wants : List Want) (seed : ℕ) (s : Sample) (d : Data) : Type 0 where
   pub comings : List Data
   pub data_is : d ≡ sample_data (items_of comings) seed s.schedules

@@ -15,9 +15,9 @@ use outcome_trace::{Report, schedule_text};
 use serde_json::{Value, json};
 use std::alloc::{AllocError, Global};
 
-/// An exploration: its answers, those that aren't wanted first, whether they are all, how many worlds were found, and
-/// where the answers may not be all, how many bytes were counted, and whether the time was over. `AllocError` where
-/// memory ran out.
+/// The value of an exploration: its answers, those that aren't wanted first, whether they are all, and the number of
+/// worlds. If they may not be all, also the number of bytes, and whether the time was over. `AllocError` where memory
+/// ran out.
 pub fn exploration_json(
     alloc: Global,
     exploration: &Exploration,
@@ -40,8 +40,8 @@ pub fn exploration_json(
     )
 }
 
-// Answers, whether they are all, and how many worlds were found; where they may not be all, how many bytes were
-// counted, and whether the time was over, too.
+// Answers, whether they are all, and the number of worlds; if they may not be all, also the number of bytes, and
+// whether the time was over.
 fn exploration_value(
     alloc: Global,
     answers: Vec<Value>,
@@ -85,7 +85,7 @@ fn part_values(
     Ok(values)
 }
 
-// An answer, which is listed as not wanted, or among the others.
+// The value of an answer; `unwanted` is whether the answer is listed as not wanted.
 fn answer_value(alloc: Global, answer: &Answer, unwanted: bool) -> Result<Value, AllocError>
     requires { IsSpellable answer.now }
     ensures { IfOk result (λ value. IsAnswerData unwanted answer.now (view value)) }

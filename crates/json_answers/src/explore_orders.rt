@@ -1,4 +1,4 @@
-//! Texts whose programs are explored, answered in JSON.
+//! An order that explores a program, answered in JSON.
 
 ghost use Rattle.std.specs.Prelude.{false};
 ghost use Rattle.json_answers.specs.FoundAnswers.{IsJsonExplored, IsNotedJsonExplored};
@@ -14,11 +14,11 @@ use exploration_text::{
 use outcome_trace::{Answer, ProgramOrder};
 use std::alloc::{AllocError, Global};
 
-/// Tells in JSON all that can come of the program that the text spells, under every schedule, as `ExploreOrder` does in
-/// words: the answers of its exploration, or why the text is refused, with the same status.
+/// Answers a text in JSON as `ExploreOrder` does in words, with the same status: by the exploration of its program
+/// under every schedule, or by the text's refusal.
 #[derive(Drop)]
 pub struct ExploreJson {
-    /// What is explored, how far, and what is wanted.
+    /// The limits, the bounds and the wanted outcomes.
     pub order: ExploreOrder,
 }
 

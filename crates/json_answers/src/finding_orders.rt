@@ -1,4 +1,4 @@
-//! Texts whose programs are explored until something shows that they aren't right, answered in JSON.
+//! An order that explores a program until a finding, answered in JSON.
 
 ghost use Rattle.std.specs.Prelude.{◌≡◌, IfOk};
 ghost use Rattle.serde_json.specs.View.{view};
@@ -20,11 +20,11 @@ use outcome_trace::{Report, Status, schedule_text};
 use serde_json::{Value, json};
 use std::alloc::{AllocError, Global};
 
-/// Answers in JSON as `FirstOrder` does in words: the first finding of the program that the text spells, or else its
-/// exploration, or why the text is refused, with the same status.
+/// Answers a text in JSON as `FirstOrder` does in words, with the same status: by the first finding of its program, or
+/// else by the exploration, or by the text's refusal.
 #[derive(Drop)]
 pub struct FirstJson {
-    /// What is explored, how far, and what is wanted.
+    /// The limits, the bounds and the wanted outcomes.
     pub order: ExploreOrder,
 }
 

@@ -1,10 +1,10 @@
-//! Answers to texts as JSON, so that another program can read them: what `check`, a run, an exploration and a sample
-//! answer, each as one value on one line.
+//! Answers to texts as JSON, for other programs to read: the answers of `check`, a run, an exploration and a sample,
+//! each as one value on one line.
 //!
-//! It stands on texts and their answers (`outcome_trace`, `exploration_text`, `text_io`), on what these
-//! tell (`every_schedule`, `sampled_schedules`), and on the kit's `serde_json`. It promises that what goes out is the
-//! text of the value that the definitions make of the same report, refusal, fault, exploration or sample, with the
-//! status that goes with the lines of these.
+//! The crate uses texts and their answers (`outcome_trace`, `exploration_text`, `text_io`), explorations and samples
+//! (`every_schedule`, `sampled_schedules`), and the kit's `serde_json`. It promises that each answer is the text of the
+//! value that the definitions make of the same report, refusal, fault, exploration or sample, with the same status as
+//! the answer in words.
 #![tactic(auto)]
 
 mod exploration_values;

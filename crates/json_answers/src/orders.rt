@@ -1,4 +1,4 @@
-//! Texts that are answered in JSON.
+//! Orders that are answered in JSON.
 
 ghost use Rattle.std.specs.Prelude.{◌≡◌, ◌≢◌, IfOk, OnOk};
 ghost use Rattle.cell_registry.specs.Cells.{AreLimits};
@@ -14,8 +14,8 @@ use effect_term::Program;
 use outcome_trace::{Answer, ProgramOrder, Report, Status, replay, report_status};
 use std::alloc::{AllocError, Global};
 
-/// Tells in JSON whether the text spells a program, as `CheckOrder` does in words: its counts, or why it is refused,
-/// with the same status.
+/// Answers a text in JSON as `CheckOrder` does in words, with the same status: by the counts of its program, or by the
+/// text's refusal.
 #[derive(Clone, Copy)]
 pub struct CheckJson;
 
@@ -30,14 +30,14 @@ impl ProgramOrder for CheckJson {
     }
 }
 
-/// Tells in JSON what the program that the text spells comes to under a schedule, as `ReplayOrder` does in words: its
-/// report, the run's fault, or why the text is refused, with the same status.
+/// Answers a text in JSON as `ReplayOrder` does in words, with the same status: by the report or the fault of its
+/// program under a schedule, or by the text's refusal.
 #[derive(Clone, Copy)]
 pub struct ReplayJson<'a> {
-    /// Whose move is next, from the first entry on.
+    /// The entries of the schedule: the fibers that move, in order.
     pub schedule: &'a [u16],
-    /// How many fibers, refs and deferreds there may be (each 1 to 1000), and how often a fiber may
-    /// change its own state (1 to 1,099,511,627,775).
+    /// The greatest numbers of fibers, refs and deferreds (each 1 to 1000), and of a fiber's changes of its own state
+    /// (1 to 1,099,511,627,775).
     pub limits: Limits,
     pub ghost ranges: { AreLimits limits },
 }
@@ -55,7 +55,7 @@ impl ProgramOrder for ReplayJson<'_> {
     }
 }
 
-// The answer where the run ended with a fault. Want of memory is no answer.
+// The answer to a run that ended with a fault. `AllocError` if memory ran out.
 fn fault_answer(alloc: Global, error: RunError) -> Result<Answer, AllocError>
     ensures line { IfOk result (λ a. a.text.items ≡ line_of_data (fault_data error)) }
     ensures status { IfOk result (λ a. a.status ≡ Status.Fault) }
@@ -67,8 +67,8 @@ fn fault_answer(alloc: Global, error: RunError) -> Result<Answer, AllocError>
     }
 }
 
-/// The answer where a run came to a report, as `report_answer` is in words: its value, with the status of fiber 0's
-/// end. `AllocError` where memory ran out.
+/// The answer to a run that ended with a report, as `report_answer` is in words: the value of the report, with the
+/// status of fiber 0's end. `AllocError` where memory ran out.
 pub fn report_json_answer(alloc: Global, report: &Report) -> Result<Answer, AllocError>
     ensures line { IfOk result (λ a. a.text.items ≡ line_of_data (report_data report.now.fibers)) }
     ensures status { IfOk result (λ a. a.status ≡ report_status report.now.fibers) }
@@ -77,8 +77,8 @@ pub fn report_json_answer(alloc: Global, report: &Report) -> Result<Answer, Allo
     value_answer(alloc, &value, report_status(report))
 }
 
-/// The answer where a run ended with a fault: its value, with `Status::Fault`. `AllocError` where memory ran out for
-/// it.
+/// The answer to a run that ended with a fault: the value of the fault, with `Status::Fault`. `AllocError` where memory
+/// for the answer ran out.
 pub fn fault_json_answer(alloc: Global, error: RunError) -> Result<Answer, AllocError>
     ensures line { IfOk result (λ a. a.text.items ≡ line_of_data (fault_data error)) }
     ensures status { IfOk result (λ a. a.status ≡ Status.Fault) }

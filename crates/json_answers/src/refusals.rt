@@ -14,7 +14,7 @@ use serde_json::{Value, json};
 use std::alloc::{AllocError, Global};
 use term_parse::ParseError;
 
-/// By the value of its refusal.
+/// The form of refusals in JSON.
 #[derive(Clone, Copy, Debug)]
 pub struct InJson;
 
@@ -26,8 +26,8 @@ impl RefusalForm for InJson {
     }
 }
 
-/// The answer to a text that is refused so, as `refusal` is in words: the value of the refusal, with
-/// `Status::Refused`. `AllocError` where memory ran out, also where that is why.
+/// The answer to a text that is refused for this reason, as `refusal` is in words: the value of the refusal, with
+/// `Status::Refused`. `AllocError` where memory ran out, also if that is the reason.
 pub fn refusal_answer(alloc: Global, text: &[u8], refused: Refused) -> Result<Answer, AllocError>
     requires { IsRefused text.now refused }
     ensures { IfOk result (λ a. IsJsonRefusal text.now a.text.items a.status) }
@@ -39,7 +39,7 @@ pub fn refusal_answer(alloc: Global, text: &[u8], refused: Refused) -> Result<An
     }
 }
 
-/// The value of the refusal of a text that is refused so. `AllocError` where memory ran out, also where that is why.
+/// The value of the refusal of a text for this reason. `AllocError` where memory ran out, also if that is the reason.
 pub fn refusal_json(alloc: Global, text: &[u8], refused: Refused) -> Result<Value, AllocError>
     requires { IsRefused text.now refused }
     ensures { IfOk result (λ value. IsRefusalData text.now (view value)) }
@@ -51,7 +51,7 @@ pub fn refusal_json(alloc: Global, text: &[u8], refused: Refused) -> Result<Valu
     }
 }
 
-// The answer to a text that isn't one of the grammar.
+// The answer to a text outside the grammar.
 fn parse_answer(alloc: Global, error: ParseError) -> Result<Answer, AllocError>
     ensures line { IfOk result (λ a. a.text.items ≡ line_of_data (parse_data error)) }
     ensures status { IfOk result (λ a. a.status ≡ Status.Refused) }
@@ -71,7 +71,7 @@ fn term_answer(alloc: Global, error: TermError) -> Result<Answer, AllocError>
     value_answer(alloc, &value, Status::Refused)
 }
 
-// A text that isn't one of the grammar.
+// The refusal of a text outside the grammar.
 fn parse_value(alloc: Global, error: ParseError) -> Result<Value, AllocError>
     ensures value { IfOk result (λ value. view value ≡ parse_data error) }
     ensures memory { OnOk result (error ≢ ParseError.NoMemory) }
@@ -98,7 +98,7 @@ fn refused_at(alloc: Global, name: &str, number: u64, place: usize) -> Result<Va
     json!(in alloc; {"answer": "refused", "name": name, "number": number, "place": place})
 }
 
-// A term that is no program.
+// The refusal of a term that is no program.
 fn term_value(alloc: Global, error: TermError) -> Result<Value, AllocError>
     ensures value { IfOk result (λ value. view value ≡ term_data error) }
     ensures memory { OnOk result (error ≢ TermError.NoMemory) }

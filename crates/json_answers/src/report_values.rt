@@ -12,7 +12,7 @@ use outcome_trace::{FiberReport, Report};
 use serde_json::{Value, json};
 use std::alloc::{AllocError, Global};
 
-/// A report: of each fiber its number, its outcome and its marks. `AllocError` where memory ran out.
+/// The value of a report: the number, the outcome and the marks of each fiber. `AllocError` where memory ran out.
 pub fn report_json(alloc: Global, report: &Report) -> Result<Value, AllocError>
     ensures { IfOk result (λ value. view value ≡ report_data report.now.fibers) }
 {
@@ -21,8 +21,8 @@ pub fn report_json(alloc: Global, report: &Report) -> Result<Value, AllocError>
     json!(in alloc; {"answer": "report", "fibers": fibers})
 }
 
-/// A fault of a run: its name, its number, and the band with its limit or the fiber where it has one. `AllocError`
-/// where memory ran out.
+/// The value of a fault of a run: its name, its number, and the band with its limit or the fiber, if the fault has one.
+/// `AllocError` where memory ran out.
 pub fn fault_json(alloc: Global, error: RunError) -> Result<Value, AllocError>
     ensures { IfOk result (λ value. view value ≡ fault_data error) }
 {
@@ -76,7 +76,7 @@ fn fiber_value(alloc: Global, number: usize, fiber: &FiberReport) -> Result<Valu
     json!(in alloc; {"fiber": number, "marks": marks, "outcome": outcome})
 }
 
-// How a fiber ended, or that it didn't.
+// The outcome of a fiber, or `unended`.
 fn outcome_value(alloc: Global, outcome: Option<Outcome>) -> Result<Value, AllocError>
     ensures { IfOk result (λ value. view value ≡ outcome_data outcome) }
 {

@@ -1,4 +1,4 @@
-//! Texts whose programs' schedules are sampled, answered in JSON.
+//! An order that samples a program's schedules, answered in JSON.
 
 ghost use Rattle.std.specs.Prelude.{IfOk};
 ghost use Rattle.json_answers.specs.FoundAnswers.{IsJsonSample, IsJsonSampled, IsNotedJsonSample};
@@ -12,12 +12,11 @@ use outcome_trace::{Answer, TextOrder, read_program};
 use sampled_schedules::sample;
 use std::alloc::{AllocError, Global};
 
-/// Tells in JSON what schedules of the program that the text spells come to, which are drawn at random, as
-/// `SampleOrder` does in words: the answers of the sample with its seed, or why the text is refused, with the same
-/// status.
+/// Answers a text in JSON as `SampleOrder` does in words, with the same status: by a sample of random schedules of its
+/// program, with the seed, or by the text's refusal.
 #[derive(Drop)]
 pub struct SampleJson {
-    /// What is sampled, by which seed, how often and how far.
+    /// The limits, the seed, the number and length of schedules, and the wanted outcomes.
     pub order: SampleOrder,
 }
 
@@ -60,7 +59,7 @@ impl NotedOrder for SampleJson {
     }
 }
 
-// What comes of a program under schedules that are drawn.
+// The answer to a program, by a sample of its schedules.
 fn sampled_answer(
     alloc: Global,
     program: &Program,

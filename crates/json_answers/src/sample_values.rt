@@ -14,8 +14,8 @@ use sampled_schedules::{Coming, Sample};
 use serde_json::{Value, json};
 use std::alloc::{AllocError, Global};
 
-/// A sample: what its schedules came to, in the order in which it came first, the seed and how many were drawn.
-/// `AllocError` where memory ran out.
+/// The value of a sample: the ends of its schedules, in the order in which they came first, the seed, and the number of
+/// schedules. `AllocError` where memory ran out.
 pub(crate) fn sample_json(
     alloc: Global,
     sample: &Sample,
@@ -29,7 +29,7 @@ pub(crate) fn sample_json(
     sample_value(alloc, answers, seed, sample.schedules)
 }
 
-// What schedules came to, the seed and how many were drawn.
+// The ends of schedules, the seed, and the number of schedules.
 fn sample_value(
     alloc: Global,
     answers: Vec<Value>,
@@ -42,7 +42,7 @@ fn sample_value(
     json!(in alloc; {"answer": "sample", "answers": answers, "seed": seed, "times": times})
 }
 
-// What schedules came to, in its order.
+// The values of the ends of schedules, in their order.
 fn coming_values(
     alloc: Global,
     comings: &[Coming],
@@ -59,7 +59,7 @@ fn coming_values(
     Ok(values)
 }
 
-// What some of the schedules came to.
+// The value of an end of schedules.
 fn coming_value(alloc: Global, coming: &Coming, wants: &[Want]) -> Result<Value, AllocError>
     requires { IsSpellable coming.now.answer }
     ensures { IfOk result (λ value. IsComingData wants.now coming.now (view value)) }
@@ -75,8 +75,8 @@ fn coming_value(alloc: Global, coming: &Coming, wants: &[Want]) -> Result<Value,
     )
 }
 
-// How many schedules came to a report or a fault, whether each of them was cut short, the first, and whether the end is
-// wanted.
+// A report or a fault, the number of its schedules, whether each of them was cut short, the first of them, and whether
+// the end is wanted.
 fn came_value(
     alloc: Global,
     times: u32,

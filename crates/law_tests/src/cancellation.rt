@@ -117,7 +117,7 @@ fn laws_of_cancellation_hold(rt: HostRuntime) -> Result<(), Fail> {
     Ok(())
 }
 
-// Terms that aren't equal, so that the tests can fail.
+// Terms that differ. They show that a comparison of two sides can fail.
 const OTHERWISE: &[Law<'static>] = &[
     Law {
         law: "a mask is seen by whoever cancels",
@@ -140,7 +140,7 @@ const OTHERWISE: &[Law<'static>] = &[
 ];
 
 #[test]
-fn other_terms_differ(rt: HostRuntime) -> Result<(), Fail> {
+fn terms_that_are_not_equal_have_different_ends(rt: HostRuntime) -> Result<(), Fail> {
     for law in OTHERWISE {
         assert!(rt; !holds(rt.alloc(), law, CANCELED)?, "{}", law.law);
     }

@@ -1,5 +1,5 @@
-//! Programs that end otherwise here than on the library's own fibers, or could be thought to: the outcomes of fiber 0
-//! under every schedule.
+//! The outcomes of fiber 0 under every schedule, for programs that end differently here than with the library's own
+//! fibers, or could be expected to.
 
 use crate::sides::{explored, first};
 use effect_term::Outcome;
@@ -134,7 +134,7 @@ fn comes(exploration: &Exploration, end: End) -> bool {
 }
 
 #[test]
-fn each_end_comes_and_no_other(rt: HostRuntime) -> Result<(), Fail> {
+fn fiber_0_has_exactly_the_listed_outcomes(rt: HostRuntime) -> Result<(), Fail> {
     for it in DIFFERENCES {
         let exploration = explored(rt.alloc(), "@", it.program)?;
         assert!(rt; exploration.complete, "{}", it.rule);

@@ -29,7 +29,7 @@ pub const JOINED: &str =
 pub const CANCELED: &str = "(ref r 0 (start f @ \
     (seq (cancel f) (join f x (say x) e (seq (say -1) (say e)) (say -2)) (get r))))";
 
-/// Programs for laws that hold whoever cancels.
+/// Programs for laws that hold whether or not another fiber cancels.
 pub const EVERYWHERE: &[&str] = &[ALONE, JOINED, CANCELED];
 
 /// Programs for laws of terms that no other fiber cancels.
@@ -38,7 +38,7 @@ pub const UNCANCELED: &[&str] = &[ALONE, JOINED];
 /// The program for laws of terms that start several fibers.
 pub const BY_ITSELF: &[&str] = &[ALONE];
 
-// Limits that small programs keep.
+// Limits for small programs.
 fn limits() -> Limits
     ensures { AreLimits result }
 {
@@ -50,7 +50,7 @@ fn limits() -> Limits
     }
 }
 
-/// The exploration of the program with this term.
+/// The exploration of the program `within` with this term in the place of `@`.
 pub fn explored(alloc: Global, within: &str, term: &str) -> Result<Exploration, Fail> {
     let Some((before, behind)) = within.split_once("@") else {
         return Err(Fail::new("there is no place for the term"));
@@ -72,7 +72,7 @@ pub fn explored(alloc: Global, within: &str, term: &str) -> Result<Exploration, 
     Ok(exploration)
 }
 
-// What a fiber said.
+// The values that a fiber said.
 fn said(alloc: Global, marks: &[Mark]) -> Result<Vec<Value>, AllocError> {
     let mut said = Vec::new(alloc);
     for mark in marks {
@@ -98,7 +98,7 @@ pub fn first(answer: &Answer) -> Option<&FiberReport> {
     }
 }
 
-// Whether fiber 0 has the same end in one of these.
+// Whether fiber 0 ends in the same way in one of the other answers.
 fn is_among(alloc: Global, one: &Answer, others: &[Answer]) -> Result<bool, AllocError> {
     let Some(fiber) = first(one) else {
         return Ok(false);
@@ -113,7 +113,7 @@ fn is_among(alloc: Global, one: &Answer, others: &[Answer]) -> Result<bool, Allo
     Ok(false)
 }
 
-// Whether each of these ends is among the others.
+// Whether fiber 0 ends in each of these answers as in one of the others.
 fn are_among(alloc: Global, ones: &[Answer], others: &[Answer]) -> Result<bool, AllocError> {
     for one in ones {
         if !is_among(alloc, one, others)? {

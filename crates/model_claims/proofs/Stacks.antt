@@ -1,4 +1,4 @@
--- One more word on a stack of truths.
+-- The stack of truths after one more word.
 use Rattle.std.proofs.Common.{◌≡◌, ◌<◌, ◌+◌, ◌++◌, ℕ, ℤ, Bool, List, [], ◌∷◌, Option, length, get_or, take, ap, sym, ◌∙◌}
 use Rattle.std.specs.List.{fold}
 use Rattle.std.proofs.lemmas.List.Sums.{fold_more}

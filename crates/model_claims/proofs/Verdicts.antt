@@ -1,4 +1,4 @@
--- The verdict that is computed is the one that the answers give.
+-- The computed verdict is the one that `IsJudged` states.
 use Rattle.std.proofs.Common.{◌≡◌, ℕ, Bool, true, false, List, Option, Some, None, refl, subst, sym, ap, ◌∙◌}
 use Rattle.model_claims.specs.Judging.{IsJudged, IsShown, plain_verdict, under}
 use Rattle.model_claims.specs.declared.judging.Rule.{Rule}
@@ -21,7 +21,7 @@ plain_is_judged rules.Every false ts None h = (refl, h)
 plain_is_judged rules.Some true ts None h = (refl, h)
 plain_is_judged rules.Some false ts None h = (refl, h)
 
--- the verdict under `fails`, turned once more, is the plain one
+-- the verdict under `fails`, exchanged once more, is the plain one
 pub is_judged : (rule : Rule) (fails closed : Bool) (ts : List Truth) (shown : Option ℕ) (v : Verdict) → IsShown rule ts shown → v ≡ under fails (plain_verdict rule shown closed) → IsJudged rule closed ts shown (under fails v)
 is_judged rule fails closed ts shown v h e =
     let P : Verdict → Type 0 = λ w. IsJudged rule closed ts shown w in

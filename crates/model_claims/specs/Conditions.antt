@@ -1,4 +1,4 @@
--- What a condition means at one answer: its words, one after another, on a stack of truths.
+-- The truth of a condition at one answer: its words run one after another on a stack of truths.
 use Rattle.std.specs.Prelude.{◌&&◌, ◌||◌, not, ◌-◌, ◌++◌, ℤ, Bool, true, false, List, [], ◌∷◌, Option, Some, None, length, take, slice_range}
 use Rattle.std.specs.List.{fold, slice_index_or}
 use Rattle.model_terms.specs.declared.source.Source.{Source}
@@ -27,7 +27,7 @@ top stack = slice_index_or stack (length stack - 1) false
 abbrev pub below : List Bool → List Bool
 below stack = take (length stack - 1) stack
 
--- the truth that a word puts on the stack
+-- the truth that a word pushes
 abbrev pub word_truth : Source → Condition → Seen → Option ℤ → Word → List Bool → Bool
 word_truth source c seen held words.Yes stack = true
 word_truth source c seen held words.No stack = false
@@ -44,7 +44,7 @@ word_truth source c seen held (words.Says who from to) stack =
 word_truth source c seen held (words.Late value) stack = is_late seen value
 word_truth source c seen held (words.Compares r comparison number) stack = compare_held comparison held number
 
--- what a word leaves of the stack
+-- the stack without the operands of a word
 abbrev pub word_rest : Word → List Bool → List Bool
 word_rest words.And stack = below (below stack)
 word_rest words.Or stack = below (below stack)
@@ -58,12 +58,12 @@ word_rest (words.Says who from to) stack = stack
 word_rest (words.Late value) stack = stack
 word_rest (words.Compares r comparison number) stack = stack
 
--- the stack behind a word
+-- the stack after a word
 abbrev pub step : Source → Condition → Seen → Option ℤ → List Bool → Word → List Bool
 step source c seen held stack word =
     word_rest word stack ++ (word_truth source c seen held word stack ∷ [])
 
--- whether a condition holds of an answer, where the ref that it speaks of held this
+-- whether a condition holds of an answer, if its ref held `held`
 abbrev pub holds : Source → Condition → Seen → Option ℤ → Bool
 holds source c seen held = top (fold (λ stack word. step source c seen held stack word) [] c.words.items)
 
@@ -80,11 +80,12 @@ abbrev pub value_if : Bool → Option ℤ → Option ℤ
 value_if true v = v
 value_if false v = None
 
--- the value of the ref at the moment at which this fiber read it; none where it is no watcher, or hasn't read
+-- the value of the ref that this fiber read; none if the fiber is no watcher, or hasn't read
 abbrev pub watched : SeenFiber → Option ℤ
 watched f = value_if (is_watcher f.name) (value_of f.outcome)
 
--- what one more moment says beside those before it: a claim on every answer is to hold at each, a claim on some at one
+-- the truth at one more moment joined to that at the moments before: a claim about every answer has to hold at each, a
+-- claim about some answer at one
 abbrev pub joint : Rule → Option Bool → Bool → Bool
 joint rule None b = b
 joint rules.Every (Some a) b = a && b
@@ -95,12 +96,12 @@ with_moment source claim seen known None = known
 with_moment source claim seen known (Some v) =
     Some (joint claim.rule known (holds source claim.condition seen (Some v)))
 
--- what the moments say at which the watchers read the ref; nothing where none has read
+-- the joint truth at the moments at which the watchers read the ref; none if none has read
 abbrev pub watched_truth : Source → Claim → Seen → Option Bool
 watched_truth source claim seen =
     fold (λ known f. with_moment source claim seen known (watched f)) None seen.fibers.items
 
--- ---- what an answer says of a claim
+-- ---- the truth of a claim at an answer
 abbrev pub probed_truth : Probe → Source → Claim → Seen → Option Bool
 probed_truth (probes.Watch name) source claim seen = watched_truth source claim seen
 probed_truth probes.Nothing source claim seen = Some (holds source claim.condition seen None)
@@ -111,7 +112,7 @@ abbrev pub truth_if : Bool → Option Bool → Option Bool
 truth_if true known = None
 truth_if false known = known
 
--- whether the condition of a claim holds of an answer; none where the answer says nothing of it
+-- whether the condition of a claim holds of an answer; none if the answer is a fault, or no watcher has read
 abbrev pub truth_of : Source → Claim → Seen → Option Bool
 truth_of source claim seen = truth_if seen.faulty (probed_truth claim.probe source claim seen)
 
@@ -124,6 +125,6 @@ abbrev pub truth_or_fault : Bool → Option Bool → Truth
 truth_or_fault true known = truths.Faulty
 truth_or_fault false known = as_truth known
 
--- the same, as a verdict takes it
+-- the truth of a claim at an answer, from which its verdict follows
 abbrev pub truth_in : Source → Claim → Seen → Truth
 truth_in source claim seen = truth_or_fault seen.faulty (probed_truth claim.probe source claim seen)

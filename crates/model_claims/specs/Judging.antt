@@ -1,4 +1,4 @@
--- What all answers of an exploration say of a claim.
+-- The verdict of a claim over all answers of an exploration.
 use Rattle.std.specs.Prelude.{◌≡◌, ◌<◌, ℕ, Bool, true, false, List, length, Option, Some, None}
 use Rattle.std.specs.List.{AllWithin, HoldsAt}
 use Rattle.model_claims.specs.declared.judging.Rule.{Rule}
@@ -8,21 +8,21 @@ use Rattle.model_claims.specs.declared.judging.Truth.TheVariants as truths
 use Rattle.model_claims.specs.declared.judging.Verdict.{Verdict}
 use Rattle.model_claims.specs.declared.judging.Verdict.TheVariants as verdicts
 
--- an answer that refutes a claim on every answer: the condition fails of it, or it is a fault
+-- whether an answer refutes a claim about every answer: the condition fails, or the answer is a fault
 abbrev pub refutes : Truth → Bool
 refutes truths.Holds = false
 refutes truths.Fails = true
 refutes truths.SaysNothing = false
 refutes truths.Faulty = true
 
--- an answer that meets a claim on some answer: the condition holds of it
+-- whether an answer meets a claim about some answer: the condition holds
 abbrev pub meets : Truth → Bool
 meets truths.Holds = true
 meets truths.Fails = false
 meets truths.SaysNothing = false
 meets truths.Faulty = false
 
--- an answer that decides a claim by itself
+-- whether an answer decides a claim by itself
 abbrev pub decides : Rule → Truth → Bool
 decides rules.Every t = refutes t
 decides rules.Some t = meets t
@@ -41,9 +41,9 @@ abbrev pub IsShown : Rule → List Truth → Option ℕ → Type 0
 IsShown rule ts (Some i) = IsFirst rule ts i
 IsShown rule ts None = NoneDecides rule ts
 
--- The verdict of a claim that isn't under `fails`, and the answer that is shown. A claim on every answer passes only
--- where there are no other answers and none refutes it, and fails only by an answer that refutes it; a claim on some
--- answer passes only by one that meets it, and fails only where there are no other answers and none meets it.
+-- The verdict of a claim that isn't under `fails`, and the answer that is shown. A claim about every answer fails only
+-- if an answer refutes it, and passes only if none does and there are no other answers. A claim about some answer
+-- passes only if an answer meets it, and fails only if none does and there are no other answers.
 abbrev pub IsJudged : Rule → Bool → List Truth → Option ℕ → Verdict → Type 0
 IsJudged rules.Every closed ts None verdicts.Passed = (closed ≡ true) × NoneDecides rules.Every ts
 IsJudged rules.Every closed ts None verdicts.Failed = ⊥
@@ -64,7 +64,7 @@ turned verdicts.Passed = verdicts.Failed
 turned verdicts.Failed = verdicts.Passed
 turned verdicts.Undecided = verdicts.Undecided
 
--- what a verdict is where the claim has to be refuted, and where it hasn't
+-- the verdict, with passed and failed exchanged if the flag is true
 abbrev pub under : Bool → Verdict → Verdict
 under true v = turned v
 under false v = v

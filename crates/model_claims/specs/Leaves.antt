@@ -1,4 +1,4 @@
--- What single words of a condition mean at one answer.
+-- The truth of single words of a condition at one answer.
 use Rattle.std.specs.Prelude.{◌&&◌, ◌||◌, ◌==◌, not, ℕ, ℤ, Bool, true, false, List, [], ◌∷◌, Option, Some, None, slice_range, codes, pos, int_lt}
 use Rattle.std.specs.List.{list_all, list_any, slice_get}
 use Rattle.std.specs.Option.{is_some}
@@ -44,13 +44,13 @@ wants_outcome w (outcomes.Succeeded v) = wants_value w v
 wants_outcome w (outcomes.Errored c) = wants_error w c
 wants_outcome w outcomes.Canceled = wants_cut w
 
--- a fiber ended in a wanted way: with that value, with any value, with that code, with any code, by a cancelation, or
--- not at all
+-- whether a fiber ended in a wanted way: with that value, with any value, with that code, with any code, by a
+-- cancelation, or not at all
 abbrev pub is_wanted : Wanted → Option Outcome → Bool
 is_wanted w None = wants_none w
 is_wanted w (Some o) = wants_outcome w o
 
--- ---- which fibers a condition speaks of
+-- ---- the fibers that a condition is about
 abbrev pub bytes_of : List ℕ → Option Form → List ℕ
 bytes_of text None = []
 bytes_of text (Some f) = slice_range text f.start f.end
@@ -63,7 +63,7 @@ abbrev pub is_number : Option ℕ → ℕ → Bool
 is_number None n = false
 is_number (Some m) n = m == n
 
--- whether a name, and a number in a row, are among those that a condition speaks of
+-- whether a condition about these fibers is about a fiber of this name and, if it is in a row, of this number
 abbrev pub has_name : Source → Who → List ℕ → Option ℕ → Bool
 has_name source whos.Everyone name number = true
 has_name source whos.Main name number = false
@@ -77,8 +77,8 @@ has_main whos.Main = true
 has_main (whos.Named start end) = false
 has_main (whos.OneOf start end n) = false
 
--- whether a condition on these fibers speaks of a fiber that is called so: `main` is fiber 0, a name is each fiber that
--- was started by it, or each of its row, and nobody speaks of a fiber that the file doesn't name
+-- whether a condition about these fibers is about the fibers of this name. `main` is fiber 0. A name means each fiber
+-- that was started by it, or each fiber of its row. No condition is about a fiber that the file doesn't name
 abbrev pub speaks_of : Source → Who → FiberName → Bool
 speaks_of source who names.Main = has_main who
 speaks_of source who (names.Word form) = has_name source who (spelling source form) None
@@ -89,23 +89,23 @@ speaks_of source who names.Watcher = false
 speaks_of source who names.Hidden = false
 
 -- ---- how fibers ended
--- whether a fiber has ended, where the condition speaks of it
+-- whether a fiber has ended, or isn't one of these fibers
 abbrev pub is_ended : Source → Who → SeenFiber → Bool
 is_ended source who f = not (speaks_of source who f.name) || is_some f.outcome
 
--- each of these fibers has ended
+-- whether each of these fibers has ended
 abbrev pub have_ended : Source → Seen → Who → Bool
 have_ended source seen who = list_all (λ f. is_ended source who f) seen.fibers.items
 
--- a fiber ended in one of these ways
+-- whether a fiber ended in one of these ways
 abbrev pub is_one_of : List Wanted → Option Outcome → Bool
 is_one_of wanted outcome = list_any (λ w. is_wanted w outcome) wanted
 
--- whether a fiber ended in one of these ways, where the condition speaks of it
+-- whether a fiber ended in one of these ways, or isn't one of these fibers
 abbrev pub ends_so : Source → Who → List Wanted → SeenFiber → Bool
 ends_so source who wanted f = not (speaks_of source who f.name) || is_one_of wanted f.outcome
 
--- each of these fibers ended in one of these ways
+-- whether each of these fibers ended in one of these ways
 abbrev pub end_so : Source → Seen → Who → List Wanted → Bool
 end_so source seen who wanted = list_all (λ f. ends_so source who wanted f) seen.fibers.items
 
@@ -117,32 +117,32 @@ says_of seen f = slice_range seen.says.items f.says_from f.says_to
 abbrev pub has_value : List ℤ → ℤ → Bool
 has_value said v = list_any (λ w. int_eq w v) said
 
--- each of these values was said
+-- whether each of these values was said
 abbrev pub has_said : List ℤ → List ℤ → Bool
 has_said said values = list_all (λ v. has_value said v) values
 
 abbrev pub said_all : Source → Seen → Who → List ℤ → SeenFiber → Bool
 said_all source seen who values f = speaks_of source who f.name && has_said (says_of seen f) values
 
--- one of these fibers said each of these values
+-- whether one of these fibers said each of these values
 abbrev pub one_said : Source → Seen → Who → List ℤ → Bool
 one_said source seen who values = list_any (λ f. said_all source seen who values f) seen.fibers.items
 
 abbrev pub says_so : Source → Seen → Who → List ℤ → SeenFiber → Bool
 says_so source seen who values f = not (speaks_of source who f.name) || pointwise int_eq (says_of seen f) values
 
--- each of these fibers said these values, in this order, and no more
+-- whether each of these fibers said exactly these values, in this order
 abbrev pub all_say : Source → Seen → Who → List ℤ → Bool
 all_say source seen who values = list_all (λ f. says_so source seen who values f) seen.fibers.items
 
--- the value that is said where the order was broken (`LATE` of `model_terms`)
+-- whether this is the value that a fiber says if the order was broken (`LATE` of `model_terms`)
 abbrev pub is_late_mark : ℤ → Bool
 is_late_mark v = int_eq v (pos 4611686018427387901)
 
 abbrev pub is_behind : Bool → ℤ → ℤ → Bool
 is_behind late x v = late && int_eq x v
 
--- whether this value is said right behind that one, of which the flag says whether it was the last before these
+-- whether this value is said directly after `LATE`. The flag says whether the value before the list is `LATE`
 abbrev pub follows_late : Bool → List ℤ → ℤ → Bool
 follows_late late [] v = false
 follows_late late (x ∷ xs) v = is_behind late x v || follows_late (is_late_mark x) xs v
@@ -159,7 +159,7 @@ compare comparisons.AtMost held number = not (int_lt number held)
 compare comparisons.Above held number = int_lt number held
 compare comparisons.AtLeast held number = not (int_lt held number)
 
--- whether what a ref held, if that is known, compares so with a number
+-- whether a comparison of the value that a ref held with a number holds; false if the value isn't known
 abbrev pub compare_held : Comparison → Option ℤ → ℤ → Bool
 compare_held comparison None number = false
 compare_held comparison (Some held) number = compare comparison held number

@@ -1,15 +1,15 @@
-//! One answer of an exploration, as far as claims speak of it.
+//! One answer of an exploration, as claims see it.
 
 use effect_term::{Outcome, Value};
 
-/// What a fiber is called in the file.
+/// The name of a fiber in the file.
 #[derive(Clone, Copy, PartialEq, Eq, Debug)]
 pub enum FiberName {
     /// Fiber 0.
     Main,
-    /// The name that a word of the file spells: the number of its form.
+    /// A word of the file: the number of its form.
     Word(usize),
-    /// One of a row, as `w.1`: the number of the form that spells the row's name, and its own number in the row.
+    /// A name of a row, as `w.1`: the number of the form that spells the row's name, and the number in the row.
     Row(usize, usize),
     /// The first fiber of a `race` or a `both`.
     Left,
@@ -24,23 +24,23 @@ pub enum FiberName {
 /// One fiber of an answer.
 #[derive(Clone, Copy)]
 pub struct SeenFiber {
-    /// What it is called in the file.
+    /// Its name in the file.
     pub name: FiberName,
-    /// How it ended; none where it hasn't ended.
+    /// Its outcome; none if the fiber hasn't ended.
     pub outcome: Option<Outcome>,
-    /// The number of the first value that it said, among those that all fibers said.
+    /// The index in [`Seen::says`] where the fiber's values begin.
     pub says_from: usize,
-    /// The number behind the last value that it said.
+    /// The index in [`Seen::says`] where the fiber's values end.
     pub says_to: usize,
 }
 
 /// One answer.
 #[derive(Drop)]
 pub struct Seen {
-    /// Its fibers, fiber 0 first; none where it is a fault.
+    /// Its fibers, fiber 0 first; empty for a fault.
     pub fibers: Vec<SeenFiber>,
-    /// The values that the fibers said, one fiber behind another, each in its order.
+    /// The values that the fibers said: those of each fiber in their order, fiber 0 first.
     pub says: Vec<Value>,
-    /// Whether it is a fault: a call was refused.
+    /// Whether the answer is a fault: a call was refused.
     pub faulty: bool,
 }

@@ -7,22 +7,22 @@ use model_terms::{Refused, Source};
 use model_text::{Item, Model, read_number};
 use std::alloc::Global;
 
-/// The bounds that a model sets; none where it leaves one to the command line.
+/// The bounds that a model sets. A bound is none if the model leaves it to the command line.
 #[derive(Clone, Copy)]
 pub struct Settings {
-    /// How many worlds are kept, from 1 to 100,000,000.
+    /// The greatest number of worlds that are kept, from 1 to 100,000,000.
     pub worlds: Option<u64>,
-    /// How many entries a schedule has at most, from 1 to 1,000,000.
+    /// The greatest number of entries of a schedule, from 1 to 1,000,000.
     pub entries: Option<u64>,
-    /// How many fibers there are at most, from 1 to 1000.
+    /// The greatest number of fibers, from 1 to 1000.
     pub fibers: Option<u64>,
-    /// How many refs there are at most, from 1 to 1000.
+    /// The greatest number of refs, from 1 to 1000.
     pub refs: Option<u64>,
-    /// How many deferreds there are at most, from 1 to 1000.
+    /// The greatest number of deferreds, from 1 to 1000.
     pub deferreds: Option<u64>,
-    /// How often a fiber can change its own state, from 1 to 1,099,511,627,775.
+    /// The number of times a fiber can change its own state, from 1 to 1,099,511,627,775.
     pub count: Option<u64>,
-    /// How many schedules are drawn, from 1 to 1,000,000.
+    /// The number of schedules that are drawn, from 1 to 1,000,000.
     pub times: Option<u64>,
     /// The seed of the drawing, from 0 to 4,611,686,018,427,387,903.
     pub seed: Option<u64>,
@@ -41,7 +41,7 @@ enum Bound {
     Seed,
 }
 
-// The bound that these bytes are the word of, if any.
+// The bound whose word these bytes spell, if any.
 fn bound_of(bytes: &[u8]) -> Option<Bound> {
     match bytes {
         b"worlds" => Some(Bound::Worlds),
@@ -84,7 +84,7 @@ fn most(bound: Bound) -> u64 {
     }
 }
 
-// The numbers of a bound, as a fault tells them.
+// The message of a fault that gives the range of a bound.
 fn range_words(bound: Bound) -> &'static str {
     match bound {
         Bound::Worlds => "a number from 1 to 100000000 was wanted",
@@ -126,8 +126,8 @@ fn no_settings() -> Settings {
     }
 }
 
-/// The bounds of a model: those of the file's defaults above it, and then its own; a later one counts. The fault is that
-/// of a number out of range, at the number.
+/// Returns the bounds of a model. Its own bounds override those of the file's defaults above it, and a later bound
+/// overrides an earlier one. A number out of range is a fault at the place of the number.
 pub fn read_settings(alloc: Global, source: &Source, model: &Model) -> Result<Settings, Refused> {
     let mut settings = no_settings();
     for item in source.file.items.as_slice() {
@@ -164,7 +164,7 @@ fn set_all(
     Ok(())
 }
 
-// Sets the bound with this number; nothing where it is none.
+// Sets the bound with this number; nothing if the form is no bound with one part.
 fn set_one(
     alloc: Global,
     source: &Source,
@@ -186,7 +186,7 @@ fn set_one(
     }
 }
 
-// The number that a word is, where it isn't negative.
+// The number that a word spells, if it isn't negative.
 fn amount_at(source: &Source, at: usize) -> Option<u64> {
     let number = read_number(word_at(source, at))?;
     u64::try_from(number.get()).ok()

@@ -8,7 +8,7 @@ use model_terms::Probe;
 /// A way to end that a `want` names.
 #[derive(Clone, Copy)]
 pub struct Want {
-    /// The number of the form that names it.
+    /// The number of the form that names the way to end.
     pub form: usize,
     /// The way to end.
     pub outcome: Wanted,
@@ -19,18 +19,18 @@ pub struct Want {
 pub struct Claim {
     /// The number of the form of the whole claim, among the forms of the file.
     pub form: usize,
-    /// Whether it has to be refuted: an odd number of `fails` stands around it.
+    /// Whether the claim has to be refuted: an odd number of `fails` encloses it.
     pub fails: bool,
-    /// Whether it speaks of every answer or of some answer.
+    /// Whether the claim is about every answer or about some answer.
     pub rule: Rule,
-    /// What has to be put into the term, so that its answers tell what the condition speaks of.
+    /// The addition to the term by which its answers show what the condition is about.
     pub probe: Probe,
-    /// What has to hold of an answer.
+    /// The condition that an answer has to meet.
     pub condition: Condition,
-    /// What has to hold of each moment, or of some, where the claim is looked at in each world in place of the answers.
+    /// The condition that each moment, or some moment, has to meet. None if the claim is judged by answers alone.
     pub moment: Option<Vec<MomentWord>>,
-    /// The ways to end that a `want` names, in its order; none of another claim.
+    /// The ways to end that a `want` names, in its order; empty for another claim.
     pub wants: Vec<Want>,
-    /// Whether no list of answers decides it where none does so by itself.
+    /// Whether the claim is undecided unless one answer decides it by itself.
     pub blind: bool,
 }

@@ -1,4 +1,4 @@
-//! Conditions, from their forms.
+//! Compiles forms to conditions.
 
 use crate::condition::{Comparison, Condition, Wanted, Who, Word};
 use crate::faults::plain_fault;
@@ -12,7 +12,7 @@ use model_forms::Block;
 use model_terms::Refused;
 use std::alloc::{AllocError, Global};
 
-/// The wording where a way to end is wanted.
+/// The message where a way to end was wanted.
 pub(crate) const OUTCOME_WANTED: &str =
     "an outcome was wanted: V, (succeeded V), (errored C), succeeded, errored, canceled or unended";
 
@@ -29,15 +29,15 @@ enum Join {
 // What is left to do.
 #[derive(Clone, Copy)]
 enum Task {
-    // The words of the condition with this number.
+    // Compile the condition with this number.
     Condition(usize),
-    // The words of the conditions of this block, each joined to those before it.
+    // Compile the conditions of this block, each joined to those before it.
     Each(Block, Join),
-    // This word.
+    // Add this word.
     Put(Word),
 }
 
-/// Adds the words of the condition with this number. `subjects` gets what it speaks of.
+/// Adds the words of the condition with this number, and what the condition is about to `subjects`.
 pub(crate) fn compile(
     alloc: Global,
     place: &Place,
@@ -68,7 +68,7 @@ fn no_condition(alloc: Global, place: &Place, at: usize) -> Refused {
     plain_fault(alloc, place.source, "E20", at, CONDITION_WANTED)
 }
 
-// Does what is next.
+// Does one task.
 fn make(
     alloc: Global,
     place: &Place,
@@ -98,7 +98,7 @@ fn joining(join: Join) -> Word {
     }
 }
 
-// Puts the first condition of a block next, the word that joins it behind it, and behind that the rest of the block.
+// Adds the tasks for a block: its first condition, then the word that joins it, then the rest of the block.
 fn each(place: &Place, block: Block, join: Join, tasks: &mut Vec<Task>) -> Result<(), AllocError> {
     let Some(first) = first_at(place.source, block) else {
         return Ok(());
@@ -109,7 +109,7 @@ fn each(place: &Place, block: Block, join: Join, tasks: &mut Vec<Task>) -> Resul
     Ok(())
 }
 
-// The condition with this number.
+// Compiles the condition with this number, or adds the tasks for it.
 fn one(
     alloc: Global,
     place: &Place,
@@ -142,7 +142,7 @@ fn one(
     }
 }
 
-// `and` and `or`: what holds of no conditions, and how each further one is joined.
+// `and` and `or`: adds the truth of no conditions, and a task that joins each condition of the form to it.
 fn joined(
     place: &Place,
     at: usize,
@@ -183,7 +183,7 @@ fn ended(
     Ok(())
 }
 
-// The fibers that a leaf speaks of: those that the first of its parts names.
+// The fibers that a leaf is about: those that its first part names.
 fn who_of(
     alloc: Global,
     place: &Place,
@@ -201,7 +201,7 @@ fn who_of(
     Ok(who)
 }
 
-// Notes that a condition speaks of these fibers.
+// Records that a condition is about these fibers.
 fn speak_of(place: &Place, who: Who, subjects: &mut Subjects) {
     subjects.fibers = true;
     if needs_names(place, who) {
@@ -300,7 +300,7 @@ fn says(
     Ok(())
 }
 
-// Adds the numbers of a block, a part of the condition with this number.
+// Adds the numbers of a block. `at` is the number of the condition that has the block.
 fn push_values(
     alloc: Global,
     place: &Place,
@@ -322,7 +322,7 @@ fn push_values(
     Ok(())
 }
 
-// `(= r v)` and its like.
+// `(= r v)` and the other comparisons.
 fn compares(
     alloc: Global,
     place: &Place,

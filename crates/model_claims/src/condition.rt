@@ -3,21 +3,21 @@
 use effect_term::Value;
 use std::alloc::Global;
 
-/// Which fibers a condition speaks of.
+/// The fibers that a condition is about.
 #[derive(Clone, Copy)]
 pub enum Who {
     /// Each fiber that the file names.
     Everyone,
     /// Fiber 0.
     Main,
-    /// Each fiber that was started by a name, or each of its row: the bytes of the source that spell it, from the
-    /// first number up to the second.
+    /// Each fiber that was started by a name, or each fiber of a row: the places in the source where the name begins
+    /// and ends.
     Named(usize, usize),
-    /// One of a row, as `w.1`: the bytes that spell the row's name, and its number in the row.
+    /// One fiber of a row, as `w.1`: the places where the row's name begins and ends, and the number in the row.
     OneOf(usize, usize, usize),
 }
 
-/// How a fiber is wanted to end.
+/// A way to end that is wanted of a fiber.
 #[derive(Clone, Copy)]
 pub enum Wanted {
     /// With any value.
@@ -51,7 +51,7 @@ pub enum Comparison {
     AtLeast,
 }
 
-/// A word of a condition. It takes what it needs from a stack of truths, and puts one truth there.
+/// A word of a condition. A word pops its operands from a stack of truths and pushes one truth.
 #[derive(Clone, Copy)]
 pub enum Word {
     /// True.
@@ -66,30 +66,31 @@ pub enum Word {
     Not,
     /// Whether each of these fibers has ended.
     Ended(Who),
-    /// Whether each of these fibers ended in one of the wanted ways from the first number up to the second.
+    /// Whether each of these fibers ended in one of the ways in this range of [`Condition::outcomes`].
     Ends(Who, usize, usize),
-    /// Whether one of these fibers said each of the values from the first number up to the second.
+    /// Whether one of these fibers said each of the values in this range of [`Condition::values`].
     Said(Who, usize, usize),
-    /// Whether each of these fibers said the values from the first number up to the second, in this order, and no more.
+    /// Whether each of these fibers said exactly the values in this range of [`Condition::values`], in this order.
     Says(Who, usize, usize),
-    /// Whether some fiber said this value right behind [`LATE`](model_terms::LATE).
+    /// Whether some fiber said this value directly after [`LATE`](model_terms::LATE).
     Late(Value),
-    /// Whether the ref's value compares so with this number. Before that the ref's own number, where the term tells it.
+    /// Whether this comparison of a ref's value with this number holds. The first field is the number of the ref, if
+    /// the term determines it.
     Compares(Option<u16>, Comparison, Value),
 }
 
 /// A condition over one answer: words that leave one truth on a stack.
 #[derive(Drop)]
 pub struct Condition {
-    /// Its words, each behind those whose truths it takes.
+    /// Its words in postfix order: each comes after the words whose truths it pops.
     pub words: Vec<Word>,
-    /// The wanted ways to end that its words name by their numbers.
+    /// The wanted ways to end that its words name by index.
     pub outcomes: Vec<Wanted>,
-    /// The values that its words name by their numbers.
+    /// The values that its words name by index.
     pub values: Vec<Value>,
 }
 
-/// A condition with no words yet.
+/// Returns a condition without words.
 pub(crate) fn empty_condition(alloc: Global) -> Condition {
     let words = Vec::new(alloc);
     let outcomes = Vec::new(alloc);

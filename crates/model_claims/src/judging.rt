@@ -1,9 +1,9 @@
-//! What all answers of an exploration say of a claim.
+//! The verdict of a claim over all answers of an exploration.
 
 ghost use Rattle.std.specs.Prelude.{◌≡◌, ◌&&◌, not};
 ghost use Rattle.model_claims.specs.Judging.{IsJudged, IsShown, decides, plain_verdict, turned, under};
 
-/// Whether a claim speaks of every answer or of some answer.
+/// Whether a claim is about every answer or about some answer.
 #[derive(Clone, Copy, PartialEq, Eq, Debug)]
 pub enum Rule {
     /// Every answer meets the condition.
@@ -12,37 +12,37 @@ pub enum Rule {
     Some,
 }
 
-/// What one answer says of a condition.
+/// The truth of a condition at one answer.
 #[derive(Clone, Copy, PartialEq, Eq, Debug)]
 pub enum Truth {
-    /// The condition holds of it.
+    /// The condition holds of the answer.
     Holds,
-    /// The condition doesn't hold of it.
+    /// The condition doesn't hold of the answer.
     Fails,
-    /// It has nothing that the condition speaks of.
+    /// The answer has nothing that the condition is about.
     SaysNothing,
-    /// It is a fault: a call was refused.
+    /// The answer is a fault: a call was refused.
     Faulty,
 }
 
 /// Whether a claim holds.
 #[derive(Clone, Copy, PartialEq, Eq, Debug)]
 pub enum Verdict {
-    /// It holds.
+    /// The claim holds.
     Passed,
-    /// It doesn't hold.
+    /// The claim doesn't hold.
     Failed,
-    /// A bound was met, and no answer that was found decides it.
+    /// A bound was met, and no answer that was found decides the claim.
     Undecided,
 }
 
-/// A verdict, and the answer that decides it.
+/// A verdict, and the answer that decides the claim.
 #[derive(Clone, Copy, PartialEq, Eq, Debug)]
 pub struct Judged {
     /// The verdict.
     pub verdict: Verdict,
-    /// The number of the first answer that decides the claim: one that refutes a claim on every answer, or one that
-    /// meets a claim on some answer. None where no answer does.
+    /// The number of the first answer that decides the claim: one that refutes a claim about every answer, or one that
+    /// meets a claim about some answer. None if no answer does.
     pub shown: Option<usize>,
 }
 
@@ -66,7 +66,7 @@ fn decides(rule: Rule, truth: Truth) -> bool
     }
 }
 
-// The number of the first answer that decides a claim.
+// The number of the first answer that decides a claim, if any.
 fn first_decisive(truths: &[Truth], rule: Rule) -> Option<usize>
     ensures { IsShown rule truths.now result }
 {
@@ -109,7 +109,7 @@ fn turned(verdict: Verdict) -> Verdict
     }
 }
 
-/// What a verdict is where the claim has to be refuted, and where it hasn't.
+/// Returns the verdict, with passed and failed exchanged if `fails`.
 pub fn under(fails: bool, verdict: Verdict) -> Verdict
     ensures { result ≡ under fails verdict }
 {
@@ -122,9 +122,9 @@ fn is_closed(complete: bool, blind: bool) -> bool
     complete && !blind
 }
 
-/// The verdict of a claim over the answers that were found, and the first answer that decides it. `fails` says that the
-/// claim has to be refuted, `complete` that there are no other answers, and `blind` that answers decide the claim only
-/// where one of them does so by itself.
+/// Returns the verdict of a claim over the answers that were found, and the first answer that decides the claim.
+/// `fails` says that the claim has to be refuted, `complete` that there are no other answers, and `blind` that the
+/// claim is undecided unless one answer decides it by itself.
 pub fn judge(truths: &[Truth], rule: Rule, fails: bool, complete: bool, blind: bool) -> Judged
     ensures shown { IsShown rule truths.now result.shown }
     ensures verdict { IsJudged rule (complete && not blind) truths.now result.shown (under fails result.verdict) }

@@ -1,4 +1,4 @@
-//! What single words of a condition mean at one answer.
+//! The truth of single words of a condition at one answer.
 
 ghost use Rattle.std.specs.Prelude.{◌≡◌, ◌&&◌, false, slice_range};
 ghost use Rattle.std.specs.Cmp.Lexicographic.{pointwise};
@@ -15,7 +15,7 @@ use crate::parts::bytes_at;
 use effect_term::{Outcome, Value};
 use model_terms::{LATE, Source};
 
-/// Whether a fiber ended in this wanted way; none where it hasn't ended.
+/// Whether a fiber with this outcome ended in this wanted way. The outcome is none if the fiber hasn't ended.
 pub fn is_wanted(wanted: Wanted, outcome: Option<Outcome>) -> bool
     ensures { result ≡ is_wanted wanted outcome }
 {
@@ -73,7 +73,7 @@ fn wants_cut(wanted: Wanted) -> bool
     }
 }
 
-/// Whether a condition on these fibers speaks of a fiber that is called so.
+/// Whether a condition about these fibers is about the fibers of this name.
 pub(crate) fn speaks_of(source: &Source, who: Who, name: FiberName) -> bool
     ensures { result ≡ speaks_of source.now who name }
 {
@@ -88,7 +88,7 @@ pub(crate) fn speaks_of(source: &Source, who: Who, name: FiberName) -> bool
     }
 }
 
-// Whether a condition on these fibers speaks of fiber 0.
+// Whether a condition about these fibers is about fiber 0.
 fn has_main(who: Who) -> bool
     ensures { result ≡ has_main who }
 {
@@ -100,7 +100,7 @@ fn has_main(who: Who) -> bool
     }
 }
 
-// Whether a condition on these fibers speaks of one of this name, and this number in a row.
+// Whether a condition about these fibers is about a fiber of this name and, if it is in a row, of this number.
 fn has_name(source: &Source, who: Who, name: &[u8], number: Option<usize>) -> bool
     ensures { result ≡ has_name source.now who name.now number }
 {
@@ -123,7 +123,7 @@ fn is_number(number: Option<usize>, wanted: usize) -> bool
     }
 }
 
-// Whether a fiber has ended, where the condition speaks of it.
+// Whether a fiber has ended, or isn't one of these fibers.
 fn is_ended(source: &Source, who: Who, fiber: &SeenFiber) -> bool
     ensures { result ≡ is_ended source.now who fiber.now }
 {
@@ -142,7 +142,7 @@ pub(crate) fn have_ended(source: &Source, seen: &Seen, who: Who) -> bool
     true
 }
 
-// Whether a fiber ended in one of these ways, where the condition speaks of it.
+// Whether a fiber ended in one of these ways, or isn't one of these fibers.
 fn ends_so(source: &Source, who: Who, wanted: &[Wanted], fiber: &SeenFiber) -> bool
     ensures { result ≡ ends_so source.now who wanted.now fiber.now }
 {
@@ -173,7 +173,7 @@ fn is_one_of(wanted: &[Wanted], outcome: &Option<Outcome>) -> bool
     false
 }
 
-// The values from one number up to another.
+// The values from index `from` up to `to`.
 pub(crate) fn values_between(values: &[Value], from: usize, to: usize) -> &[Value]
     ensures { result.now ≡ slice_range values.now from to }
 {
@@ -213,7 +213,7 @@ fn has_said(said: &[Value], values: &[Value]) -> bool
     true
 }
 
-// Whether the condition speaks of a fiber, and it said each of these values.
+// Whether a fiber is one of these fibers and said each of these values.
 fn said_all(source: &Source, seen: &Seen, who: Who, values: &[Value], fiber: &SeenFiber) -> bool
     ensures { result ≡ said_all source.now seen.now who values.now fiber.now }
 {
@@ -232,21 +232,21 @@ pub(crate) fn one_said(source: &Source, seen: &Seen, who: Who, values: &[Value])
     false
 }
 
-// Whether these are the same values.
+// Whether the two lists are equal.
 fn are_same(one: &[Value], other: &[Value]) -> bool
     ensures { result ≡ pointwise int_eq one.now other.now }
 {
     one == other
 }
 
-// Whether a fiber said these values alone, where the condition speaks of it.
+// Whether a fiber said exactly these values, or isn't one of these fibers.
 fn says_so(source: &Source, seen: &Seen, who: Who, values: &[Value], fiber: &SeenFiber) -> bool
     ensures { result ≡ says_so source.now seen.now who values.now fiber.now }
 {
     !speaks_of(source, who, fiber.name) || are_same(says_of(seen, fiber), values)
 }
 
-/// Whether each of these fibers said these values, in this order, and no more.
+/// Whether each of these fibers said exactly these values, in this order.
 pub(crate) fn all_say(source: &Source, seen: &Seen, who: Who, values: &[Value]) -> bool
     ensures { result ≡ all_say source.now seen.now who values.now }
 {
@@ -258,7 +258,7 @@ pub(crate) fn all_say(source: &Source, seen: &Seen, who: Who, values: &[Value]) 
     true
 }
 
-/// Whether some fiber said this value right behind [`LATE`].
+/// Whether some fiber said this value directly after [`LATE`].
 pub(crate) fn is_late(seen: &Seen, value: &Value) -> bool
     ensures { result ≡ is_late seen.now value.now }
 {
@@ -270,21 +270,21 @@ pub(crate) fn is_late(seen: &Seen, value: &Value) -> bool
     false
 }
 
-// Whether this value is the one that is said where the order was broken.
+// Whether this value is `LATE`, which a fiber says if the order was broken.
 fn is_late_mark(value: &Value) -> bool
     ensures { result ≡ is_late_mark value.now }
 {
     value.get() == LATE
 }
 
-// Whether this is the value that is looked for, where the one before it is `LATE`.
+// Whether `one` equals `value` and comes directly after `LATE`. `late`: the value before `one` is `LATE`.
 fn is_behind(late: bool, one: &Value, value: &Value) -> bool
     ensures { result ≡ is_behind late one.now value.now }
 {
     late && one.get() == value.get()
 }
 
-// Whether this value stands right behind `LATE`.
+// Whether this value comes directly after `LATE`.
 #[tactic(auto, using(crate::proofs::Orders::follows_on, crate::proofs::Orders::follows_here, crate::proofs::Orders::follows_nowhere))]
 fn follows_late(said: &[Value], value: &Value) -> bool
     ensures { result ≡ follows_late false said.now value.now }
@@ -299,7 +299,7 @@ fn follows_late(said: &[Value], value: &Value) -> bool
     false
 }
 
-/// Whether a ref's value compares so with a number.
+/// Whether a comparison of a ref's value with a number holds.
 pub(crate) fn compare(comparison: Comparison, held: Value, number: Value) -> bool
     ensures { result ≡ compare comparison held number }
 {

@@ -1,18 +1,18 @@
-//! What a model claims, and whether what was found meets it.
+//! The claims of a model, and their verdicts.
 //!
-//! It stands on the forms and items of a model file (`model_forms`, `model_text`), on the terms of its models
-//! (`model_terms`) and on the outcomes of fibers (`effect_term`). [`read_claims`] reads the claims of a model, each with
-//! what has to be put into its term and a [`Condition`] over one answer, or with its [`MomentWord`]s where it is looked at
-//! in each world, or returns the first fault with its place;
-//! [`read_settings`] reads its bounds. [`truth_in`] returns what one answer says of a claim, and [`judge`] the verdict
-//! over all answers. No function here calls itself, so claims nest to any depth.
+//! This crate uses the forms and items of a model file (`model_forms`, `model_text`), the terms of its models
+//! (`model_terms`) and the outcomes of fibers (`effect_term`). [`read_claims`] reads the claims of a model, or returns
+//! the first fault with its place. A [`Claim`] has a [`Condition`] over one answer and the probe that its term needs; a
+//! claim that is checked in each world has [`MomentWord`]s. [`read_settings`] reads the bounds of a model. [`truth_in`]
+//! returns the truth of a claim at one answer, and [`judge`] the verdict over all answers. No function here calls
+//! itself, so claims nest to any depth.
 //!
-//! It promises the verdict of [`judge`]: a claim on every answer passes only where there are no other answers and none
-//! refutes it, and fails only by an answer that refutes it; a claim on some answer passes only by one that meets it, and
-//! fails only where there are no other answers and none meets it; `fails` turns the two; else it is undecided. The
-//! answer that is shown is the first that decides. It promises that [`truth_of`] and [`truth_in`] run the words of a
-//! condition over the fibers of the answer, as `specs/Conditions.antt` says. Of [`read_claims`] and [`read_settings`]
-//! nothing is promised but that they are safe and end.
+//! It promises the verdict of [`judge`]. A claim about every answer fails only if an answer refutes it, and passes only
+//! if none does and there are no other answers. A claim about some answer passes only if an answer meets it, and fails
+//! only if none does and there are no other answers. Otherwise a claim is undecided. `fails` exchanges passed and
+//! failed. The shown answer is the first that decides. [`truth_of`] and [`truth_in`] are proved to run the words of a
+//! condition over the fibers of the answer, as `specs/Conditions.antt` states. For [`read_claims`] and
+//! [`read_settings`] only safety and termination are proved.
 #![tactic(auto)]
 
 mod answer;

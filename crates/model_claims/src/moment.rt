@@ -1,15 +1,15 @@
-//! Claims at any moment, as a search takes them that looks at each world.
+//! Claims at any moment, in the form that a search checks in each world.
 
 use crate::condition::{Comparison, Word};
 use effect_term::Value;
 use std::alloc::{AllocError, Global};
 
-/// A word of what is claimed of a moment. The words stand in postfix order, over a stack of truths: a comparison puts
-/// its truth on the stack, and the others take the last one or two off and put theirs on.
+/// A word of a condition on a moment. The words are in postfix order, for a stack of truths: a comparison pushes its
+/// truth, and each other word pops one or two truths and pushes its own.
 #[derive(Clone, Copy)]
 pub enum MomentWord {
-    /// Whether the value of the ref of this number compares so with this number. Refs have their numbers from 0 on, in
-    /// the order in which they are made.
+    /// Whether this comparison of a ref's value with a number holds. The first field is the ref's number: refs are
+    /// numbered from 0, in the order in which they are made.
     Compares(u16, Comparison, Value),
     /// Whether the last truth is false.
     Not,
@@ -19,8 +19,8 @@ pub enum MomentWord {
     Or,
 }
 
-/// The words of a condition, as a search takes them that looks at each world. None where they speak of more than refs
-/// whose numbers are known.
+/// Returns the words of a condition in the form that a search checks in each world. None unless the condition compares
+/// refs whose numbers are known, and is about nothing else.
 pub(crate) fn moment_words(
     alloc: Global,
     words: &[Word],
@@ -59,8 +59,8 @@ fn compared(number: Option<u16>, comparison: Comparison, value: Value) -> Option
     Some(MomentWord::Compares(number, comparison, value))
 }
 
-// A word of a condition whose first ref has this number. What is always true is that the ref holds at least the least
-// value, and what is never true that it holds less.
+// Translates a word of a condition, or returns none if the word is about fibers or a ref of unknown number. `Yes`
+// becomes a comparison that always holds: the ref `first` holds at least the least value. `No` becomes its opposite.
 fn moment_word(first: u16, word: Word) -> Option<MomentWord> {
     match word {
         Word::Yes => Some(MomentWord::Compares(first, Comparison::AtLeast, least_value())),

@@ -10,14 +10,14 @@ use model_terms::{Binder, BinderName, ModelTerm, NameKind, Refused, Source};
 use model_text::read_number;
 use std::alloc::{AllocError, Global};
 
-/// A name that a claim spells: that of one, or of a whole row; or that of one of a row, as `w.1`.
+/// A name that a claim spells: of one fiber or ref, of a whole row, or of one of a row, as `w.1`.
 #[derive(Clone, Copy)]
 pub(crate) struct Spelled {
-    /// The number of bytes of the source before the name, or before the row's.
+    /// The number of bytes of the source before the name, or before the row's name.
     pub start: usize,
-    /// The number of bytes up to its end.
+    /// The number of bytes of the source up to the end of this name.
     pub end: usize,
-    /// The number in the row, where one is spelled.
+    /// The number in the row, if one is spelled.
     pub number: Option<usize>,
 }
 
@@ -52,7 +52,7 @@ fn whole(start: usize, end: usize) -> Spelled {
     }
 }
 
-// The number behind the dot of a name.
+// The number behind the dot of a name, if it is one.
 fn row_number(word: &[u8], dot: usize) -> Option<usize> {
     let digits = word.get(dot.saturating_add(1)..)?;
     let number = read_number(digits)?;
@@ -69,7 +69,7 @@ pub(crate) fn bytes_between(source: &Source, start: usize, end: usize) -> &[u8]
     &text[start..end]
 }
 
-/// The bytes of the form that spells a binder's name; nothing of a binder that the file doesn't name.
+/// The bytes of the form that spells a binder's name; empty if the file doesn't name the binder.
 pub(crate) fn binder_bytes(source: &Source, name: BinderName) -> &[u8] {
     match name {
         BinderName::Word(form) => bytes_at(source, form),
@@ -79,7 +79,7 @@ pub(crate) fn binder_bytes(source: &Source, name: BinderName) -> &[u8] {
     }
 }
 
-/// Whether a binder of the term has the name that is spelled so: its own, its row's, or its row's with its number.
+/// Whether a spelled name is that of a binder: its own name, its row's name, or its row's name with its number.
 pub(crate) fn has_spelling(source: &Source, name: BinderName, spelled: Spelled) -> bool {
     if !fits_number(name, spelled.number) {
         return false;
@@ -88,7 +88,7 @@ pub(crate) fn has_spelling(source: &Source, name: BinderName, spelled: Spelled) 
     !own.is_empty() && own == bytes_between(source, spelled.start, spelled.end)
 }
 
-// Whether a binder is the one with this number of a row, where a number is spelled.
+// Whether a binder has this number in its row; true if no number is spelled.
 fn fits_number(name: BinderName, number: Option<usize>) -> bool {
     match number {
         None => true,
@@ -123,7 +123,7 @@ pub(crate) fn is_ref(kind: NameKind) -> bool {
     }
 }
 
-/// The fibers that the word with this number names, or the fault that none is called so.
+/// The fibers that the word with this number names, or the fault that no fiber has this name.
 pub(crate) fn who_at(alloc: Global, place: &Place, at: usize) -> Result<Who, Refused> {
     match word_at(place.source, at) {
         b"main" => Ok(Who::Main),
@@ -144,7 +144,7 @@ fn named_at(alloc: Global, place: &Place, at: usize) -> Result<Who, Refused> {
     }
 }
 
-// Whether a fiber of the term is called so.
+// Whether a fiber of the term has this name.
 fn is_fiber_name(place: &Place, at: usize, spelled: Spelled) -> bool {
     match word_at(place.source, at) {
         b"left" if has_pair(place.term) => true,
@@ -175,7 +175,8 @@ pub(crate) fn has_pair(term: &ModelTerm) -> bool {
     false
 }
 
-/// Whether an answer tells which fibers these are by their names alone: `*` leaves out those without a name.
+/// Whether these fibers of an answer are known only by their names. Of `*` this holds if the term has fibers without a
+/// name, which `*` leaves out.
 pub(crate) fn needs_names(place: &Place, who: Who) -> bool {
     match who {
         Who::Main => false,
@@ -195,7 +196,7 @@ fn has_nameless(term: &ModelTerm) -> bool {
     false
 }
 
-// The fault that no fiber is called so.
+// The fault that no fiber has this name.
 fn no_fiber(alloc: Global, place: &Place, at: usize) -> Refused {
     match fiber_names(alloc, place) {
         Ok(names) => unknown_name(
@@ -226,7 +227,7 @@ fn fiber_names(alloc: Global, place: &Place) -> Result<Names, AllocError> {
     Ok(names)
 }
 
-/// No names.
+/// An empty list of names.
 pub(crate) fn no_names(alloc: Global) -> Names {
     let text = Vec::new(alloc);
     let ends = Vec::new(alloc);

@@ -1,4 +1,4 @@
-//! Whether the numbers of a model's fibers tell their names.
+//! Whether the numbers of a model's fibers determine their names.
 
 use crate::straight::word_behind;
 use std::alloc::{AllocError, Global};
@@ -6,13 +6,13 @@ use std::alloc::{AllocError, Global};
 // What a form does with its parts that are terms.
 #[derive(Clone, Copy)]
 enum Way {
-    // Its fiber runs them one after the other, whatever they come to.
+    // Its fiber runs them one after another, whatever values they give.
     InOrder,
-    // The first is what another fiber runs; its own fiber runs the second.
+    // Another fiber runs the first; its own fiber runs the second.
     Starts,
     // Other fibers run them.
     Pairs,
-    // Its fiber may leave one out, or run it again.
+    // Its fiber can skip one or repeat one.
     Otherwise,
 }
 
@@ -20,14 +20,14 @@ enum Way {
 #[derive(Clone, Copy)]
 struct Open {
     way: Way,
-    // How many of its parts that are terms began.
+    // The number of its parts that are terms and have begun.
     parts: usize,
-    // Whether main comes to it once, in the order of the text, unless it stops before.
+    // Whether main reaches the form once, in the order of the text, unless main stops earlier.
     is_on_the_way: bool,
 }
 
-/// Whether a fiber's number tells its name, whatever the schedule: main starts all fibers, in the order of the text, or
-/// there is only one form that starts a fiber.
+/// Whether a fiber's number determines its name under every schedule: main starts all fibers in the order of the text,
+/// or the term has at most one `start` and neither `race` nor `both`.
 pub(crate) fn numbers_tell_names(alloc: Global, text: &[u8]) -> Result<bool, AllocError> {
     let mut open: Vec<Open> = Vec::new(alloc);
     let mut starters = 0usize;
@@ -55,7 +55,7 @@ pub(crate) fn numbers_tell_names(alloc: Global, text: &[u8]) -> Result<bool, All
     Ok(is_sure || starters <= 1)
 }
 
-// How many fibers a form starts.
+// The number of fibers that a form starts.
 fn starters_of(way: Way) -> usize {
     match way {
         Way::Starts => 1,
@@ -64,7 +64,8 @@ fn starters_of(way: Way) -> usize {
     }
 }
 
-// Whether main comes to the next part of the innermost open form once, in the order of the text. The part is counted.
+// Counts the next part of the innermost open form. Returns whether main reaches the part once, in the order of the
+// text.
 fn comes_to(open: &mut Vec<Open>) -> bool {
     let depth = open.len();
     if depth == 0 {

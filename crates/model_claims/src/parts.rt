@@ -1,4 +1,4 @@
-//! Forms of a file, by their numbers, and what single forms of claims are.
+//! Forms of a file by their numbers, and the numbers and ways to end that forms of claims spell.
 
 ghost use Rattle.std.specs.Prelude.{◌≡◌};
 ghost use Rattle.std.specs.List.{slice_get};
@@ -10,7 +10,7 @@ use model_forms::{Block, Form, FormKind, behind_first, first_form, form_bytes, i
 use model_terms::{ModelTerm, Source};
 use model_text::{Constant, Item, Model, read_number};
 
-/// A model, the file that it is of, and its term.
+/// A model, its file and its term.
 #[derive(Clone, Copy)]
 pub(crate) struct Place<'a> {
     /// The file.
@@ -19,10 +19,9 @@ pub(crate) struct Place<'a> {
     pub model: &'a Model,
     /// Its term.
     pub term: &'a ModelTerm,
-    /// How many bytes of the term make its first refs, in the order of the text
-    /// ([`straight_part`](crate::straight::straight_part)).
+    /// The number of bytes of the straight part of the term ([`straight_part`](crate::straight::straight_part)).
     pub straight: usize,
-    /// Whether a fiber's number tells its name ([`numbers_tell_names`](crate::numbering::numbers_tell_names)).
+    /// Whether a fiber's number determines its name ([`numbers_tell_names`](crate::numbering::numbers_tell_names)).
     pub numbered: bool,
 }
 
@@ -33,7 +32,7 @@ pub(crate) fn form_at(source: &Source, at: usize) -> Option<Form>
     source.file.forms.as_slice().get(at).copied()
 }
 
-/// The bytes of the word with this number; nothing where it is no word.
+/// The bytes of the word with this number; empty if the form is no word.
 pub(crate) fn word_at(source: &Source, at: usize) -> &[u8] {
     let Some(form) = form_at(source, at) else {
         return &[];
@@ -44,7 +43,7 @@ pub(crate) fn word_at(source: &Source, at: usize) -> &[u8] {
     }
 }
 
-/// The bytes of the form with this number, whatever it is.
+/// The bytes of the form with this number, of whatever kind; empty if there is none.
 pub(crate) fn bytes_at(source: &Source, at: usize) -> &[u8]
     ensures { result.now ≡ spelling source.now at }
 {
@@ -54,7 +53,7 @@ pub(crate) fn bytes_at(source: &Source, at: usize) -> &[u8]
     }
 }
 
-/// What stands inside the list with this number, its head first; an empty block where it is no list.
+/// The forms inside the list with this number, its head first; an empty block if the form is no list.
 pub(crate) fn inside_at(source: &Source, at: usize) -> Block {
     let forms = source.file.forms.as_slice();
     let block = Block {
@@ -64,12 +63,12 @@ pub(crate) fn inside_at(source: &Source, at: usize) -> Block {
     inside_first(forms, block)
 }
 
-/// What stands behind the head of the list with this number; an empty block where it is no list.
+/// The forms behind the head of the list with this number; an empty block if the form is no list.
 pub(crate) fn parts_at(source: &Source, at: usize) -> Block {
     behind_first(source.file.forms.as_slice(), inside_at(source, at))
 }
 
-/// The word at the head of the list with this number; nothing where it has none.
+/// The word at the head of the list with this number; empty if there is none.
 pub(crate) fn head_at(source: &Source, at: usize) -> &[u8] {
     match first_at(source, inside_at(source, at)) {
         Some(head) => word_at(source, head),
@@ -77,7 +76,7 @@ pub(crate) fn head_at(source: &Source, at: usize) -> &[u8] {
     }
 }
 
-/// The number of the first form of a block, if it has one.
+/// The number of the first form of a block, if any.
 pub(crate) fn first_at(source: &Source, block: Block) -> Option<usize> {
     match first_form(source.file.forms.as_slice(), block) {
         Some(_) => Some(block.first),
@@ -90,7 +89,7 @@ pub(crate) fn behind(source: &Source, block: Block) -> Block {
     behind_first(source.file.forms.as_slice(), block)
 }
 
-/// The number of the only form of a block; none where it has none, or several.
+/// The number of the only form of a block; none if the block has no form or several.
 pub(crate) fn only_at(source: &Source, block: Block) -> Option<usize> {
     let first = first_at(source, block)?;
     match first_at(source, behind(source, block)) {
@@ -99,14 +98,14 @@ pub(crate) fn only_at(source: &Source, block: Block) -> Option<usize> {
     }
 }
 
-/// The numbers of the two forms of a block; none where it hasn't exactly two.
+/// The numbers of the two forms of a block; none unless the block has exactly two.
 pub(crate) fn both_at(source: &Source, block: Block) -> Option<(usize, usize)> {
     let first = first_at(source, block)?;
     let second = only_at(source, behind(source, block))?;
     Some((first, second))
 }
 
-/// The number that the word with this number is, or that it is a constant of: one that is defined above the model.
+/// The value that the word with this number spells: a number, or a constant that is defined above the model.
 pub(crate) fn number_at(source: &Source, model: &Model, at: usize) -> Option<Value> {
     let word = word_at(source, at);
     match read_number(word) {
@@ -115,7 +114,7 @@ pub(crate) fn number_at(source: &Source, model: &Model, at: usize) -> Option<Val
     }
 }
 
-// What a name above the model stands for, where it is a constant.
+// The value of the constant of this name that is defined above the model, if any.
 fn constant_of(source: &Source, model: &Model, name: &[u8]) -> Option<Value> {
     for item in source.file.items.as_slice() {
         if let Some(number) = constant_in(source, model, *item, name) {
@@ -125,7 +124,7 @@ fn constant_of(source: &Source, model: &Model, name: &[u8]) -> Option<Value> {
     None
 }
 
-// What a name stands for, where this item makes it a constant above the model.
+// The value of this item, if it is a constant of this name above the model.
 fn constant_in(source: &Source, model: &Model, item: Item, name: &[u8]) -> Option<Value> {
     match item {
         Item::Constant(constant) => named_constant(source, model, constant, name),
@@ -149,7 +148,7 @@ fn named_constant(
     }
 }
 
-/// The way to end that the form with this number names, if it names one.
+/// The way to end that the form with this number names, if any.
 pub(crate) fn outcome_at(source: &Source, model: &Model, at: usize) -> Option<Wanted> {
     let form = form_at(source, at)?;
     match form.kind {

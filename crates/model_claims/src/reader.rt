@@ -1,4 +1,4 @@
-//! The claims of a model, from their forms.
+//! Reads the claims of a model from their forms.
 
 use crate::claim::{Claim, Want};
 use crate::compile::{OUTCOME_WANTED, compile};
@@ -32,16 +32,17 @@ const REF_AND_FIBERS: &str =
 const REF_AT_THE_END: &str =
     "the value of a ref at the end isn't supported: let main read it and end with it";
 
-// What is looked at, to see whether a claim holds.
+// Where a claim is checked.
 #[derive(Drop)]
 enum Look {
-    // The answers of the term with this in it.
+    // In the answers of the term with this probe.
     Ends(Probe),
-    // Each world of the term: whether these words hold there.
+    // In each world of the term, by these words.
     Worlds(Vec<MomentWord>),
 }
 
-/// The claims of a model, in the order of the file, or the first fault. The term is the model's with no probe in it.
+/// Returns the claims of a model in the order of the file, or the first fault. `term` is the model's term without a
+/// probe.
 pub fn read_claims(
     alloc: Global,
     source: &Source,
@@ -70,7 +71,7 @@ pub fn read_claims(
     Ok(claims)
 }
 
-// The fault of a model that claims nothing.
+// The fault of a model without claims.
 fn no_claims(alloc: Global, place: &Place) -> Refused {
     let name = form_bytes(place.source.text.as_slice(), place.model.name);
     let refused = quoting_fault(
@@ -92,7 +93,7 @@ fn no_claims(alloc: Global, place: &Place) -> Refused {
     }
 }
 
-// Adds the claim with this number; nothing where it is a bound or the statements of the model.
+// Adds the claim with this number; nothing if the form is a bound or has the statements of the model.
 fn push_claim(
     alloc: Global,
     place: &Place,
@@ -107,7 +108,7 @@ fn push_claim(
     Ok(())
 }
 
-// The claim with this number.
+// Reads the claim with this number.
 fn claim_at(alloc: Global, place: &Place, at: usize) -> Result<Claim, Refused> {
     let mut inner = at;
     let mut fails = false;
@@ -128,7 +129,7 @@ fn claim_at(alloc: Global, place: &Place, at: usize) -> Result<Claim, Refused> {
     Err(no_claim(alloc, place, at))
 }
 
-// The fault of what stands behind `fails` and is no claim.
+// The fault of a form behind `fails` that is no claim.
 fn no_claim(alloc: Global, place: &Place, at: usize) -> Refused {
     plain_fault(
         alloc,
@@ -139,7 +140,7 @@ fn no_claim(alloc: Global, place: &Place, at: usize) -> Refused {
     )
 }
 
-// The claim with this number, which is the number of the form inside each `fails`, with this head.
+// Reads the claim of number `form`. `at` is the number of the form inside each `fails`, and `head` is its head.
 fn plain_claim(
     alloc: Global,
     place: &Place,
@@ -167,7 +168,7 @@ fn plain_claim(
     })
 }
 
-// Fills in what a claim wants and what holds of an answer that meets it.
+// Adds the condition of a claim and the ways to end that it wants. Returns its rule and where it is checked.
 fn read_claim(
     alloc: Global,
     place: &Place,
@@ -261,7 +262,7 @@ fn ended(
     Ok((Rule::Every, Look::Ends(probe)))
 }
 
-// The fault of a claim that lacks a part, or has one too many.
+// The fault of a claim with too few or too many parts.
 fn parts_fault(alloc: Global, place: &Place, at: usize, words: &str) -> Refused {
     quoting_fault(
         alloc,
@@ -274,7 +275,7 @@ fn parts_fault(alloc: Global, place: &Place, at: usize, words: &str) -> Refused 
     )
 }
 
-// Compiles the one condition of a claim.
+// Compiles the one condition of a claim, and returns what the condition is about.
 fn only_condition(
     alloc: Global,
     place: &Place,
@@ -304,7 +305,7 @@ fn at_the_end(
     }
 }
 
-// What is put into the term for a claim on answers, by whether it depends on the names of fibers.
+// The probe for a claim on answers. `names` says whether the claim depends on the names of fibers.
 fn names_probe(place: &Place, names: bool) -> Probe {
     if names && !place.numbered {
         Probe::Names
@@ -331,7 +332,7 @@ fn at_any_moment(
     }
 }
 
-// The fault of `always` or `ever` that speaks of fibers alone.
+// The fault of an `always` or `ever` that names no ref.
 fn no_ref_spoken_of(alloc: Global, place: &Place, at: usize, rule: Rule) -> Refused {
     match rule {
         Rule::Every => moment_fault(alloc, place, at, " speaks of a ref: of fibers say `must`"),
@@ -351,8 +352,8 @@ fn moment_fault(alloc: Global, place: &Place, at: usize, words: &str) -> Refused
     )
 }
 
-// What is looked at for a condition on refs at any moment: each world, where the number of each ref is known; else what
-// a fiber reads that watches its only ref.
+// Where a condition on refs at any moment is checked: in each world if the number of each ref is known, else in the
+// answers of the term with a watcher of the only ref.
 fn look_at_moments(
     alloc: Global,
     place: &Place,
@@ -371,7 +372,7 @@ fn look_at_moments(
     }
 }
 
-// `never`: of a ref at no moment, of fibers in no answer.
+// `never`: a condition on a ref holds at no moment, a condition on fibers holds of no answer.
 fn never(
     alloc: Global,
     place: &Place,
@@ -405,19 +406,19 @@ fn before(
     Ok((Rule::Every, Look::Ends(Probe::Order(first, second))))
 }
 
-// No fiber says this value late.
+// Adds the words for: no fiber said this value directly after `LATE`.
 fn push_late(condition: &mut Condition, value: Value) -> Result<(), Refused> {
     condition.words.push(Word::Late(value))?;
     condition.words.push(Word::Not)?;
     Ok(())
 }
 
-// The fault of a `before` that isn't spelled so.
+// The fault of a `before` that is malformed.
 fn no_order(alloc: Global, place: &Place, at: usize) -> Refused {
     plain_fault(alloc, place.source, "E20", at, BEFORE_WANTED)
 }
 
-// `(f v)`, a part of the `before` with this number.
+// Reads `(f v)`, a part of the `before` with this number.
 fn saying(alloc: Global, place: &Place, at: usize, part: usize) -> Result<Said, Refused> {
     let Some((fiber, number)) = both_at(place.source, inside_at(place.source, part)) else {
         return Err(no_order(alloc, place, at));

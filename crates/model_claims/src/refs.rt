@@ -1,4 +1,4 @@
-//! The ref that a claim speaks of.
+//! The refs that a claim is about.
 
 use crate::faults::{Names, plain_fault, unknown_name};
 use crate::names::{Spelled, has_spelling, is_ref, no_names, push_binder, spelled_at};
@@ -6,20 +6,20 @@ use crate::parts::Place;
 use model_terms::{Binder, BinderName, Refused};
 use std::alloc::{AllocError, Global};
 
-/// What a claim speaks of.
+/// What a claim is about.
 #[derive(Clone, Copy)]
 pub(crate) struct Subjects {
-    /// Whether it speaks of fibers.
+    /// Whether the claim is about fibers.
     pub fibers: bool,
-    /// Whether it depends on the names of fibers other than main.
+    /// Whether the claim depends on the names of fibers other than main.
     pub names: bool,
-    /// The ref that it speaks of, if any.
+    /// The first ref that the claim is about, if any.
     pub cell: Option<BinderName>,
-    /// Whether it speaks of several refs.
+    /// Whether the claim is about several refs.
     pub several: bool,
 }
 
-/// What a condition with no words speaks of.
+/// What a condition without words is about: nothing.
 pub(crate) fn no_subjects() -> Subjects {
     Subjects {
         fibers: false,
@@ -29,8 +29,8 @@ pub(crate) fn no_subjects() -> Subjects {
     }
 }
 
-/// Adds the refs that the word with this number names, or returns the fault that none is called so. The number of the
-/// ref, where it is one, and the term tells it: only refs before it in the text are made before it.
+/// Adds the refs that the word with this number names, or returns the fault that no ref has this name. Returns the
+/// number of the ref if the word names one ref alone and the straight part of the term makes this ref.
 pub(crate) fn add_ref(
     alloc: Global,
     place: &Place,
@@ -58,7 +58,8 @@ pub(crate) fn add_ref(
     }
 }
 
-// The number of the ref of a binder behind so many others, where each of them is made before it, and nothing else is.
+// The number of the ref that this binder makes: `made` if the straight part of the term makes it, else none. `made` is
+// the number of refs before it in the text.
 fn number_of(place: &Place, binder: &Binder, made: u16) -> Option<u16> {
     if binder.start < place.straight {
         Some(made)
@@ -79,7 +80,7 @@ fn add_cell(subjects: &mut Subjects, name: BinderName) {
     }
 }
 
-// The fault that no ref is called so.
+// The fault that no ref has this name.
 fn no_ref(alloc: Global, place: &Place, at: usize) -> Refused {
     match ref_names(alloc, place) {
         Ok(names) => unknown_name(
@@ -105,7 +106,7 @@ fn ref_names(alloc: Global, place: &Place) -> Result<Names, AllocError> {
     Ok(names)
 }
 
-/// The fault of a claim whose refs no answer tells.
+/// The fault E22 of a claim about refs that can't be checked.
 pub(crate) fn ref_fault(alloc: Global, place: &Place, at: usize, words: &str) -> Refused {
     plain_fault(alloc, place.source, "E22", at, words)
 }

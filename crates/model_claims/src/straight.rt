@@ -1,7 +1,7 @@
-//! The part of a term in which fiber 0 is alone, and goes from each form to the next.
+//! The straight part of a term: there fiber 0 is alone and runs each form once, in the order of the text.
 
-/// How many bytes of a term stand before the first form that may start a fiber, go round, or leave out a form behind
-/// it. The refs before it are made in the order of the text, each once, and before any other.
+/// The number of bytes of a term before the first form that can start a fiber, repeat, or skip a form behind it. The
+/// refs of these bytes are made once each, in the order of the text, before any other ref.
 pub(crate) fn straight_part(text: &[u8]) -> usize {
     for (at, byte) in text.iter().enumerate() {
         if *byte == b'(' && !is_straight(word_behind(text, at.saturating_add(1))) {
@@ -11,7 +11,7 @@ pub(crate) fn straight_part(text: &[u8]) -> usize {
     text.len()
 }
 
-/// The word that begins here.
+/// The word that begins at this place of a text.
 pub(crate) fn word_behind(text: &[u8], at: usize) -> &[u8] {
     let rest = text.get(at..).unwrap_or(&[]);
     let end = rest
@@ -21,7 +21,7 @@ pub(crate) fn word_behind(text: &[u8], at: usize) -> &[u8] {
     rest.get(..end).unwrap_or(&[])
 }
 
-// Whether a form with this word makes its moves in the order of its parts, whatever they come to.
+// Whether a form with this word runs its parts in order, whatever values they give.
 fn is_straight(word: &[u8]) -> bool {
     match word {
         b"ref" => true,

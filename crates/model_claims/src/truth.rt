@@ -16,7 +16,7 @@ use effect_term::{Outcome, Value};
 use model_terms::{Probe, Source};
 use std::alloc::{AllocError, Global};
 
-// The wanted ways to end from one number up to another.
+// The wanted ways to end from index `from` up to `to`.
 fn outcomes_of(condition: &Condition, from: usize, to: usize) -> &[Wanted]
     ensures { result.now ≡ slice_range condition.now.outcomes.items from to }
 {
@@ -26,14 +26,14 @@ fn outcomes_of(condition: &Condition, from: usize, to: usize) -> &[Wanted]
     &outcomes[from..to]
 }
 
-// The values from one number up to another.
+// The values from index `from` up to `to`.
 fn values_of(condition: &Condition, from: usize, to: usize) -> &[Value]
     ensures { result.now ≡ slice_range condition.now.values.items from to }
 {
     values_between(condition.values.as_slice(), from, to)
 }
 
-// The truth on top of a stack, which is taken off; false where there is none.
+// Pops the truth on top of a stack; false if the stack is empty.
 fn take_top(stack: &mut Vec<bool>) -> bool
     ensures top { result ≡ top stack.old.items }
     ensures below { stack.new.items ≡ below stack.old.items }
@@ -44,7 +44,7 @@ fn take_top(stack: &mut Vec<bool>) -> bool
     }
 }
 
-// Whether what a ref held, if that is known, compares so with a number.
+// Whether a comparison of the value that a ref held with a number holds; false if the value isn't known.
 fn compare_held(comparison: Comparison, held: &Option<Value>, number: Value) -> bool
     ensures { result ≡ compare_held comparison held.now number }
 {
@@ -54,7 +54,7 @@ fn compare_held(comparison: Comparison, held: &Option<Value>, number: Value) -> 
     }
 }
 
-// Takes what a word takes off the stack, and gives the truth that it puts there.
+// Pops the operands of a word off the stack, and returns the truth that the word pushes.
 fn word_truth(
     source: &Source,
     condition: &Condition,
@@ -95,7 +95,7 @@ fn word_truth(
     }
 }
 
-// Runs words of a condition.
+// Runs the words of a condition on a stack.
 fn run(
     source: &Source,
     condition: &Condition,
@@ -114,7 +114,7 @@ fn run(
     Ok(())
 }
 
-// Whether a condition holds of an answer, where the ref that it speaks of held this.
+// Whether a condition holds of an answer, if its ref held `held`.
 fn holds(
     alloc: Global,
     source: &Source,
@@ -151,7 +151,7 @@ fn is_watcher(name: FiberName) -> bool
     }
 }
 
-// The value with which a fiber ended, if it did.
+// The value with which a fiber succeeded, if it did.
 fn value_of(outcome: &Option<Outcome>) -> Option<Value>
     ensures { result ≡ value_of outcome.now }
 {
@@ -163,7 +163,7 @@ fn value_of(outcome: &Option<Outcome>) -> Option<Value>
     }
 }
 
-// What a watcher read; none where the fiber is none, or hasn't read.
+// The value that a watcher read; none if the fiber is no watcher, or hasn't read.
 fn watched(fiber: &SeenFiber) -> Option<Value>
     ensures { result ≡ watched fiber.now }
 {
@@ -174,7 +174,7 @@ fn watched(fiber: &SeenFiber) -> Option<Value>
     }
 }
 
-// What one more moment says beside those before it.
+// Joins the truth at one more moment to that at the moments before.
 fn joint(rule: Rule, known: Option<bool>, truth: bool) -> bool
     ensures { result ≡ joint rule known truth }
 {
@@ -187,7 +187,7 @@ fn joint(rule: Rule, known: Option<bool>, truth: bool) -> bool
     }
 }
 
-// The same, where the ref held this at that moment.
+// Joins the truth at a moment at which the ref held `held`. Returns `known` if `held` is none.
 fn with_moment(
     alloc: Global,
     source: &Source,
@@ -207,7 +207,7 @@ fn with_moment(
     }
 }
 
-// Whether a condition on a ref holds at the moments at which the watchers read it; none where none has read.
+// Whether a condition on a ref holds at the moments at which the watchers read the ref; none if none has read.
 fn watched_truth(
     alloc: Global,
     source: &Source,
@@ -226,8 +226,9 @@ fn watched_truth(
     Ok(known)
 }
 
-/// Whether the condition of a claim holds of an answer; none where the answer says nothing of it: it is a fault, or no
-/// watcher has read the ref. Of several watchers each has to meet a claim on every answer, and one a claim on some.
+/// Whether the condition of a claim holds of an answer. None if the answer is a fault, or if the condition needs a
+/// watcher and none has read the ref. What each watcher read has to meet a claim about every answer; what one watcher
+/// read has to meet a claim about some answer.
 pub fn truth_of(
     alloc: Global,
     source: &Source,
@@ -242,7 +243,7 @@ pub fn truth_of(
     probed_truth(alloc, source, claim, seen)
 }
 
-// The same of an answer that is no fault.
+// Whether the condition of a claim holds of an answer that is no fault; none if the needed watchers haven't read.
 fn probed_truth(
     alloc: Global,
     source: &Source,
@@ -273,7 +274,7 @@ fn plain_truth(
     }
 }
 
-/// What an answer says of a claim's condition, as [`judge`](crate::judge) takes it.
+/// Returns the truth of a claim's condition at an answer, for [`judge`](crate::judge).
 pub fn truth_in(
     alloc: Global,
     source: &Source,

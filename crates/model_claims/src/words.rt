@@ -1,8 +1,8 @@
-//! What the words of claims mean.
+//! The words at the heads of claims and conditions.
 
 use crate::condition::Comparison;
 
-/// What stands at the head of a claim.
+/// The head of a claim.
 #[derive(Clone, Copy)]
 pub(crate) enum Head {
     /// `want`.
@@ -27,7 +27,7 @@ pub(crate) enum Head {
     Fails,
 }
 
-/// What these bytes mean at the head of a claim, if anything.
+/// The head of a claim that these bytes spell, if any.
 pub(crate) fn head_of(bytes: &[u8]) -> Option<Head> {
     match bytes {
         b"want" => Some(Head::Want),
@@ -44,7 +44,7 @@ pub(crate) fn head_of(bytes: &[u8]) -> Option<Head> {
     }
 }
 
-/// What stands at the head of a condition.
+/// The head of a condition.
 #[derive(Clone, Copy)]
 pub(crate) enum Test {
     /// `and`.
@@ -67,7 +67,7 @@ pub(crate) enum Test {
     NoDeadlock,
 }
 
-/// What these bytes mean at the head of a condition, if anything.
+/// The head of a condition that these bytes spell, if any.
 pub(crate) fn test_of(bytes: &[u8]) -> Option<Test> {
     match bytes {
         b"and" => Some(Test::And),
@@ -82,7 +82,7 @@ pub(crate) fn test_of(bytes: &[u8]) -> Option<Test> {
     }
 }
 
-// The comparison that these bytes mean, if any.
+// The comparison that these bytes spell, if any.
 fn comparison_of(bytes: &[u8]) -> Option<Test> {
     match bytes {
         b"=" => Some(Test::Compares(Comparison::Equal)),

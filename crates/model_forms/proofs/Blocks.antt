@@ -1,4 +1,4 @@
--- A row among the forms of a text, from one place up to another.
+-- A row as a range of the forms of a text.
 use Rattle.std.proofs.Common.{◌≡◌, ◌≤◌, ◌<◌, ◌+◌, ◌-◌, ℕ, suc, List, [], ◌∷◌, ◌++◌, length, get_or, take, drop, min, refl, ap, sym, ◌∙◌}
 use Rattle.std.proofs.Common.{arith, subst, length-append, drop-cons, add-one, Some, None}
 use Rattle.std.proofs.Math.Seq.{take-append_seam, drop-append_seam}
@@ -10,7 +10,7 @@ use Rattle.model_forms.specs.declared.block.Block.{Block}
 use Rattle.model_forms.specs.declared.form.Form.{Form}
 use Rattle.model_forms.proofs.RowLaws.{word_form, text_form, list_form}
 
--- a range from one place on
+-- the first form of a range, and the rest
 range_next : (fs : List Form) (a e : ℕ) (d : Form) → a < e → a < length fs → slice_range fs a e ≡ get_or fs a d ∷ slice_range fs (a + 1) e
 range_next fs a e d h l =
     let n : e - a ≡ suc (e - (a + 1)) = omega arith in
@@ -25,7 +25,7 @@ range_over fs a e h = grind (arith, common_steps)
 length_range : (fs : List Form) (a e : ℕ) → length (slice_range fs a e) ≤ e - a
 length_range fs a e = grind (arith, common_steps)
 
--- a part of a range
+-- the front and the rest of a range
 range_front : (fs : List Form) (a e n : ℕ) → n ≤ e - a → slice_range fs a (a + n) ≡ take n (slice_range fs a e)
 range_front fs a e n h = grind (arith, common_steps)
 
@@ -57,11 +57,11 @@ range_empty fs a e h = grind (arith, common_steps)
 pub first_is_none : (fs : List Form) (block : Block) (row : Row) → (block.first < block.end → length fs ≤ block.first) → IsBlock fs block row → None ≡ first_of row
 first_is_none fs block row h b = none_flat row (sym (range_empty fs block.first block.end h) ∙ b)
 
--- what stands behind the first form of a range, whatever is inside that
+-- a range without its first form
 range_tail : (fs : List Form) (a e : ℕ) (f : Form) (rest : List Form) → a < e → slice_range fs a e ≡ f ∷ rest → slice_range fs (a + 1) e ≡ rest
 range_tail fs a e f rest l h = range_rest fs a e 1 (omega arith) ∙ ap (drop 1) h
 
--- the forms that a list has inside are no more than stand behind it
+-- the front of a range is no longer than the range
 range_long : (fs : List Form) (a e : ℕ) (xs ys : List Form) → slice_range fs a e ≡ xs ++ ys → length xs ≤ e - a
 range_long fs a e xs ys h =
     let m : length (xs ++ ys) ≤ e - a = subst (λ (zs : List Form). length zs ≤ e - a) h (length_range fs a e) in

@@ -1,4 +1,4 @@
--- One byte of a text, as the tokens see it.
+-- The tokens of a text, byte by byte.
 use Rattle.std.proofs.Common.{◌≡◌, ◌≢◌, ◌≤◌, ◌<◌, ◌+◌, ◌-◌, ◌==◌, ◌||◌, ℕ, suc, Bool, true, false, List, [], ◌∷◌, ◌++◌, length, get_or}
 use Rattle.std.proofs.Common.{drop, refl, ap, sym, ◌∙◌, arith, rules, length-drop, append_assoc, drop-cons, add-one, Option, Some, None}
 use Rattle.std.specs.List.{slice_range}
@@ -33,13 +33,13 @@ drop_next text at h = rw add-one (drop-cons text at 0 h)
 drop_over : (text : List ℕ) (at : ℕ) → length text ≤ at → drop at text ≡ []
 drop_over text at h = grind (arith, common_steps)
 
--- the tokens one byte on
+-- the tokens that begin with the byte at `at`, and those behind it
 pub step : (w : Within) (text : List ℕ) (at : ℕ) → at < length text →
     lexemes w at (drop at text) ≡ begun w at (get_or text at 0) (drop (at + 1) text) ++ lexemes (after w (get_or text at 0)) (at + 1) (drop (at + 1) text)
 unfolding lexemes
 step w text at h = rw (add-one, drop-cons text at 0 h) refl
 
--- no tokens stand behind the text, wherever its end stands
+-- no tokens begin behind the text, whatever its last byte is within
 pub over : (w : Within) (text : List ℕ) (at : ℕ) → length text ≤ at → lexemes w at (drop at text) ≡ lexemes_at at text
 unfolding lexemes lexemes_at
 over w text at h = let d : drop at text ≡ [] = drop_over text at h in rw d refl
@@ -71,7 +71,7 @@ plain_is classes.Open h = cc
 plain_is classes.Close h = cc
 plain_is classes.Quote h = cc
 
--- a word from one place on, as far as another
+-- a word from `from` up to `at`
 pub record WordTo (text : List ℕ) (from at : ℕ) : Type 0 where
   pub low : from ≤ at
   pub high : at ≤ length text

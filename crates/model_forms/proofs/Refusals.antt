@@ -1,4 +1,4 @@
--- Where a fault is, no forms spell the text.
+-- No forms spell a text with a fault.
 use Rattle.std.proofs.Common.{◌≡◌, ◌≢◌, ℕ, suc, zero, List, [], ◌∷◌, ◌++◌, length, refl, ap, sym, ◌∙◌, append_assoc, Option, Some, None}
 use Rattle.model_forms.specs.Lexemes.{Lexeme, opens, closes, word, quoted, unclosed, Placed, lexemes_at}
 use Rattle.model_forms.specs.Rows.{Row, nothing, a_word, a_text, a_list, tokens_of, Spells}
@@ -7,7 +7,7 @@ use Rattle.model_forms.specs.declared.fault.FormFault.{FormFault}
 use Rattle.model_forms.specs.declared.fault.FormFault.TheVariants as faults
 use Rattle.model_forms.proofs.RowLaws.{append_none}
 
--- how many brackets are open behind a token, where this number is open before it
+-- the number of open brackets behind a token, if `n` are open before it; `None` if the token is a fault
 abbrev depth_next : Lexeme → ℕ → Option ℕ
 depth_next opens n = Some (suc n)
 depth_next closes zero = None

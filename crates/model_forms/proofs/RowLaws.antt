@@ -1,4 +1,4 @@
--- What one more token does to the forms that have been read.
+-- How one more token changes the forms that have been read.
 use Rattle.std.proofs.Common.{◌≡◌, ◌<◌, ◌+◌, ◌-◌, ℕ, suc, List, [], ◌∷◌, ◌++◌, length, get_or, refl, ap, sym, ◌∙◌}
 use Rattle.std.proofs.Common.{arith, append_assoc, Some, None, length-append, false, true}
 use Rattle.std.proofs.Math.ListN.{set}
@@ -44,7 +44,7 @@ flat-joined (a_list o inner c q) r =
     ap (λ fs. list_form o c (length (flat inner)) ∷ (flat inner ++ fs)) (flat-joined q r)
     ∙ ap (λ fs. list_form o c (length (flat inner)) ∷ fs) (sym (append_assoc (flat inner) (flat q) (flat r)))
 
--- one more token behind what has been read
+-- the row that has been read goes on with the row `more`
 pub goes_on : (text : List ℕ) (os : List Opening) (row more : Row) (rest : List Placed) →
     lexemes_at 0 text ≡ (tokens_up_to text os ++ tokens_of text row) ++ (tokens_of text more ++ rest) →
     lexemes_at 0 text ≡ (tokens_up_to text os ++ tokens_of text (joined row more)) ++ rest
@@ -97,7 +97,7 @@ forms_close o os row closing =
     ∙ ap (λ fs. (flat_up_to os ++ flat o.before) ++ (record { kind = kinds.List; start = o.place; end = closing + 1; inside = length (flat row) } ∷ fs))
     (append_none (flat row))
 
--- lists that end alike
+-- lists that end with one more element each: their fronts and their last elements are the same
 not_nothing : {A : Type 0} → (xs : List A) (a : A) → xs ++ (a ∷ []) ≡ [] → ⊥
 not_nothing [] a h = cc
 not_nothing (x ∷ xs) a h = cc
@@ -180,7 +180,7 @@ length-places_of (o ∷ os) =
     let r : length (places_of os) ≡ length os = length-places_of os in
     omega arith
 
--- the fault at the end
+-- the fault at the end of the text
 pub end_so : (read : Read) (os : List Opening) (row : Row) (ps : List ℕ) (i n : ℕ) (f : Form) → Shaped read os row → read.open_lists.items ≡ ps ++ (i ∷ []) →
     n ≡ length read.open_lists.items → f ≡ get_or read.forms.items i f → Some (faults.Unclosed n f.start) ≡ fault_at_end os
 end_so read [] row ps i n f s h m g = absurd (not_nothing ps i (sym h ∙ s.open_ones))

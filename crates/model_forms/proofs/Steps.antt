@@ -1,4 +1,4 @@
--- What one more token, and the end of the text, do to what has been read.
+-- How one more token, and the end of the text, change what has been read.
 use Rattle.std.proofs.Common.{◌≡◌, ◌+◌, ℕ, List, [], ◌∷◌, ◌++◌, length, refl, ap, sym, ◌∙◌, Some, None, subst, true, false}
 use Rattle.model_forms.specs.Lexemes.{Lexeme, opens, closes, unclosed, Placed, lexemes_at}
 use Rattle.model_forms.specs.Rows.{Row, nothing, a_list, tokens_of, flat, AreForms}
@@ -11,7 +11,7 @@ use Rattle.model_forms.specs.declared.reader.Read.{Read}
 use Rattle.model_forms.specs.declared.token.Token.{Token}
 use Rattle.model_forms.proofs.RowLaws.{append_none, goes_on, forms_go_on, tokens_open, forms_open, tokens_close}
 
--- the token that comes
+-- the next token
 next_is : (text : List ℕ) (at : ℕ) (t : Token) (x : Lexeme) (front : List Placed) → IsNext text at t → seen text t.kind t.start t.end ≡ x →
     lexemes_at 0 text ≡ front ++ lexemes_at at text → lexemes_at 0 text ≡ front ++ (record { lexeme = x; place = t.start } ∷ lexemes_at t.end text)
 next_is text at t x front n k h =

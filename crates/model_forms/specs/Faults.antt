@@ -1,39 +1,39 @@
--- The first fault of a text's brackets and strings. The tokens before it can begin a row.
+-- The first fault of a text's brackets and strings. The tokens before it spell open brackets and whole forms.
 use Rattle.std.specs.Prelude.{◌≡◌, ℕ, List, [], ◌∷◌, ◌++◌, length}
 use Rattle.model_forms.specs.Lexemes.{opens, closes, unclosed, Placed, lexemes_at}
 use Rattle.model_forms.specs.Rows.{Row, tokens_of}
 use Rattle.model_forms.specs.declared.fault.FormFault.{FormFault}
 use Rattle.model_forms.specs.declared.fault.FormFault.TheVariants as faults
 
--- an opening bracket that isn't closed: the row before it inside the bracket around it, and its place
+-- an open bracket: its place, and the row between it and the open bracket around it
 pub record Opening : Type 0 where
   pub before : Row
   pub place : ℕ
 
--- the tokens up to these open brackets, the innermost of which is the first in the list
+-- the tokens up to the innermost open bracket; the openings are listed from the innermost on
 abbrev pub tokens_up_to : List ℕ → List Opening → List Placed
 tokens_up_to text [] = []
 tokens_up_to text (o ∷ os) =
     tokens_up_to text os ++ (tokens_of text o.before ++ (record { lexeme = opens; place = o.place } ∷ []))
 
--- these brackets are open, the row is inside the innermost, and these tokens follow
+-- the brackets `os` are open, `row` is inside the innermost, and the tokens `rest` follow
 abbrev pub AreOpen : List ℕ → List Opening → Row → List Placed → Type 0
 AreOpen text os row rest = lexemes_at 0 text ≡ (tokens_up_to text os ++ tokens_of text row) ++ rest
 
--- every bracket is closed, and another closing one comes
+-- no bracket is open, and the next token is a closing bracket
 pub record IsUnopened (text : List ℕ) (place : ℕ) : Type 0 where
   pub row : Row
   pub rest : List Placed
   pub balanced : AreOpen text [] row (record { lexeme = closes; place = place } ∷ rest)
 
--- a quote comes that has no other on its line
+-- the next token is a quote with no other on its line
 pub record IsUnclosedText (text : List ℕ) (place : ℕ) : Type 0 where
   pub open_ones : List Opening
   pub row : Row
   pub rest : List Placed
   pub open_so : AreOpen text open_ones row (record { lexeme = unclosed; place = place } ∷ rest)
 
--- the text ends with this number of open brackets, the innermost of them at this place
+-- the text ends with `count` open brackets, the innermost at `place`
 pub record IsUnclosed (text : List ℕ) (count place : ℕ) : Type 0 where
   pub innermost : Opening
   pub around : List Opening

@@ -17,7 +17,7 @@ pub record Placed : Type 0 where
   pub lexeme : Lexeme
   pub place : ℕ
 
--- the place of a byte: between tokens, or inside a word, a string or a comment
+-- where a byte is: between tokens, or inside a word, a string or a comment
 pub data Within : Type 0 where
   between : Within
   in_word : Within
@@ -34,7 +34,7 @@ class_of b =
     else if b == 34 then Quote
     else Plain
 
--- these bytes continue a word
+-- bytes of this class continue a word
 abbrev pub is_plain : Class → Bool
 is_plain Plain = true
 is_plain Space = false
@@ -65,7 +65,7 @@ abbrev pub string_lexeme : Option (List ℕ) → Lexeme
 string_lexeme (Some bs) = quoted bs
 string_lexeme None = unclosed
 
--- the token that begins with a byte of this class, if one does; these bytes follow it
+-- the token that begins with the byte `b` of this class, if one does; the bytes `bs` follow `b`
 abbrev pub token_of : Class → ℕ → ℕ → List ℕ → List Placed
 token_of Space at b bs = []
 token_of Comment at b bs = []
@@ -74,14 +74,14 @@ token_of Close at b bs = record { lexeme = closes; place = at } ∷ []
 token_of Quote at b bs = record { lexeme = string_lexeme (string_of bs); place = at } ∷ []
 token_of Plain at b bs = record { lexeme = word (b ∷ word_of bs); place = at } ∷ []
 
--- the token that begins here, if one does
+-- the token that begins with the byte `b`, if one does; the bytes `bs` follow `b`
 unfoldable pub begun : Within → ℕ → ℕ → List ℕ → List Placed
 begun between at b bs = token_of (class_of b) at b bs
 begun in_word at b bs = if is_plain (class_of b) then [] else token_of (class_of b) at b bs
 begun in_string at b bs = []
 begun in_comment at b bs = []
 
--- the place of the byte behind one of this class
+-- where the byte behind a byte of this class is
 abbrev pub behind : Class → Within
 behind Space = between
 behind Comment = in_comment
@@ -96,11 +96,11 @@ after in_word b = behind (class_of b)
 after in_string b = if ends_string b then between else in_string
 after in_comment b = if b == 10 then between else in_comment
 
--- the tokens that begin in these bytes, given the place of the first byte and what it is within
+-- the tokens that begin in these bytes; the first byte is within `w`, and its place is `at`
 unfoldable pub lexemes : Within → ℕ → List ℕ → List Placed
 lexemes w at [] = []
 lexemes w at (b ∷ bs) = begun w at b bs ++ lexemes (after w b) (suc at) bs
 
--- the tokens of a text from this place on
+-- the tokens of a text from the place `at` on
 unfoldable pub lexemes_at : ℕ → List ℕ → List Placed
 lexemes_at at text = lexemes between at (drop at text)

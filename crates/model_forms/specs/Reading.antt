@@ -9,7 +9,7 @@ use Rattle.model_forms.specs.declared.form.Form.{Form}
 use Rattle.model_forms.specs.declared.form.FormKind.TheVariants as kinds
 use Rattle.model_forms.specs.declared.reader.Read.{Read}
 
--- a list that is open
+-- the form of a list that is still open
 abbrev pub list_opening : ℕ → Form
 list_opening place = record { kind = kinds.List; start = place; end = 0; inside = 0 }
 
@@ -20,35 +20,35 @@ joined (a_word start end q) r = a_word start end (joined q r)
 joined (a_text start end q) r = a_text start end (joined q r)
 joined (a_list opening inner closing q) r = a_list opening inner closing (joined q r)
 
--- the forms up to these open lists, the innermost of which is the first
+-- the forms up to the innermost open list; the openings are listed from the innermost on
 abbrev pub flat_up_to : List Opening → List Form
 flat_up_to [] = []
 flat_up_to (o ∷ os) = flat_up_to os ++ (flat o.before ++ (list_opening o.place ∷ []))
 
--- the places of these open lists among the forms
+-- the index of each open list in the list of forms
 abbrev pub places_of : List Opening → List ℕ
 places_of [] = []
 places_of (o ∷ os) = places_of os ++ (length (flat_up_to os ++ flat o.before) ∷ [])
 
--- these lists are open, and the row is inside the innermost
+-- the lists `os` are open, and `row` is inside the innermost
 pub record Shaped (read : Read) (os : List Opening) (row : Row) : Type 0 where
   pub forms : read.forms.items ≡ flat_up_to os ++ flat row
   pub open_ones : read.open_lists.items ≡ places_of os
 
--- some lists are open
+-- `read` is shaped for some open lists and some row
 pub record IsShaped (read : Read) : Type 0 where
   pub os : List Opening
   pub row : Row
   pub shaped : Shaped read os row
 
--- the text has been read up to this place
+-- the text has been read up to the place `at`
 pub record HasRead (text : List ℕ) (at : ℕ) (read : Read) : Type 0 where
   pub os : List Opening
   pub row : Row
   pub tokens : lexemes_at 0 text ≡ (tokens_up_to text os ++ tokens_of text row) ++ lexemes_at at text
   pub shaped : Shaped read os row
 
--- a closing bracket closes the innermost list, if one is open; the list's bytes end here
+-- a closing bracket closes the innermost list, if one is open; the list's bytes end at `end`
 abbrev pub Closed : List Opening → Row → ℕ → Bool → Read → Type 0
 Closed [] row end closed read = closed ≡ false
 Closed (o ∷ os) row end closed read = (closed ≡ true) ×

@@ -5,15 +5,15 @@ use Rattle.model_forms.specs.Lexemes.{opens, closes, word, quoted, Placed, lexem
 use Rattle.model_forms.specs.declared.form.Form.{Form}
 use Rattle.model_forms.specs.declared.form.FormKind.TheVariants as kinds
 
--- A row of forms. A word and a quoted text are between two places. A list has the places of both brackets, and the row
--- between them.
+-- A row of forms. A word and a quoted text have the places where they begin and end. A list has the places of both
+-- brackets, and the row between them.
 pub data Row : Type 0 where
   nothing : Row
   a_word : ℕ → ℕ → Row → Row
   a_text : ℕ → ℕ → Row → Row
   a_list : ℕ → Row → ℕ → Row → Row
 
--- the tokens that spell a row: those of the text at its places, between brackets at its places
+-- the tokens that spell a row; the bytes of words and quoted texts are those of `text`
 abbrev pub tokens_of : List ℕ → Row → List Placed
 tokens_of text nothing = []
 tokens_of text (a_word start end r) = record { lexeme = word (slice_range text start end); place = start } ∷ tokens_of text r
@@ -23,7 +23,7 @@ tokens_of text (a_list opening inner closing r) =
     record { lexeme = opens; place = opening } ∷ (tokens_of text inner ++
     (record { lexeme = closes; place = closing } ∷ tokens_of text r))
 
--- a row as the list that the code keeps: the forms inside a list follow it, and it has their number
+-- a row as the code's list of forms: a list has the number of forms inside it, and these forms follow it
 abbrev pub flat : Row → List Form
 flat nothing = []
 flat (a_word start end r) = record { kind = kinds.Word; start = start; end = end; inside = 0 } ∷ flat r
@@ -61,7 +61,7 @@ first_of (a_list opening inner closing r) = Some (record {
   inside = length (flat inner);
 })
 
--- the block of these forms is this row
+-- the forms of the block are those of the row
 abbrev pub IsBlock : List Form → Block → Row → Type 0
 IsBlock forms block row = slice_range forms block.first block.end ≡ flat row
 
@@ -69,7 +69,7 @@ IsBlock forms block row = slice_range forms block.first block.end ≡ flat row
 abbrev pub Spells : List ℕ → Row → Type 0
 Spells text row = lexemes_at 0 text ≡ tokens_of text row
 
--- the forms of a text
+-- the forms are those of a row that spells the text
 pub record AreForms (text : List ℕ) (forms : List Form) : Type 0 where
   pub row : Row
   pub spelled : Spells text row

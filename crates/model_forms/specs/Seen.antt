@@ -5,7 +5,7 @@ use Rattle.model_forms.specs.declared.token.Token.{Token}
 use Rattle.model_forms.specs.declared.token.TokenKind.{TokenKind}
 use Rattle.model_forms.specs.declared.token.TokenKind.TheVariants as tokens
 
--- the token of this kind between these places
+-- the token of this kind from `start` to `end`
 abbrev pub seen : List ℕ → TokenKind → ℕ → ℕ → Lexeme
 seen text tokens.Open start end = opens
 seen text tokens.Close start end = closes
@@ -21,7 +21,7 @@ EndsBehind tokens.Word start end = Unit {0}
 EndsBehind tokens.Text start end = Unit {0}
 EndsBehind tokens.Unclosed start end = Unit {0}
 
--- the next token from this place on, and where the tokens after it begin
+-- `t` is the first token from `at` on, and the tokens behind it are those from its end on
 pub record IsNext (text : List ℕ) (at : ℕ) (t : Token) : Type 0 where
   pub tokens : lexemes_at at text ≡ record { lexeme = seen text t.kind t.start t.end; place = t.start } ∷ lexemes_at t.end text
   pub within : t.end ≤ length text
@@ -29,7 +29,7 @@ pub record IsNext (text : List ℕ) (at : ℕ) (t : Token) : Type 0 where
   pub some : t.start < t.end
   pub bracket : EndsBehind t.kind t.start t.end
 
--- a string that continues at one place ends at the other
+-- the string that continues at `from` ends at `end`
 pub record EndsString (text : List ℕ) (from end : ℕ) : Type 0 where
   pub low : from ≤ end
   pub high : end ≤ length text

@@ -1,20 +1,20 @@
-//! Some of the forms of a text, and the way from one to the next.
+//! Ranges of the forms of a text, and the steps from one form to the next.
 
 ghost use Rattle.std.specs.Prelude.{◌≡◌, ◌<◌, ◌-◌, OnSome, length};
 ghost use Rattle.model_forms.specs.Rows.{Row, IsBlock, first_of, inside_of, behind_of, flat};
 
 use crate::form::Form;
 
-/// Some of a text's forms: those from one place in the list of all forms up to another.
+/// A range of the list of all forms of a text.
 #[derive(Clone, Copy, PartialEq, Eq, Debug)]
 pub struct Block {
-    /// The place of its first form.
+    /// The index of its first form.
     pub first: usize,
-    /// The place behind its last form and all forms inside that.
+    /// The index behind its last form and the forms inside that form.
     pub end: usize,
 }
 
-/// The block of all forms.
+/// Returns the block of all forms.
 pub fn block_of(forms: &[Form]) -> Block
     ensures { (row : Row) → forms.now ≡ flat row → IsBlock forms.now result row }
 {
@@ -24,7 +24,7 @@ pub fn block_of(forms: &[Form]) -> Block
     }
 }
 
-/// The first form of a block, if it has one.
+/// Returns the first form of a block, if it has one.
 #[tactic(auto, using(crate::proofs::Blocks::first_is_none))]
 pub fn first_form(forms: &[Form], block: Block) -> Option<Form>
     ensures first { (row : Row) → IsBlock forms.now block row → result ≡ first_of row }
@@ -56,7 +56,7 @@ pub fn inside_first(forms: &[Form], block: Block) -> Block
     }
 }
 
-/// The forms of a block behind its first form and all forms inside that.
+/// The forms of a block without its first form and the forms inside that form.
 pub fn behind_first(forms: &[Form], block: Block) -> Block
     ensures behind { (row : Row) → IsBlock forms.now block row → IsBlock forms.now result (behind_of row) }
     ensures fewer { block.first < block.end → result.end - result.first < block.end - block.first }

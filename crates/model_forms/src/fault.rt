@@ -1,4 +1,4 @@
-//! Why a text has no forms.
+//! The fault of a text that can't be read into forms.
 
 ghost use Rattle.std.specs.Prelude.{◌≡◌};
 ghost use Rattle.model_forms.specs.declared.fault.FormFault.TheVariants.{NoMemory};
@@ -6,19 +6,19 @@ ghost use Rattle.model_forms.specs.declared.fault.FormFault.TheVariants.{NoMemor
 use std::alloc::{AllocError, AllocFailed};
 use thiserror::Error;
 
-/// Why a text has no forms, and where. A place is the number of bytes before the faulty token.
+/// The fault of a text that can't be read into forms. A place is the number of bytes before the faulty token.
 #[derive(Clone, Copy, PartialEq, Eq, Debug, Error)]
 pub enum FormFault {
-    /// There was no memory for the forms.
+    /// Memory ran out.
     #[error("no memory")]
     NoMemory,
     /// The text ends with this number of open brackets. The place is that of the innermost.
     #[error("brackets not closed: {0}; the innermost opens here")]
     Unclosed(usize, usize),
-    /// A closing bracket comes without an open one.
+    /// A closing bracket has no opening one.
     #[error("a closing bracket without an opening one")]
     Unopened(usize),
-    /// A quote has no other on its line.
+    /// A quote has no closing quote on its line.
     #[error("a string that isn't closed on its line")]
     UnclosedText(usize),
 }

@@ -13,22 +13,22 @@ pub enum FormKind {
     List,
 }
 
-/// A form, and the place of its bytes in the text. The bytes of a text begin and end with a quote, those of a list with
-/// a bracket.
+/// A form, and the place of its bytes in the source text. The bytes of a `Text` begin and end with a quote, those of a
+/// `List` with a bracket.
 #[derive(Clone, Copy, PartialEq, Eq, Debug)]
 pub struct Form {
     /// Its kind.
     pub kind: FormKind,
     /// The number of bytes before its first one.
     pub start: usize,
-    /// The number of bytes up to its last one.
+    /// The number of bytes up to and including its last one.
     pub end: usize,
     /// The number of forms inside a list, at any depth. These forms follow the list in the list of all forms. The
     /// number is 0 for a word and a text.
     pub inside: usize,
 }
 
-/// The bytes of a form in its text. If the text is shorter than the form's own, only the bytes that it has.
+/// Returns the bytes of `text` from `form.start` to `form.end`, or those of them that `text` has.
 pub fn form_bytes(text: &[u8], form: Form) -> &[u8]
     ensures { result.now ≡ slice_range text.now form.start form.end }
 {

@@ -6,9 +6,9 @@
 //! of the text, that a fault is the first one, and that no forms spell a refused text. Brackets can nest to any depth:
 //! no function here is recursive.
 //!
-//! The forms of a file are one list, in which the forms of a list follow it ([`Form::inside`]). A [`Block`] is some of
-//! them, one behind another. [`inside_first`] leads from a block to the forms inside its first form, and
-//! [`behind_first`] to the forms behind it:
+//! All forms of a file are in one list, where the forms inside a bracket follow the form of the bracket
+//! ([`Form::inside`]). A [`Block`] is a range of this list. [`inside_first`] returns the block of the forms inside a
+//! block's first form, and [`behind_first`] the block of the forms behind it:
 //!
 //! ```
 //! let forms = read_forms(alloc, b"(want 42) ; the answer")?;

@@ -1,4 +1,4 @@
-//! Reads the forms of a text from left to right, with the places of open lists on a stack.
+//! Reads the forms of a text from left to right, with the indexes of open lists on a stack.
 
 ghost use Rattle.std.specs.Prelude.{◌≡◌, ◌≢◌, ◌≤◌, ◌+◌, ◌++◌, ◌∷◌, ℕ, List, [], IfOk, IfErr, OnOk, length};
 ghost use Rattle.model_forms.specs.Rows.{AreForms, Row, Spells};
@@ -12,12 +12,12 @@ use crate::form::{Form, FormKind};
 use crate::token::{Token, TokenKind, token_at};
 use std::alloc::{AllocError, Global};
 
-/// What has been read of a text.
+/// The forms that have been read, and the lists that are still open.
 #[derive(Drop)]
 pub(crate) struct Read {
-    /// Its forms so far. The end and the number of forms of an open list are 0.
+    /// The forms that have been read. An open list has `end` 0 and `inside` 0.
     pub forms: Vec<Form>,
-    /// The place of each open list among the forms, the innermost last.
+    /// The index in `forms` of each open list, the innermost last.
     pub open_lists: Vec<usize>,
 }
 
@@ -36,7 +36,7 @@ fn open_list(read: &mut Read, start: usize) -> Result<(), AllocError>
     Ok(())
 }
 
-// Closes the innermost list, if one is open. Its bytes end here.
+// Closes the innermost list at `end`, and returns whether a list was open.
 fn close_list(read: &mut Read, end: usize) -> bool
     requires { IsShaped read.old }
     ensures { (os : List Opening) (row : Row) → Shaped read.old os row → Closed os row end result read.new }
@@ -70,7 +70,7 @@ fn plain_form(read: &mut Read, kind: FormKind, token: Token) -> Result<(), Alloc
     Ok(())
 }
 
-// Reads a token.
+// Adds a token to what has been read, or returns the fault of the token.
 fn take_token(read: &mut Read, token: Token) -> Result<(), FormFault>
     requires { IsShaped read.old }
     ensures more { (text : List ℕ) (at : ℕ) → HasRead text at read.old → IsNext text at token →
@@ -92,7 +92,7 @@ fn take_token(read: &mut Read, token: Token) -> Result<(), FormFault>
     Ok(())
 }
 
-// The fault of the end of the text, if a list is open.
+// The fault of a text that ends here, if a list is open.
 fn fault_at_end(read: &mut Read) -> Option<FormFault>
     requires { IsShaped read.old }
     ensures fault { (os : List Opening) (row : Row) → Shaped read.old os row → result ≡ fault_at_end os }
@@ -103,7 +103,7 @@ fn fault_at_end(read: &mut Read) -> Option<FormFault>
     Some(FormFault::Unclosed(count, read.forms[innermost].start))
 }
 
-/// The forms of a text, or its first fault.
+/// Returns the forms of a text, or its first fault.
 pub fn read_forms(alloc: Global, text: &[u8]) -> Result<Vec<Form>, FormFault>
     ensures forms { IfOk result (λ forms. AreForms text.now forms.items) }
     ensures fault { IfErr result (IsFaultOf text.now) }

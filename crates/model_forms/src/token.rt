@@ -76,7 +76,7 @@ fn ends_string(byte: u8) -> bool
     byte == b'"' || byte == b'\n'
 }
 
-// The end of the line that continues here.
+// The end of the comment that continues at `from`: the next line feed, or the end of the text.
 #[tactic(auto, using(crate::proofs::Lexing::comment_stops, crate::proofs::Lexing::over))]
 fn comment_end(text: &[u8], from: usize) -> usize
     requires { from ≤ length text.now }
@@ -93,7 +93,7 @@ fn comment_end(text: &[u8], from: usize) -> usize
     at
 }
 
-// The end of the word that continues here.
+// The end of the word that continues at `from`.
 #[tactic(auto, using(crate::proofs::Lexing::word_stops, crate::proofs::Lexing::word_is_over))]
 fn word_end(text: &[u8], from: usize) -> usize
     requires { from ≤ length text.now }
@@ -111,7 +111,7 @@ fn word_end(text: &[u8], from: usize) -> usize
     at
 }
 
-// The end of the string that continues here: at a quote, at the end of its line, or at the end of the text.
+// The end of the string that continues at `from`: a quote, a line feed, or the end of the text.
 fn string_end(text: &[u8], from: usize) -> usize
     requires { from ≤ length text.now }
     ensures { EndsString text.now from result }
@@ -126,7 +126,7 @@ fn string_end(text: &[u8], from: usize) -> usize
     at
 }
 
-// The token that begins with a quote here.
+// The token that begins with the quote at `start`.
 fn string_token(text: &[u8], start: usize) -> Token
     requires within { start < length text.now }
     requires quote { class_of (slice_index text.now start) ≡ Quote }
@@ -148,7 +148,7 @@ fn string_token(text: &[u8], start: usize) -> Token
     }
 }
 
-// The word that begins here.
+// The word that begins at `start`.
 fn word_token(text: &[u8], start: usize) -> Token
     requires within { start < length text.now }
     requires plain { class_of (slice_index text.now start) ≡ Plain }
@@ -161,7 +161,7 @@ fn word_token(text: &[u8], start: usize) -> Token
     }
 }
 
-/// The next token from here on, if there is one.
+/// Returns the first token that begins at or behind `from`, if there is one.
 pub(crate) fn token_at(text: &[u8], from: usize) -> Option<Token>
     requires { from ≤ length text.now }
     ensures found { IfSome result (IsNext text.now from) }

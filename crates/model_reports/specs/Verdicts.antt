@@ -1,4 +1,4 @@
--- The status that the verdicts of all models come to.
+-- The status of the verdicts of all models.
 use Rattle.std.specs.Prelude.{List, Bool, true, false, if◌then◌else◌}
 use Rattle.std.specs.List.{list_any}
 use Rattle.model_claims.specs.declared.judging.Verdict.{Verdict}
@@ -16,7 +16,7 @@ is_undecided Passed = false
 is_undecided Failed = false
 is_undecided Undecided = true
 
--- 1 where a model failed, else 3 where one is undecided, else 0
+-- 1 if a model failed, else 3 if one is undecided, else 0
 abbrev pub status_of : List Verdict → Status
 status_of verdicts =
     if list_any is_failed verdicts then ends.Errored

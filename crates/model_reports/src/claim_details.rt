@@ -1,4 +1,4 @@
-//! The reports of the claims of a model that don't pass, and its warnings.
+//! The reports on the claims of a model that didn't pass, and its warnings.
 
 use crate::digits::{push_about, push_word};
 use crate::found::{push_answers, push_found, schedule_of};
@@ -12,11 +12,11 @@ use model_claims::{Rule, Verdict};
 use model_runs::{ClaimResult, NamedAnswer, Search, Warning};
 use std::alloc::{AllocError, Global};
 
-// How many bytes of a form are shown in a warning.
+// The greatest number of bytes of a form in a warning.
 const SHOWN: usize = 60;
 
-/// What is told of a model behind all models: its warnings, a line each, and of each claim that doesn't pass where it
-/// stands, what was found, and a timeline. `AllocError` where memory is refused.
+/// Returns the details of a model, which a report has after the lines of all models: its warnings, a line each, and for
+/// each claim that didn't pass its place, what was found, and a timeline. `AllocError` if memory runs out.
 pub fn model_details(alloc: Global, judged: JudgedModel) -> Result<Vec<u8>, AllocError> {
     let mut told = Vec::new(alloc);
     for warning in judged.result.warnings.iter() {
@@ -30,7 +30,7 @@ pub fn model_details(alloc: Global, judged: JudgedModel) -> Result<Vec<u8>, Allo
     Ok(told)
 }
 
-/// A warning, with its place, as a line. `AllocError` where memory is refused.
+/// Adds a warning, with its place, as a line. `AllocError` if memory runs out.
 pub(crate) fn push_warning(
     told: &mut Vec<u8>,
     alloc: Global,
@@ -45,7 +45,7 @@ pub(crate) fn push_warning(
     push_word(told, warning_words(warning))
 }
 
-// The first bytes of a form, and three dots where it has more.
+// Adds the first 60 bytes of a form, and three dots if the form has more.
 fn push_cut(told: &mut Vec<u8>, line: &[u8]) -> Result<(), AllocError> {
     match line.get(..SHOWN) {
         Some(first) if line.len() > SHOWN => {
@@ -56,7 +56,7 @@ fn push_cut(told: &mut Vec<u8>, line: &[u8]) -> Result<(), AllocError> {
     }
 }
 
-// What is said of the form of a warning, behind it.
+// The words behind the form of a warning.
 fn warning_words(warning: Warning) -> &'static str {
     match warning {
         Warning::Torn(_) => {
@@ -66,7 +66,7 @@ fn warning_words(warning: Warning) -> &'static str {
     }
 }
 
-// A claim that doesn't pass: its text, its place and why.
+// Adds a claim that didn't pass: its text, its place and why.
 fn push_claim(
     told: &mut Vec<u8>,
     alloc: Global,
@@ -87,7 +87,7 @@ fn push_claim(
     }
 }
 
-// Why a claim doesn't pass, and a timeline.
+// Adds why a claim didn't pass, and a timeline.
 fn push_why(
     told: &mut Vec<u8>,
     alloc: Global,
@@ -105,8 +105,8 @@ fn push_why(
     }
 }
 
-/// Why a claim has its verdict, in lines: of one that fails what refutes it, of one that is undecided the bound that
-/// was met, and of one that passes the answer that decides it, if one does. `AllocError` where memory is refused.
+/// Adds why a claim has its verdict, in lines: for a failed claim what refutes it, for an undecided claim the bound
+/// that was met, and for a passed claim the answer that decides it, if any. `AllocError` if memory runs out.
 pub(crate) fn push_reasons(
     told: &mut Vec<u8>,
     alloc: Global,
@@ -124,12 +124,12 @@ pub(crate) fn push_reasons(
     }
 }
 
-// The answer that decides a claim, if one does.
+// The answer that decides a claim, if any.
 fn answer_of<'a>(claim: &ClaimResult, search: &'a Search) -> Option<&'a NamedAnswer> {
     search.answers.get(claim.shown?)
 }
 
-// That a claim is undecided.
+// Adds that a claim is undecided, and why.
 fn push_undecided(told: &mut Vec<u8>, rule: Rule, search: &Search) -> Result<(), AllocError> {
     push_word(told, "     undecided: ")?;
     if search.complete {
@@ -145,7 +145,7 @@ fn push_undecided(told: &mut Vec<u8>, rule: Rule, search: &Search) -> Result<(),
     Ok(())
 }
 
-// What is said of an exploration that isn't complete: that its time was over, or that it met another bound.
+// The words for an exploration that isn't complete: its time was over, or it met another bound.
 fn bound_words(halted: bool) -> &'static str {
     if halted {
         "its time was over at "
@@ -154,7 +154,7 @@ fn bound_words(halted: bool) -> &'static str {
     }
 }
 
-// What is said of schedules that were drawn at random and decide nothing.
+// The words for schedules that were drawn at random and decide nothing.
 fn sampled_words(rule: Rule) -> &'static str {
     match rule {
         Rule::Every => " sampled schedules show nothing against it",
@@ -162,7 +162,7 @@ fn sampled_words(rule: Rule) -> &'static str {
     }
 }
 
-// What refutes a claim.
+// Adds what refutes a claim.
 fn push_failed(
     told: &mut Vec<u8>,
     alloc: Global,
@@ -183,7 +183,7 @@ fn push_failed(
     }
 }
 
-// That a claim was to fail, and doesn't.
+// The words for a claim that had to be refuted, and wasn't.
 fn gone_words(rule: Rule) -> &'static str {
     match rule {
         Rule::Every => {
@@ -193,7 +193,7 @@ fn gone_words(rule: Rule) -> &'static str {
     }
 }
 
-// That no schedule meets a claim, and what can come; of a claim at any moment no end says more.
+// Adds that no schedule meets a claim, and the answers that can come; no answers for a claim at any moment.
 fn push_none_meets(
     told: &mut Vec<u8>,
     judged: JudgedModel,
@@ -208,7 +208,7 @@ fn push_none_meets(
     push_answers(told, judged.source, search)
 }
 
-// The answer that decides a claim: what was found, and its schedule.
+// Adds the answer that decides a claim: what was found, and its schedule.
 fn push_shown_answer(
     told: &mut Vec<u8>,
     alloc: Global,

@@ -1,15 +1,15 @@
-//! Numbers and spaces behind a text.
+//! Adds numbers, words and spaces to a text.
 
 use itoa::{Buffer, Integer};
 use std::alloc::AllocError;
 
-/// A number in digits. `AllocError` where memory is refused.
+/// Adds a number in digits. `AllocError` if memory runs out.
 pub(crate) fn push_number<I: Integer>(told: &mut Vec<u8>, number: I) -> Result<(), AllocError> {
     let mut digits = Buffer::new();
     told.extend_from_slice(digits.format(number).as_bytes())
 }
 
-/// A word, and a number behind it. `AllocError` where memory is refused.
+/// Adds a word, and then a number. `AllocError` if memory runs out.
 pub(crate) fn push_about<I: Integer>(
     told: &mut Vec<u8>,
     word: &str,
@@ -19,12 +19,12 @@ pub(crate) fn push_about<I: Integer>(
     push_number(told, number)
 }
 
-/// A word. `AllocError` where memory is refused.
+/// Adds a word. `AllocError` if memory runs out.
 pub(crate) fn push_word(told: &mut Vec<u8>, word: &str) -> Result<(), AllocError> {
     told.extend_from_slice(word.as_bytes())
 }
 
-/// So many times this byte. `AllocError` where memory is refused.
+/// Adds a byte `times` times. `AllocError` if memory runs out.
 pub(crate) fn push_times(told: &mut Vec<u8>, byte: u8, times: usize) -> Result<(), AllocError> {
     for _ in 0..times {
         told.push(byte)?;
@@ -32,13 +32,13 @@ pub(crate) fn push_times(told: &mut Vec<u8>, byte: u8, times: usize) -> Result<(
     Ok(())
 }
 
-/// How many digits a number has.
+/// The number of digits of a number.
 pub(crate) fn width_of<I: Integer>(number: I) -> usize {
     let mut digits = Buffer::new();
     digits.format(number).len()
 }
 
-/// A number at the right of so many columns. `AllocError` where memory is refused.
+/// Adds a number at the right of a column of this width. `AllocError` if memory runs out.
 pub(crate) fn push_right(
     told: &mut Vec<u8>,
     width: usize,
@@ -48,7 +48,7 @@ pub(crate) fn push_right(
     push_number(told, number)
 }
 
-/// A number of something: `1 claim`, `2 claims`. `AllocError` where memory is refused.
+/// Adds a number of things: `1 claim`, `2 claims`. `AllocError` if memory runs out.
 pub(crate) fn push_count(told: &mut Vec<u8>, count: usize, what: &str) -> Result<(), AllocError> {
     push_number(told, count)?;
     told.push(b' ')?;
@@ -59,7 +59,7 @@ pub(crate) fn push_count(told: &mut Vec<u8>, count: usize, what: &str) -> Result
     Ok(())
 }
 
-/// Milliseconds as seconds, with two digits behind the point. `AllocError` where memory is refused.
+/// Adds milliseconds as seconds, with two digits after the point. `AllocError` if memory runs out.
 pub(crate) fn push_seconds(told: &mut Vec<u8>, milliseconds: u64) -> Result<(), AllocError> {
     let hundredths = milliseconds / 10;
     push_number(told, hundredths / 100)?;

@@ -2,8 +2,8 @@
 
 use std::alloc::{AllocError, Global};
 
-/// Bytes as text of a document of XML or HTML. What is no UTF-8, or no character of XML, is replaced by U+FFFD.
-/// `AllocError` where memory is refused.
+/// Adds bytes as text of a document of XML or HTML. Bytes that are no UTF-8, characters below U+0020 but the line feed,
+/// U+FFFE and U+FFFF become U+FFFD. `AllocError` if memory runs out.
 pub(crate) fn push_escaped(
     told: &mut Vec<u8>,
     alloc: Global,
@@ -17,7 +17,7 @@ pub(crate) fn push_escaped(
     told.extend_from_slice(escaped.as_bytes())
 }
 
-// A character as text of a document.
+// Adds a character as text of a document.
 fn push_character(escaped: &mut String, character: char) -> Result<(), AllocError> {
     match character {
         '&' => escaped.push_str("&amp;"),

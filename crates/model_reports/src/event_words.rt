@@ -1,4 +1,4 @@
-//! What is said of an event, in the names of a file.
+//! The words for an event, in the names of a file.
 
 use crate::digits::{push_about, push_word};
 use crate::names::{push_deferred, push_fiber, push_ref};
@@ -10,8 +10,8 @@ use model_runs::Named;
 use model_terms::{LATE, Source};
 use std::alloc::AllocError;
 
-/// What is said of an event: the mark that was noted, or else what the move did. Of a move that changed the fiber alone
-/// nothing is said. `AllocError` where memory is refused.
+/// Adds the words for an event: its mark, or else what the move did. Adds nothing for a move that has no mark and makes
+/// no shared call, unless its fiber waits. `AllocError` if memory runs out.
 pub(crate) fn push_event(
     told: &mut Vec<u8>,
     source: &Source,
@@ -28,7 +28,7 @@ pub(crate) fn push_event(
     }
 }
 
-// A mark, as a report spells it. What the translation of a model says has words of its own.
+// Adds a mark, as a report spells it. The `say` of a probe has words of its own.
 fn push_mark(told: &mut Vec<u8>, mark: Mark) -> Result<(), AllocError> {
     match mark {
         Mark::Say(value) => push_say(told, value.get()),
@@ -44,7 +44,7 @@ fn push_mark(told: &mut Vec<u8>, mark: Mark) -> Result<(), AllocError> {
     }
 }
 
-// What is said. The value that a model's term says of an order that is missed is no value of the file.
+// Adds a `say`. The value `LATE`, which a probe says of a broken order, is no value of the file.
 fn push_say(told: &mut Vec<u8>, value: i64) -> Result<(), AllocError> {
     if value == LATE {
         push_word(told, "comes first:")
@@ -53,7 +53,7 @@ fn push_say(told: &mut Vec<u8>, value: i64) -> Result<(), AllocError> {
     }
 }
 
-// A shared call with its reply. Masks and cuts have marks of their own.
+// Adds a shared call with its reply. Masks and cuts have marks of their own.
 fn push_call(
     told: &mut Vec<u8>,
     source: &Source,
@@ -85,7 +85,7 @@ fn push_call(
     }
 }
 
-// What was made, with its name.
+// Adds what was made, with its name.
 fn push_made(
     told: &mut Vec<u8>,
     source: &Source,
@@ -112,7 +112,7 @@ fn push_made(
     }
 }
 
-// The value that a ref was answered with.
+// The value in the reply of a ref; 0 if there is none.
 fn value_in(reply: Reply) -> i64 {
     match reply {
         Reply::Value(value) => value.get(),
@@ -120,7 +120,7 @@ fn value_in(reply: Reply) -> i64 {
     }
 }
 
-// What a ref holds.
+// Adds what a ref holds.
 fn push_get(
     told: &mut Vec<u8>,
     source: &Source,
@@ -133,7 +133,7 @@ fn push_get(
     push_about(told, ": ", held)
 }
 
-// What a ref is set to.
+// Adds what a ref is set to.
 fn push_set(
     told: &mut Vec<u8>,
     source: &Source,
@@ -146,7 +146,7 @@ fn push_set(
     push_about(told, ": ", value)
 }
 
-// A sum, with what the ref held before and holds since.
+// Adds a `modify`, with the values of the ref before and after.
 fn push_modify(
     told: &mut Vec<u8>,
     source: &Source,
@@ -161,7 +161,7 @@ fn push_modify(
     push_about(told, " -> ", sum(held, added))
 }
 
-// A completion, or that the deferred was completed before.
+// Adds a completion, or that the deferred was completed before.
 fn push_complete(
     told: &mut Vec<u8>,
     source: &Source,
@@ -178,7 +178,7 @@ fn push_complete(
     }
 }
 
-// The value of a deferred, or a wait for it.
+// Adds the value of a deferred, or a wait for the deferred.
 fn push_read(
     told: &mut Vec<u8>,
     source: &Source,
@@ -200,7 +200,7 @@ fn push_read(
     }
 }
 
-// A request for the cancellation of a fiber, and what it found.
+// Adds a request for the cancellation of a fiber, and whether the fiber was requested before or has ended.
 fn push_cancel(
     told: &mut Vec<u8>,
     source: &Source,
@@ -217,7 +217,7 @@ fn push_cancel(
     }
 }
 
-// A wait for the end of a fiber, or how it ended.
+// Adds a wait for the end of a fiber, or how the fiber ended.
 fn push_join(
     told: &mut Vec<u8>,
     source: &Source,
@@ -239,7 +239,7 @@ fn push_join(
     }
 }
 
-/// How a fiber ended, as a report spells it. `AllocError` where memory is refused.
+/// Adds an outcome, as a report spells it. `AllocError` if memory runs out.
 pub(crate) fn push_outcome(told: &mut Vec<u8>, outcome: Outcome) -> Result<(), AllocError> {
     match outcome {
         Outcome::Succeeded(value) => push_about(told, "succeeded ", value.get()),
@@ -248,7 +248,7 @@ pub(crate) fn push_outcome(told: &mut Vec<u8>, outcome: Outcome) -> Result<(), A
     }
 }
 
-// The sum modulo 2^63, which a ref holds behind a `modify`.
+// The sum modulo 2^63, which a ref holds after a `modify`.
 fn sum(old: i64, added: i64) -> i64 {
     let half = 4_611_686_018_427_387_904;
     let sum = old.saturating_add(added);

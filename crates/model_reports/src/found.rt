@@ -12,11 +12,11 @@ use model_terms::Source;
 use std::alloc::{AllocError, Global};
 use text_io::{MOST_ENTRIES, schedule_text};
 
-// How many answers are listed at most.
+// The greatest number of answers that are listed.
 const MOST_LISTED: usize = 20;
 
-/// An answer: what its fibers have come to, what a ref held that was watched, and the fault that ends its schedule, if
-/// one does; of a moment what refs hold there, too. `AllocError` where memory is refused.
+/// Adds an answer: the fault that ends its schedule, if any, the values of refs at a moment, the outcomes of its
+/// fibers, and the values of watched refs. `AllocError` if memory runs out.
 pub(crate) fn push_found(
     told: &mut Vec<u8>,
     source: &Source,
@@ -43,7 +43,7 @@ pub(crate) fn push_found(
     Ok(())
 }
 
-// What refs hold at a moment, by the names of its replay. Whether anything is told.
+// Adds the values of refs at a moment, by the names of its replay. Returns whether there are any.
 fn push_held_refs(
     told: &mut Vec<u8>,
     source: &Source,
@@ -63,7 +63,7 @@ fn push_held_refs(
     Ok(behind)
 }
 
-// The fibers of an answer, each with a comma and a space before it but the first.
+// Adds the fibers of an answer, with commas between them. `behind` says whether a comma comes before the first.
 fn push_fibers(
     told: &mut Vec<u8>,
     source: &Source,
@@ -82,7 +82,7 @@ fn push_fibers(
     Ok(())
 }
 
-// A comma and a space behind something.
+// Adds a comma and a space, if `behind`.
 fn push_comma(told: &mut Vec<u8>, behind: bool) -> Result<(), AllocError> {
     if behind {
         push_word(told, ", ")?;
@@ -90,8 +90,8 @@ fn push_comma(told: &mut Vec<u8>, behind: bool) -> Result<(), AllocError> {
     Ok(())
 }
 
-// Whether the end of a fiber is told: not of one that has no name in the file and succeeded, and of one that watches a
-// ref where a replay says which.
+// Whether the end of a fiber is written. A fiber without a name in the file is left out if it succeeded. A watcher is
+// written only if it succeeded and a replay shows its ref.
 fn is_told(fiber: &SeenFiber, has_replay: bool) -> bool {
     match fiber.name {
         FiberName::Watcher => has_replay && has_succeeded(fiber),
@@ -109,7 +109,7 @@ fn has_succeeded(fiber: &SeenFiber) -> bool {
     matches!(fiber.outcome, Some(Outcome::Succeeded(_)))
 }
 
-// How a fiber ended, or what the ref held that it watches.
+// Adds how a fiber ended, or the value of the ref that a watcher read.
 fn push_fiber_end(
     told: &mut Vec<u8>,
     source: &Source,
@@ -127,7 +127,7 @@ fn push_fiber_end(
     push_end(told, fiber.outcome)
 }
 
-// What a ref held, by the end of the fiber that watches it.
+// Adds what a ref held, by the outcome of its watcher.
 fn push_held(told: &mut Vec<u8>, outcome: Option<Outcome>) -> Result<(), AllocError> {
     match outcome {
         Some(ended) => push_read(told, ended),
@@ -135,7 +135,7 @@ fn push_held(told: &mut Vec<u8>, outcome: Option<Outcome>) -> Result<(), AllocEr
     }
 }
 
-// What a ref held that was read by a fiber that ended so.
+// Adds what a ref held, by the outcome of a watcher that has ended.
 fn push_read(told: &mut Vec<u8>, ended: Outcome) -> Result<(), AllocError> {
     match ended {
         Outcome::Succeeded(value) => push_about(told, " = ", value.get()),
@@ -144,7 +144,7 @@ fn push_read(told: &mut Vec<u8>, ended: Outcome) -> Result<(), AllocError> {
     }
 }
 
-// How a fiber ended, or that it didn't.
+// Adds how a fiber ended, or that the fiber is unended.
 fn push_end(told: &mut Vec<u8>, outcome: Option<Outcome>) -> Result<(), AllocError> {
     told.push(b' ')?;
     match outcome {
@@ -153,7 +153,7 @@ fn push_end(told: &mut Vec<u8>, outcome: Option<Outcome>) -> Result<(), AllocErr
     }
 }
 
-// The ref that a fiber watches.
+// Adds the ref that a fiber watches.
 fn push_watched(
     told: &mut Vec<u8>,
     source: &Source,
@@ -178,7 +178,7 @@ pub(crate) fn watched_ref(replay: &Named, fiber: usize) -> Option<u16> {
     None
 }
 
-/// A fault of a run, as `replay` writes it. `AllocError` where memory is refused.
+/// Adds a fault of a run, as `replay` writes it. `AllocError` if memory runs out.
 pub(crate) fn push_fault(told: &mut Vec<u8>, fault: RunError) -> Result<(), AllocError> {
     match fault {
         RunError::Full(Band::Fibers, limit) => push_limit(told, limit, " fibers"),
@@ -191,14 +191,15 @@ pub(crate) fn push_fault(told: &mut Vec<u8>, fault: RunError) -> Result<(), Allo
     }
 }
 
-// That all numbers of a band were given.
+// Adds the fault that all numbers of a band are given.
 fn push_limit(told: &mut Vec<u8>, limit: u16, band: &str) -> Result<(), AllocError> {
     push_word(told, "fault 18 Full")?;
     push_word(told, band)?;
     push_about(told, " ", limit)
 }
 
-/// A schedule, as `--schedule` takes it. `AllocError` where memory is refused.
+/// Returns the schedule of an answer, for `--schedule`; `..` if `--schedule` doesn't take it. `AllocError` if memory
+/// runs out.
 pub(crate) fn schedule_of(alloc: Global, answer: &NamedAnswer) -> Result<String, AllocError> {
     let entries = answer.schedule.as_slice();
     if entries.len() <= MOST_ENTRIES && entries.iter().all(|fiber| *fiber < 1000) {
@@ -208,8 +209,8 @@ pub(crate) fn schedule_of(alloc: Global, answer: &NamedAnswer) -> Result<String,
     }
 }
 
-/// The answers of a search, a line each behind these spaces: at most 20 whose fibers have come to different ends, and how
-/// many more answers there are. `AllocError` where memory is refused.
+/// Adds the answers of a search, a line each: at most 20, which differ in their faults or the outcomes of their fibers.
+/// Adds a line `..` after 20 answers. `AllocError` if memory runs out.
 pub(crate) fn push_answers(
     told: &mut Vec<u8>,
     source: &Source,
@@ -230,7 +231,7 @@ pub(crate) fn push_answers(
     Ok(())
 }
 
-// Whether no answer before this one has the same fibers with the same ends.
+// Whether no answer before this one has the same fault, and the same fibers with the same outcomes.
 fn is_new(search: &Search, number: usize, answer: &NamedAnswer) -> bool {
     for before in search.answers.iter().take(number) {
         if before.fault == answer.fault && is_same(&before.seen, &answer.seen) {
@@ -240,7 +241,7 @@ fn is_new(search: &Search, number: usize, answer: &NamedAnswer) -> bool {
     true
 }
 
-// Whether two answers have the same fibers with the same ends.
+// Whether two answers have the same fibers with the same outcomes.
 fn is_same(one: &Seen, other: &Seen) -> bool {
     let mut same = one.fibers.len() == other.fibers.len();
     for (first, second) in one.fibers.iter().zip(other.fibers.iter()) {

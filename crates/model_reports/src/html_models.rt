@@ -12,8 +12,8 @@ use model_forms::form_bytes;
 use model_runs::ClaimResult;
 use std::alloc::{AllocError, Global};
 
-/// A model: its name, its verdict, and below these what it says of itself, its warnings, and each claim with what
-/// decides it. It is open where it doesn't pass. It has this number on the page. `AllocError` where memory is refused.
+/// Adds the model of this number on the page: its name, its verdict, and below these its text, its warnings, and each
+/// claim with what decides the claim. A model that didn't pass is open. `AllocError` if memory runs out.
 pub(crate) fn push_html_model(
     told: &mut Vec<u8>,
     alloc: Global,
@@ -38,7 +38,7 @@ pub(crate) fn push_html_model(
     push_word(told, "</ul>\n</details>\n")
 }
 
-/// A model that was refused, with the text of its fault. `AllocError` where memory is refused.
+/// Adds a model that was refused, with the text of its fault. `AllocError` if memory runs out.
 pub(crate) fn push_html_refused(
     told: &mut Vec<u8>,
     alloc: Global,
@@ -53,7 +53,7 @@ pub(crate) fn push_html_refused(
     push_word(told, "</pre>\n</details>\n")
 }
 
-/// The word of a verdict on a page. It is the name of its style, too.
+/// The word of a verdict on a page, which is also the name of its style.
 pub(crate) fn html_word(verdict: Verdict) -> &'static str {
     match verdict {
         Verdict::Passed => "passed",
@@ -62,7 +62,7 @@ pub(crate) fn html_word(verdict: Verdict) -> &'static str {
     }
 }
 
-/// A verdict. `AllocError` where memory is refused.
+/// Adds a verdict. `AllocError` if memory runs out.
 pub(crate) fn push_verdict(told: &mut Vec<u8>, verdict: Verdict) -> Result<(), AllocError> {
     push_word(told, "<span class=\"verdict ")?;
     push_word(told, html_word(verdict))?;
@@ -71,7 +71,7 @@ pub(crate) fn push_verdict(told: &mut Vec<u8>, verdict: Verdict) -> Result<(), A
     push_word(told, "</span> ")
 }
 
-// The beginning of a model, up to its name.
+// Adds the beginning of a model, up to its name.
 fn push_opened(told: &mut Vec<u8>, number: usize, verdict: Verdict) -> Result<(), AllocError> {
     push_word(told, "<details class=\"model\" id=\"m")?;
     push_number(told, number)?;
@@ -81,7 +81,7 @@ fn push_opened(told: &mut Vec<u8>, number: usize, verdict: Verdict) -> Result<()
     push_word(told, "<span class=\"name\">")
 }
 
-// The end of the tag of what is open where a verdict isn't that all passed.
+// The end of the tag of a model. A model that didn't pass is open.
 fn opened(verdict: Verdict) -> &'static str {
     match verdict {
         Verdict::Passed => "\">",
@@ -89,7 +89,7 @@ fn opened(verdict: Verdict) -> &'static str {
     }
 }
 
-// What a model says of itself: the text behind its name, without its quotes.
+// Adds the text of a model, which is behind its name, without the quotes.
 fn push_text(told: &mut Vec<u8>, alloc: Global, judged: JudgedModel) -> Result<(), AllocError> {
     let Some(form) = judged.model.text else {
         return Ok(());
@@ -101,7 +101,7 @@ fn push_text(told: &mut Vec<u8>, alloc: Global, judged: JudgedModel) -> Result<(
     push_word(told, "</p>\n")
 }
 
-// The warnings of a model.
+// Adds the warnings of a model.
 fn push_warnings(told: &mut Vec<u8>, alloc: Global, judged: JudgedModel) -> Result<(), AllocError> {
     let mut line = Vec::new(alloc);
     for warning in judged.result.warnings.iter() {
@@ -114,7 +114,7 @@ fn push_warnings(told: &mut Vec<u8>, alloc: Global, judged: JudgedModel) -> Resu
     Ok(())
 }
 
-// A claim: its verdict, its text, its place, and what decides it.
+// Adds a claim: its verdict, its text, its place, and what decides the claim.
 fn push_claim(
     told: &mut Vec<u8>,
     alloc: Global,
@@ -135,7 +135,7 @@ fn push_claim(
     push_word(told, "</li>\n")
 }
 
-// What decides a claim. Of one that passes it is shown on demand.
+// Adds what decides a claim. For a passed claim, the page shows this on demand.
 fn push_decided(
     told: &mut Vec<u8>,
     alloc: Global,
@@ -153,7 +153,7 @@ fn push_decided(
     }
 }
 
-// Why a claim has its verdict, with the timeline of the answer that decides it.
+// Adds why a claim has its verdict, with the timeline of the answer that decides the claim.
 fn push_why(
     told: &mut Vec<u8>,
     alloc: Global,
@@ -161,7 +161,7 @@ fn push_why(
     claim: &ClaimResult,
 ) -> Result<(), AllocError> {
     let mut lines = Vec::new(alloc);
-    if let Some(search) = judged.result.searches.get(claim.search) {
+    if let Some(search) = judged.result.search_of(claim) {
         push_reasons(&mut lines, alloc, judged, claim, search)?;
     }
     push_word(told, "<div class=\"why\">")?;
@@ -173,10 +173,10 @@ fn push_why(
     }
 }
 
-// How many spaces are before each line of a reason.
+// The number of spaces before each line of a reason.
 const MARGIN: usize = 5;
 
-// Lines, each of which ends with a line feed, without their margin.
+// Adds lines without their margin. Each line ends with a line feed.
 fn push_lines(told: &mut Vec<u8>, alloc: Global, lines: &[u8]) -> Result<(), AllocError> {
     let mut line = Vec::new(alloc);
     for byte in lines {

@@ -10,22 +10,22 @@ use model_claims::Verdict;
 use std::alloc::{AllocError, Global};
 use timelines::STYLE;
 
-/// A page of models, to which one after another is added.
+/// A page of models, which are added one after another.
 #[derive(Drop)]
 pub struct HtmlPage {
     alloc: Global,
-    // How many models were added.
+    // The number of models that were added.
     count: usize,
     // The file of the last model.
     file: Vec<u8>,
-    // A link to each model that doesn't pass.
+    // A link to each model that didn't pass.
     links: Vec<u8>,
-    // The models, behind the names of their files.
+    // The models, after the names of their files.
     models: Vec<u8>,
 }
 
 impl HtmlPage {
-    /// A page without models.
+    /// Returns a page without models.
     pub fn new(alloc: Global) -> HtmlPage {
         HtmlPage {
             alloc,
@@ -36,15 +36,15 @@ impl HtmlPage {
         }
     }
 
-    /// Adds a model with its verdict and its claims. What decides a claim is below it: what was found, the schedule,
-    /// and its timeline as a table and as a picture. `AllocError` where memory is refused.
+    /// Adds a model with its verdict and its claims. Below each claim is what decides the claim: what was found, the
+    /// schedule, and its timeline as a table and as a picture. `AllocError` if memory runs out.
     pub fn add(&mut self, judged: JudgedModel) -> Result<(), AllocError> {
         let name = name_of(judged.source, judged.model);
         self.begin_model(judged.file.name, name, judged.result.verdict)?;
         push_html_model(&mut self.models, self.alloc, judged, self.count)
     }
 
-    /// Adds a model of a file that was refused, with the text of its fault. `AllocError` where memory is refused.
+    /// Adds a model of a file that was refused, with the text of its fault. `AllocError` if memory runs out.
     pub fn add_refused(
         &mut self,
         file: &[u8],
@@ -55,7 +55,7 @@ impl HtmlPage {
         push_html_refused(&mut self.models, self.alloc, name, reason, self.count)
     }
 
-    // Adds the name of a file, where another one was before it, and a link where the model doesn't pass.
+    // Adds the name of a file, if the last model has another file, and a link, if the model didn't pass.
     fn begin_model(
         &mut self,
         file: &[u8],
@@ -75,7 +75,7 @@ impl HtmlPage {
         }
     }
 
-    // A link to the last model.
+    // Adds a link to the last model.
     fn push_link(&mut self, name: &[u8], verdict: Verdict) -> Result<(), AllocError> {
         push_word(&mut self.links, "<li>")?;
         push_verdict(&mut self.links, verdict)?;
@@ -86,8 +86,8 @@ impl HtmlPage {
         push_word(&mut self.links, "</a></li>\n")
     }
 
-    /// The page, which stands alone: it has its style in it, no scripts, and nothing from elsewhere. The verdicts are
-    /// those of its models. `AllocError` where memory is refused.
+    /// Returns the page. The page has its style in it, has no scripts, and loads nothing. `verdicts` are those of its
+    /// models. `AllocError` if memory runs out.
     pub fn document(&self, verdicts: &[Verdict]) -> Result<Vec<u8>, AllocError> {
         let mut told = Vec::new(self.alloc);
         push_head(&mut told, verdicts)?;
@@ -102,7 +102,7 @@ impl HtmlPage {
     }
 }
 
-// The beginning of a page: its style, that of its pictures, and how many models passed, failed and are undecided.
+// Adds the beginning of a page: its style, that of its pictures, and how many models passed, failed and are undecided.
 fn push_head(told: &mut Vec<u8>, verdicts: &[Verdict]) -> Result<(), AllocError> {
     push_word(
         told,
@@ -132,7 +132,7 @@ fn push_head(told: &mut Vec<u8>, verdicts: &[Verdict]) -> Result<(), AllocError>
     push_word(told, "</ul>\n")
 }
 
-// How many models have a verdict.
+// Adds the number of models with a verdict.
 fn push_counted(told: &mut Vec<u8>, verdict: Verdict, count: usize) -> Result<(), AllocError> {
     push_word(told, "<li class=\"")?;
     push_word(told, html_word(verdict))?;

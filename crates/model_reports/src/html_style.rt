@@ -1,4 +1,4 @@
-//! How a page of models looks: its colours by day and by night, and its boxes.
+//! The style of a page of models: its colours, light and dark, and its boxes.
 
 /// The style of a page. Tables and pictures scroll in boxes of their own.
 pub(crate) const PAGE_STYLE: &str = "<style>\n\

@@ -1,4 +1,4 @@
-//! The timeline of a schedule as a table and as a picture of a page.
+//! The timeline of a schedule on a page, as a table and as a picture.
 
 use crate::digits::{push_number, push_word};
 use crate::escaped::push_escaped;
@@ -14,8 +14,8 @@ use model_terms::Source;
 use std::alloc::{AllocError, Global};
 use timelines::{Wording, drawn};
 
-/// The timeline of a replay: a table with a row for each entry that did something anyone would see, and a picture. Each
-/// is in a box of its own, which scrolls. `AllocError` where memory is refused.
+/// Adds the timeline of a replay: a table with a row for each entry with a visible effect, and a picture. Each is in a
+/// box of its own, which scrolls. `AllocError` if memory runs out.
 pub(crate) fn push_html_timeline(
     told: &mut Vec<u8>,
     alloc: Global,
@@ -54,7 +54,7 @@ fn shown_fibers(
     Ok(fibers)
 }
 
-// The headings of the columns.
+// Adds the headings of the columns.
 fn push_headings(
     told: &mut Vec<u8>,
     alloc: Global,
@@ -74,7 +74,7 @@ fn push_headings(
     Ok(())
 }
 
-// A row: the number of the entry, its place in the file, and in the column of its fiber what it did.
+// Adds a row: the number of the entry, its place in the file, and, in the column of its fiber, what the entry did.
 fn push_row(
     told: &mut Vec<u8>,
     alloc: Global,
@@ -100,7 +100,7 @@ fn push_row(
     push_word(told, "</tr>\n")
 }
 
-// The picture.
+// Adds the picture.
 fn push_picture(
     told: &mut Vec<u8>,
     alloc: Global,
@@ -130,7 +130,7 @@ struct FileWording<'a> {
 }
 
 impl FileWording<'_> {
-    // Bytes as text of a document.
+    // Adds bytes as text of a document.
     fn push(&self, text: &mut String, words: &[u8]) -> Result<(), AllocError> {
         let mut escaped = Vec::new(self.alloc);
         push_escaped(&mut escaped, self.alloc, words)?;

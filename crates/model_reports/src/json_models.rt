@@ -13,8 +13,8 @@ use reasons::Position;
 use serde_json::{Value, json};
 use std::alloc::{AllocError, Global};
 
-/// A report of models, each made by [`model_json`], as one object and a line feed: the models, and how many of these
-/// verdicts there are of each. `AllocError` where memory is refused.
+/// Returns a report on models as one object and a line feed: the models, each made by [`model_json`], and the number of
+/// each of these verdicts. `AllocError` if memory runs out.
 pub fn json_report(
     alloc: Global,
     verdicts: &[Verdict],
@@ -32,8 +32,8 @@ pub fn json_report(
     Ok(text)
 }
 
-/// A model: its name and its place, its verdict, how many worlds were found and how many milliseconds that took, its
-/// claims and its warnings. `AllocError` where memory is refused.
+/// Returns a model: its name and its place, its verdict, the numbers of its worlds and its milliseconds, its claims and
+/// its warnings. `AllocError` if memory runs out.
 pub fn model_json(alloc: Global, judged: JudgedModel) -> Result<Value, AllocError> {
     let name = text_value(alloc, name_of(judged.source, judged.model))?;
     let file = text_value(alloc, judged.file.name)?;
@@ -50,7 +50,7 @@ pub fn model_json(alloc: Global, judged: JudgedModel) -> Result<Value, AllocErro
         "worlds": worlds})
 }
 
-// Where a place of a source is in its file. What is in no file is at its start.
+// The line and the column of a place of a source; both are 1 if the place isn't in the file.
 fn position_of(judged: JudgedModel, place: usize) -> Position {
     match position_in_file(judged.file, place) {
         Some(position) => position,
@@ -58,7 +58,7 @@ fn position_of(judged: JudgedModel, place: usize) -> Position {
     }
 }
 
-// Bytes as a string. What is no UTF-8 is replaced by U+FFFD.
+// Bytes as a string. Bytes that are no UTF-8 become U+FFFD.
 fn text_value(alloc: Global, bytes: &[u8]) -> Result<Value, AllocError> {
     let text = String::from_utf8_lossy(alloc, bytes)?;
     Ok(Value::String(text))
@@ -83,7 +83,7 @@ fn warning_values(alloc: Global, judged: JudgedModel) -> Result<Value, AllocErro
     Ok(Value::Array(values))
 }
 
-// A warning: its short name, its place and the form that it speaks of.
+// A warning: its short name, its place and the form that the warning is about.
 fn warning_value(
     alloc: Global,
     judged: JudgedModel,
@@ -108,8 +108,8 @@ fn claim_values(alloc: Global, judged: JudgedModel) -> Result<Value, AllocError>
     Ok(Value::Array(values))
 }
 
-// A claim: its text and its place, its verdict, the worlds and the schedules that it was judged by, and the answer that
-// decides it.
+// A claim: its text and its place, its verdict, and, of the answer that decides the claim, the schedule, the fault and
+// what was found.
 fn claim_value(
     alloc: Global,
     judged: JudgedModel,
@@ -129,13 +129,13 @@ fn claim_value(
         "schedule": schedule, "verdict": verdict})
 }
 
-// The answer that decides a claim, if one does.
+// The answer that decides a claim, if any.
 fn shown_answer<'a>(judged: JudgedModel<'a>, claim: &ClaimResult) -> Option<&'a NamedAnswer> {
     let search = judged.result.search_of(claim)?;
     search.answers.get(claim.shown?)
 }
 
-// The schedule of an answer, or null where there is none.
+// The schedule of an answer, or null if there is no answer.
 fn schedule_value(alloc: Global, answer: Option<&NamedAnswer>) -> Result<Value, AllocError> {
     let Some(answer) = answer else {
         return Ok(Value::Null);
@@ -144,7 +144,7 @@ fn schedule_value(alloc: Global, answer: Option<&NamedAnswer>) -> Result<Value, 
     Ok(Value::String(schedule))
 }
 
-// The fault that ends an answer's schedule, or null where none does.
+// The fault that ends an answer's schedule, or null if there is none.
 fn fault_value(alloc: Global, answer: Option<&NamedAnswer>) -> Result<Value, AllocError> {
     let Some(answer) = answer else {
         return Ok(Value::Null);
@@ -157,7 +157,7 @@ fn fault_value(alloc: Global, answer: Option<&NamedAnswer>) -> Result<Value, All
     text_value(alloc, words.as_slice())
 }
 
-// What was found in an answer, or null where there is none.
+// What was found in an answer, or null if there is no answer.
 fn found_value(
     alloc: Global,
     judged: JudgedModel,
@@ -179,7 +179,7 @@ fn found_value(
     Ok(Value::Array(values))
 }
 
-// What a fiber has come to, or what the ref held that it watches.
+// A fiber and its outcome, or, for a watcher, its ref and the ref's value.
 fn fiber_value(
     alloc: Global,
     judged: JudgedModel,
@@ -193,7 +193,7 @@ fn fiber_value(
     }
 }
 
-// The name and the end of a fiber.
+// The name and the outcome of a fiber.
 fn named_fiber_value(
     alloc: Global,
     judged: JudgedModel,
@@ -207,7 +207,7 @@ fn named_fiber_value(
     json!(in alloc; {"fiber": name, "outcome": outcome})
 }
 
-// The name of a ref that is watched, and what it held.
+// The name of a watched ref, and the value that the watcher read.
 fn watched_value(
     alloc: Global,
     judged: JudgedModel,
@@ -226,7 +226,7 @@ fn watched_value(
     }
 }
 
-// The name of a ref, and what it holds at a moment.
+// The name of a ref, and its value at a moment.
 fn held_value(
     alloc: Global,
     judged: JudgedModel,
@@ -241,7 +241,7 @@ fn held_value(
     json!(in alloc; {"ref": name, "value": held.value.get()})
 }
 
-// How a fiber ended, or that it didn't.
+// The outcome of a fiber, or `unended`.
 fn outcome_value(alloc: Global, outcome: Option<Outcome>) -> Result<Value, AllocError> {
     let Some(ended) = outcome else {
         return json!(in alloc; "unended");

@@ -1,4 +1,4 @@
-//! A model of a file, and what became of it.
+//! A model of a file, and its result.
 
 use crate::digits::{push_count, push_number, push_seconds, push_times, push_word, width_of};
 use crate::named_file::{NamedFile, push_place};
@@ -10,16 +10,16 @@ use model_terms::{ModelTerm, Source};
 use model_text::Model;
 use std::alloc::{AllocError, Global};
 
-// How wide the names of models are at least.
+// The least width of the names of models.
 const NAME: usize = 36;
 
-// How wide the verdicts are.
+// The width of the verdicts.
 const VERDICT: usize = 10;
 
-// How wide the numbers of worlds are at least.
+// The least width of the numbers of worlds.
 const WORLDS: usize = 7;
 
-/// A model of a file, and what became of it.
+/// A model of a file, and its result.
 #[derive(Clone, Copy)]
 pub struct JudgedModel<'a> {
     /// The file.
@@ -28,9 +28,9 @@ pub struct JudgedModel<'a> {
     pub source: &'a Source,
     /// The model, as the file has it.
     pub model: &'a Model,
-    /// What became of it.
+    /// The result of the model.
     pub result: &'a ModelResult,
-    /// How many milliseconds that took.
+    /// The number of milliseconds that the model took.
     pub milliseconds: u64,
 }
 
@@ -39,8 +39,8 @@ pub(crate) fn name_of<'a>(source: &'a Source, model: &Model) -> &'a [u8] {
     form_bytes(source.text.as_slice(), model.name)
 }
 
-/// The line of a model that is done: its name, its verdict, how many worlds were found, how many seconds that took, and
-/// how many claims it has. The verdict has a colour where one is asked for. `AllocError` where memory is refused.
+/// Returns the line of a model: its name, its verdict, and the numbers of its worlds, its seconds and its claims. The
+/// verdict has a colour if `color`. `AllocError` if memory runs out.
 pub fn model_line(alloc: Global, judged: JudgedModel, color: bool) -> Result<Vec<u8>, AllocError> {
     let mut told = Vec::new(alloc);
     push_shown(&mut told, name_of(judged.source, judged.model))?;
@@ -62,12 +62,12 @@ pub fn model_line(alloc: Global, judged: JudgedModel, color: bool) -> Result<Vec
     Ok(told)
 }
 
-// Spaces, until a text has so many bytes.
+// Adds spaces until a text has `width` bytes.
 fn push_up_to(told: &mut Vec<u8>, width: usize) -> Result<(), AllocError> {
     push_times(told, b' ', width.saturating_sub(told.len()))
 }
 
-// A verdict in its column: with a colour, or without.
+// Adds a verdict in its column, with or without a colour.
 fn push_verdict(told: &mut Vec<u8>, verdict: Verdict, color: bool) -> Result<(), AllocError> {
     let word = verdict_word(verdict);
     if color {
@@ -80,7 +80,7 @@ fn push_verdict(told: &mut Vec<u8>, verdict: Verdict, color: bool) -> Result<(),
     push_times(told, b' ', VERDICT.saturating_sub(word.len()))
 }
 
-// What sets the colour of a verdict in a terminal: green, red or yellow.
+// The text that sets the colour of a verdict in a terminal: green, red or yellow.
 fn color_of(verdict: Verdict) -> &'static str {
     match verdict {
         Verdict::Passed => "\u{1b}[32m",
@@ -89,21 +89,21 @@ fn color_of(verdict: Verdict) -> &'static str {
     }
 }
 
-// What ends a colour in a terminal.
+// The text that ends a colour in a terminal.
 const PLAIN: &str = "\u{1b}[0m";
 
-// The number of worlds at the right of its column.
+// Adds the number of worlds at the right of its column.
 fn push_worlds(told: &mut Vec<u8>, worlds: u64) -> Result<(), AllocError> {
     push_times(told, b' ', WORLDS.saturating_sub(width_of(worlds)))?;
     push_number(told, worlds)
 }
 
-// How many bytes milliseconds have as seconds.
+// The number of bytes of milliseconds, written as seconds.
 fn seconds_width(milliseconds: u64) -> usize {
     width_of(milliseconds / 1000).saturating_add(3)
 }
 
-// How many claims, and whether some of them fail as they should.
+// Adds the number of claims, and whether some of them fail as they should.
 fn push_claims(told: &mut Vec<u8>, became: &ModelResult) -> Result<(), AllocError> {
     push_count(told, became.claims.len(), "claim")?;
     if became.verdict == Verdict::Passed && has_fails(became) {
@@ -112,7 +112,7 @@ fn push_claims(told: &mut Vec<u8>, became: &ModelResult) -> Result<(), AllocErro
     Ok(())
 }
 
-// Whether a claim was to fail.
+// Whether a claim has to be refuted.
 fn has_fails(became: &ModelResult) -> bool {
     let mut has = false;
     for claim in became.claims.iter() {
@@ -130,7 +130,7 @@ pub(crate) fn verdict_word(verdict: Verdict) -> &'static str {
     }
 }
 
-/// The line of a model that is listed: `FILE:LINE:COLUMN: NAME`. `AllocError` where memory is refused.
+/// Returns the line of a model that is listed: `FILE:LINE:COLUMN: NAME`. `AllocError` if memory runs out.
 pub fn listed_model(
     alloc: Global,
     file: NamedFile,
@@ -145,7 +145,7 @@ pub fn listed_model(
     Ok(told)
 }
 
-/// The term of a model behind a comment with its name, a line each. `AllocError` where memory is refused.
+/// Returns a comment with the name of a model, and its term, a line each. `AllocError` if memory runs out.
 pub fn named_term(
     alloc: Global,
     source: &Source,

@@ -8,8 +8,8 @@ use crate::verdicts::counts_of;
 use model_claims::Verdict;
 use std::alloc::{AllocError, Global};
 
-/// A document of test cases, each of them made by [`junit_case`]. The verdicts are those of its models. `AllocError`
-/// where memory is refused.
+/// Returns a document of test cases, each made by [`junit_case`]. `verdicts` are those of its models. `AllocError` if
+/// memory runs out.
 pub fn junit_document(
     alloc: Global,
     verdicts: &[Verdict],
@@ -31,8 +31,8 @@ pub fn junit_document(
     Ok(told)
 }
 
-/// A model as a test case: failed with what is told of its claims, or skipped where it is undecided. `AllocError` where
-/// memory is refused.
+/// Returns a model as a test case: passed, failed, or skipped if the model is undecided. The last two have the details
+/// of the model's claims. `AllocError` if memory runs out.
 pub fn junit_case(alloc: Global, judged: JudgedModel) -> Result<Vec<u8>, AllocError> {
     let mut told = Vec::new(alloc);
     push_word(&mut told, "  <testcase classname=\"")?;
@@ -50,26 +50,26 @@ pub fn junit_case(alloc: Global, judged: JudgedModel) -> Result<Vec<u8>, AllocEr
     Ok(told)
 }
 
-// The marks around what is told of a model.
+// The tags around the details of a model.
 #[derive(Clone, Copy)]
 struct Element {
     start: &'static str,
     end: &'static str,
 }
 
-// Of a model that failed.
+// The tags for a model that failed.
 const FAILURE: Element = Element {
     start: ">\n    <failure message=\"a claim failed\">",
     end: "</failure>\n  </testcase>\n",
 };
 
-// Of a model that is undecided.
+// The tags for a model that is undecided.
 const SKIPPED: Element = Element {
     start: ">\n    <skipped message=\"a bound was met\">",
     end: "</skipped>\n  </testcase>\n",
 };
 
-// What is told of a model between these marks.
+// Adds the details of a model between these tags.
 fn push_element(
     told: &mut Vec<u8>,
     alloc: Global,

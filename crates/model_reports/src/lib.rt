@@ -1,9 +1,8 @@
-//! What is told of the models of a file: faults, verdicts and timelines, as text, as JSON, as a page of HTML, and in
-//! the formats of the Test Anything Protocol and of JUnit.
+//! Reports on the models of a file: faults, verdicts and timelines, as text, as JSON, as a page of HTML, and in the
+//! formats of the Test Anything Protocol and of JUnit.
 //!
-//! It stands on what became of a model (`model_runs`), and tells it in the names and the places of the file
-//! (`model_terms`), on a page with pictures (`timelines`). It promises the status that verdicts come to. What the texts
-//! say is shown by tests.
+//! This crate writes the results of models (`model_runs`) in the names and the places of the file (`model_terms`), and
+//! a page with pictures (`timelines`). It promises the status of verdicts. Tests show what the texts say.
 #![tactic(auto)]
 
 mod claim_details;

@@ -1,4 +1,4 @@
-//! A model file with its name, and where something is in it.
+//! A model file with its name, and the places in a file.
 
 use crate::digits::{push_about, push_number};
 use crate::shown::push_shown;
@@ -7,17 +7,17 @@ use model_terms::{Source, prelude};
 use reasons::{Position, position_at};
 use std::alloc::AllocError;
 
-/// A model file, and the name that it was opened under.
+/// A model file, and the name under which it was opened.
 #[derive(Clone, Copy)]
 pub struct NamedFile<'a> {
     /// The name of the file.
     pub name: &'a [u8],
-    /// What the file has, without the definitions that every file has.
+    /// The bytes of the file, without the definitions that every file has.
     pub bytes: &'a [u8],
 }
 
-/// Where a place of a source is in its file: the number of bytes before it. Places count from the definitions that
-/// every file has, and one inside these is in no file.
+/// The number of bytes of the file before a place of a source. Places count from the definitions that every file has;
+/// none for a place inside these.
 pub(crate) fn place_in_file(place: usize) -> Option<usize> {
     place.checked_sub(prelude().len())
 }
@@ -30,8 +30,8 @@ pub(crate) fn position_in_file(file: NamedFile, place: usize) -> Option<Position
     }
 }
 
-/// A place of a source: `FILE:LINE:COLUMN`, or the name of the file alone where it is in none. `AllocError` where
-/// memory is refused.
+/// Adds a place of a source: `FILE:LINE:COLUMN`, or the name of the file alone if the place isn't in the file.
+/// `AllocError` if memory runs out.
 pub(crate) fn push_place(
     told: &mut Vec<u8>,
     file: NamedFile,
@@ -47,18 +47,18 @@ pub(crate) fn push_place(
     }
 }
 
-/// A line and a column. `AllocError` where memory is refused.
+/// Adds a line and a column. `AllocError` if memory runs out.
 pub(crate) fn push_position(told: &mut Vec<u8>, position: Position) -> Result<(), AllocError> {
     push_number(told, position.line)?;
     push_about(told, ":", position.column)
 }
 
-/// The form of a source with this number, if it has one.
+/// The form of a source with this number, if there is one.
 pub(crate) fn form_at(source: &Source, form: usize) -> Option<Form> {
     source.file.forms.get(form).copied()
 }
 
-/// The place of the form of a source with this number, or the end of the text.
+/// The place of the form of a source with this number; the end of the text if there is none.
 pub(crate) fn start_of(source: &Source, form: usize) -> usize {
     match form_at(source, form) {
         Some(form) => form.start,
@@ -66,7 +66,7 @@ pub(crate) fn start_of(source: &Source, form: usize) -> usize {
     }
 }
 
-/// The bytes of the form of a source with this number.
+/// The bytes of the form of a source with this number; empty if there is none.
 pub(crate) fn bytes_of(source: &Source, form: usize) -> &[u8] {
     match form_at(source, form) {
         Some(form) => form_bytes(source.text.as_slice(), form),

@@ -8,7 +8,7 @@ use model_runs::Named;
 use model_terms::{BinderName, Source};
 use std::alloc::AllocError;
 
-/// A fiber as its file names it, or `fiber N` of one that has no name there. `AllocError` where memory is refused.
+/// Adds the name of a fiber in its file, or `fiber N` if there is none. `AllocError` if memory runs out.
 pub(crate) fn push_fiber_name(
     told: &mut Vec<u8>,
     source: &Source,
@@ -25,7 +25,7 @@ pub(crate) fn push_fiber_name(
     }
 }
 
-// One of a row: the name of the row, a dot and its number in it.
+// Adds the name of one of a row: the name of the row, a dot and the number in the row.
 fn push_row_name(
     told: &mut Vec<u8>,
     source: &Source,
@@ -36,7 +36,7 @@ fn push_row_name(
     push_about(told, ".", place)
 }
 
-// A ref or a deferred as its file names it, or the word and the number of one that has no name there.
+// Adds the name of a ref or a deferred in its file, or this word and this number if there is none.
 fn push_cell_name(
     told: &mut Vec<u8>,
     source: &Source,
@@ -59,7 +59,7 @@ pub(crate) fn fiber_name(replay: &Named, fiber: u16) -> FiberName {
     }
 }
 
-/// A fiber of a replay. `AllocError` where memory is refused.
+/// Adds the name of a fiber of a replay. `AllocError` if memory runs out.
 pub(crate) fn push_fiber(
     told: &mut Vec<u8>,
     source: &Source,
@@ -69,7 +69,7 @@ pub(crate) fn push_fiber(
     push_fiber_name(told, source, fiber_name(replay, fiber), usize::from(fiber))
 }
 
-/// A ref of a replay. `AllocError` where memory is refused.
+/// Adds the name of a ref of a replay. `AllocError` if memory runs out.
 pub(crate) fn push_ref(
     told: &mut Vec<u8>,
     source: &Source,
@@ -80,7 +80,7 @@ pub(crate) fn push_ref(
     push_cell_name(told, source, name, "ref ", number)
 }
 
-/// A deferred of a replay. `AllocError` where memory is refused.
+/// Adds the name of a deferred of a replay. `AllocError` if memory runs out.
 pub(crate) fn push_deferred(
     told: &mut Vec<u8>,
     source: &Source,
@@ -91,7 +91,7 @@ pub(crate) fn push_deferred(
     push_cell_name(told, source, name, "deferred ", number)
 }
 
-// The name of this number.
+// The name of this number; `Hidden` if there is none.
 fn cell_name(names: &[BinderName], number: u16) -> BinderName {
     match names.get(usize::from(number)) {
         Some(name) => *name,

@@ -13,8 +13,8 @@ enum Inside {
     Comment,
 }
 
-/// The bytes of a form on one line: without comments, and with one space where there are more, or line feeds.
-/// `AllocError` where memory is refused.
+/// Returns the bytes of a form on one line: without comments, and with one space for each run of spaces and line feeds
+/// outside of texts. `AllocError` if memory runs out.
 pub(crate) fn joined(alloc: Global, bytes: &[u8]) -> Result<Vec<u8>, AllocError> {
     let mut line = Vec::new(alloc);
     let mut inside = Inside::Forms;
@@ -32,7 +32,7 @@ pub(crate) fn joined(alloc: Global, bytes: &[u8]) -> Result<Vec<u8>, AllocError>
     Ok(line)
 }
 
-// What a byte belongs to, behind a byte that belonged to this.
+// What a byte belongs to. `before` is what the byte before it belongs to.
 fn inside_at(before: Inside, byte: u8) -> Inside {
     match (before, byte) {
         (Inside::Comment, b'\n') => Inside::Forms,
@@ -54,7 +54,7 @@ fn is_kept(inside: Inside, byte: u8) -> bool {
     }
 }
 
-// A space before what is kept, unless it is the first of the line.
+// Adds a space, if `apart`, before a byte that is kept, unless the byte is the first of the line.
 fn push_apart(line: &mut Vec<u8>, apart: bool) -> Result<(), AllocError> {
     if apart && !line.is_empty() {
         line.push(b' ')?;

@@ -1,4 +1,4 @@
-//! The rows of a timeline: which events anyone would see.
+//! The rows of a timeline: the events with a visible effect.
 
 use crate::names::fiber_name;
 use cell_registry::Call;
@@ -13,16 +13,16 @@ use std::alloc::{AllocError, Global};
 /// A row of a timeline.
 #[derive(Clone, Copy)]
 pub(crate) struct Row {
-    /// What its entry was.
+    /// The event of its entry.
     pub(crate) event: Event,
-    /// The number of the form of the file that its move comes from, if it comes from one.
+    /// The number of the form of the file that its move comes from, if any.
     pub(crate) form: Option<usize>,
 }
 
 // What a fiber waits for.
 #[derive(Clone, Copy, PartialEq, Eq, Debug)]
 enum Topic {
-    // It doesn't wait.
+    // The fiber doesn't wait.
     Nothing,
     // The end of this fiber.
     Fiber(u16),
@@ -32,9 +32,9 @@ enum Topic {
     Never,
 }
 
-/// The events of a replay that anyone would see, in their order, and of a wait that goes on the first. What a fiber does
-/// that watches a ref has no rows, nor what is done to a ref that has no name in the file, nor a `say` of a name.
-/// `AllocError` where memory is refused.
+/// Returns the events of a replay with a visible effect, in their order. A wait that continues has one row, its first.
+/// The start and the moves of a watcher, calls on a ref without a name in the file, and the `say` of a name have no
+/// rows. `AllocError` if memory runs out.
 pub(crate) fn rows_of(alloc: Global, replay: &Named) -> Result<Vec<Row>, AllocError> {
     let mut waits = vec![in alloc; Topic::Nothing; replay.fibers.len()]?;
     let mut rows = Vec::new(alloc);
@@ -55,7 +55,7 @@ pub(crate) fn rows_of(alloc: Global, replay: &Named) -> Result<Vec<Row>, AllocEr
     Ok(rows)
 }
 
-// The form that the move of an event comes from.
+// The form that the move of an event comes from, if any.
 fn form_of(replay: &Named, number: usize) -> Option<usize> {
     match replay.forms.get(number) {
         Some(form) => *form,
@@ -63,7 +63,7 @@ fn form_of(replay: &Named, number: usize) -> Option<usize> {
     }
 }
 
-// Whether an event is a move of a fiber that watches a ref, or starts one.
+// Whether an event is a move of a watcher, or starts one.
 fn is_of_watcher(replay: &Named, event: &Event) -> bool {
     let started = match event.deed {
         Deed::Called(Call::Start, Reply::Number(number)) => fiber_name(replay, number),
@@ -72,7 +72,7 @@ fn is_of_watcher(replay: &Named, event: &Event) -> bool {
     started == FiberName::Watcher || fiber_name(replay, event.fiber) == FiberName::Watcher
 }
 
-// Whether an event is the `say` of a fiber's name, which is none of the file's.
+// Whether an event is the `say` of a fiber's name, which a probe adds.
 fn is_of_name(event: &Event) -> bool {
     match event.mark {
         Some(Mark::Say(value)) => is_name(value.get()),
@@ -107,8 +107,8 @@ fn is_hidden(name: Option<&BinderName>) -> bool {
     }
 }
 
-// Whether anyone would see what an event did: not a look that found no request, nor a move that changes the fiber alone
-// and notes nothing.
+// Whether an event has a visible effect. A look that found no request has none, nor has a move that makes no shared
+// call and adds no mark.
 fn is_seen(event: &Event) -> bool {
     match event.deed {
         Deed::Called(Call::Look, Reply::Seen(asked)) => asked,
@@ -117,7 +117,7 @@ fn is_seen(event: &Event) -> bool {
     }
 }
 
-// What the fiber of an event waits for since.
+// What the fiber of an event waits for after the event.
 fn waits_for(event: &Event) -> Topic {
     match event.deed {
         Deed::Called(Call::Join(fiber), Reply::Join(JoinReply::Waits)) => Topic::Fiber(fiber),
@@ -127,7 +127,7 @@ fn waits_for(event: &Event) -> Topic {
     }
 }
 
-// Whether an event is seen and isn't a wait that goes on. What each fiber waits for is kept.
+// Whether an event is visible and isn't a wait that continues. Records what its fiber waits for in `waits`.
 fn is_new(waits: &mut [Topic], event: &Event) -> bool {
     if !is_seen(event) {
         return false;

@@ -1,11 +1,11 @@
-//! Bytes of a file as they are shown: what isn't a printable character of ASCII is told by its number.
+//! Bytes of a file as they are shown: those that are no printable characters of ASCII by their numbers.
 
 ghost use Rattle.std.specs.Prelude.{◌≡◌, ◌<◌};
 
 use std::alloc::AllocError;
 
-/// Bytes as they are shown: a printable character of ASCII itself, a space for a tab or a carriage return, and else
-/// `\x` with its two hexadecimal digits. `AllocError` where memory is refused.
+/// Adds bytes as they are shown: a printable character of ASCII itself, a space for a tab or a carriage return, and
+/// `\x` with two hexadecimal digits for any other byte. `AllocError` if memory runs out.
 pub(crate) fn push_shown(told: &mut Vec<u8>, bytes: &[u8]) -> Result<(), AllocError> {
     for byte in bytes {
         push_byte(told, *byte)?;
@@ -13,7 +13,7 @@ pub(crate) fn push_shown(told: &mut Vec<u8>, bytes: &[u8]) -> Result<(), AllocEr
     Ok(())
 }
 
-// A byte as it is shown.
+// Adds a byte as it is shown.
 fn push_byte(told: &mut Vec<u8>, byte: u8) -> Result<(), AllocError> {
     if byte == b'\t' || byte == b'\r' {
         told.push(b' ')?;

@@ -7,17 +7,17 @@ use model_terms::SourceFault;
 use reasons::position_at;
 use std::alloc::{AllocError, Global};
 
-// How many bytes of a line are shown before a mark, under it and behind it.
+// The greatest number of bytes of a line that are shown before the marked bytes, of these, and behind these.
 const SIDE: usize = 72;
 
-// What stands for bytes of a line that are left out.
+// The text in place of bytes of a line that are left out.
 const CUT: &str = "...";
 
-/// A fault of a file: its kind and what is wrong; the file, the line and the column; the line with a mark below; and
-/// what may help, a line each.
+/// Returns the text of a fault of a file: its code and its message; the file, the line and the column; the line with a
+/// mark below; and its notes, a line each.
 ///
-/// A fault inside the definitions that every file has is told without its place. Of a long line what is near the
-/// place is shown. `AllocError` where memory is refused.
+/// A fault inside the definitions that every file has is written without its place. Of a long line the bytes near the
+/// place are shown. `AllocError` if memory runs out.
 pub fn fault_text(
     alloc: Global,
     file: NamedFile,
@@ -38,7 +38,7 @@ pub fn fault_text(
     Ok(told)
 }
 
-/// That a file isn't read, and why. `AllocError` where memory is refused.
+/// Returns the text of the fault E00: a file isn't read, and why. `AllocError` if memory runs out.
 pub fn unread_text(alloc: Global, name: &[u8], why: &str) -> Result<Vec<u8>, AllocError> {
     let mut told = Vec::new(alloc);
     push_headline(&mut told, "error", "E00")?;
@@ -49,7 +49,7 @@ pub fn unread_text(alloc: Global, name: &[u8], why: &str) -> Result<Vec<u8>, All
     Ok(told)
 }
 
-/// The head of what is told of a file: `error[E10]: `. `AllocError` where memory is refused.
+/// Adds the head of a message: `error[E10]: `. `AllocError` if memory runs out.
 pub(crate) fn push_headline(told: &mut Vec<u8>, what: &str, code: &str) -> Result<(), AllocError> {
     push_word(told, what)?;
     told.push(b'[')?;
@@ -57,7 +57,8 @@ pub(crate) fn push_headline(told: &mut Vec<u8>, what: &str, code: &str) -> Resul
     push_word(told, "]: ")
 }
 
-// Where it is, and the line with a mark below. How wide the margin is comes back: as the number of the line.
+// Adds the place of a fault, and the line with a mark below. Returns the width of the margin: that of the line's
+// number.
 fn push_excerpt(
     told: &mut Vec<u8>,
     alloc: Global,
@@ -88,7 +89,7 @@ fn push_excerpt(
     Ok(margin)
 }
 
-// A text, the spaces of the margin, and a text.
+// Adds `before`, the spaces of the margin, and `behind`.
 fn push_margin(
     told: &mut Vec<u8>,
     margin: usize,
@@ -100,7 +101,7 @@ fn push_margin(
     push_word(told, behind)
 }
 
-// What may help, a line each.
+// Adds notes, a line each.
 fn push_notes(told: &mut Vec<u8>, margin: usize, notes: &[Vec<u8>]) -> Result<(), AllocError> {
     for note in notes {
         push_margin(told, margin, "", "  = ")?;
@@ -110,7 +111,7 @@ fn push_notes(told: &mut Vec<u8>, margin: usize, notes: &[Vec<u8>]) -> Result<()
     Ok(())
 }
 
-// What is before the mark in its line, as it is shown.
+// The bytes before the marked bytes in their line, as they are shown.
 fn shown_before(alloc: Global, line: &[u8]) -> Result<Vec<u8>, AllocError> {
     let mut shown = Vec::new(alloc);
     if line.len() > SIDE {
@@ -120,7 +121,7 @@ fn shown_before(alloc: Global, line: &[u8]) -> Result<Vec<u8>, AllocError> {
     Ok(shown)
 }
 
-// What is under the mark in its line, as it is shown.
+// The marked bytes in their line, as they are shown.
 fn shown_marked(alloc: Global, line: &[u8], length: usize) -> Result<Vec<u8>, AllocError> {
     let mut shown = Vec::new(alloc);
     let marked = line.get(..length).unwrap_or(line);
@@ -128,7 +129,7 @@ fn shown_marked(alloc: Global, line: &[u8], length: usize) -> Result<Vec<u8>, Al
     Ok(shown)
 }
 
-// What is behind the mark in its line. Of a mark that is cut nothing is shown behind.
+// Adds the bytes behind the marked bytes in their line. Adds `...` alone if the marked bytes are cut.
 fn push_rest(told: &mut Vec<u8>, line: &[u8], length: usize) -> Result<(), AllocError> {
     let rest = line.get(length.min(SIDE)..).unwrap_or(&[]);
     if length > SIDE && !rest.is_empty() {
@@ -141,12 +142,12 @@ fn push_rest(told: &mut Vec<u8>, line: &[u8], length: usize) -> Result<(), Alloc
     Ok(())
 }
 
-// The first bytes of a line, as many as are shown.
+// The first 72 bytes of a line.
 fn first_bytes(line: &[u8]) -> &[u8] {
     line.get(..SIDE).unwrap_or(line)
 }
 
-// The last bytes of a line, as many as are shown.
+// The last 72 bytes of a line.
 fn last_bytes(line: &[u8]) -> &[u8] {
     line.get(line.len().saturating_sub(SIDE)..).unwrap_or(line)
 }

@@ -7,8 +7,8 @@ use crate::shown::push_shown;
 use model_claims::Verdict;
 use std::alloc::{AllocError, Global};
 
-/// What precedes the models: the version of the protocol, and how many models there are. `AllocError` where memory is
-/// refused.
+/// Returns what precedes the models: the version of the protocol, and the number of models. `AllocError` if memory runs
+/// out.
 pub fn tap_head(alloc: Global, models: usize) -> Result<Vec<u8>, AllocError> {
     let mut told = Vec::new(alloc);
     push_about(&mut told, "TAP version 13\n1..", models)?;
@@ -16,8 +16,8 @@ pub fn tap_head(alloc: Global, models: usize) -> Result<Vec<u8>, AllocError> {
     Ok(told)
 }
 
-/// A model, with its number from 1 on: `ok`, or `not ok`, which is still to do where the model is undecided. What is told
-/// of its claims are diagnostics. `AllocError` where memory is refused.
+/// Returns a model with its number, from 1 on: `ok`, or `not ok`, with `# TODO` if the model is undecided. The details
+/// of its claims are diagnostics. `AllocError` if memory runs out.
 pub fn tap_model(alloc: Global, number: usize, judged: JudgedModel) -> Result<Vec<u8>, AllocError> {
     let mut told = Vec::new(alloc);
     push_word(&mut told, tap_word(judged.result.verdict))?;
@@ -41,7 +41,7 @@ fn tap_word(verdict: Verdict) -> &'static str {
     }
 }
 
-// Lines as diagnostics. Each ends with a line feed.
+// Adds lines as diagnostics. Each line ends with a line feed.
 fn push_diagnostics(told: &mut Vec<u8>, lines: &[u8]) -> Result<(), AllocError> {
     let mut begins = true;
     for byte in lines {
@@ -54,7 +54,7 @@ fn push_diagnostics(told: &mut Vec<u8>, lines: &[u8]) -> Result<(), AllocError> 
     Ok(())
 }
 
-// What precedes a line of diagnostics that begins with this byte. No line ends with a space.
+// The text before a line of diagnostics that begins with this byte. An empty line has no space behind `#`.
 fn diagnostic_mark(first: u8) -> &'static str {
     if first == b'\n' { "#" } else { "# " }
 }

@@ -1,4 +1,4 @@
-//! How wide the columns of a timeline are.
+//! The widths of the columns of a timeline.
 
 use crate::digits::width_of;
 use crate::event_words::push_event;
@@ -10,28 +10,28 @@ use model_runs::Named;
 use model_terms::Source;
 use std::alloc::{AllocError, Global};
 
-// How many bytes a line may have in a table that has a column for each fiber.
+// The greatest number of bytes of a line in a table with a column for each fiber.
 const WIDEST: usize = 120;
 
-// How wide the columns of the entries and of the places are at least: as wide as their headings.
+// The least width of the columns of the entries and of the places: that of their headings.
 const HEADING: usize = 5;
 
-// How many spaces are behind a column.
+// The number of spaces behind a column.
 const GAP: usize = 2;
 
 /// The columns of a timeline.
 #[derive(Drop)]
 pub(crate) struct Columns {
-    /// How wide the column of the entries is.
+    /// The width of the column of the entries.
     pub(crate) entry: usize,
-    /// How wide the column of the places is, with the spaces behind it.
+    /// The width of the column of the places, with the spaces behind it.
     pub(crate) place: usize,
-    /// How wide the column of each fiber is, with the spaces behind it; 0 of a fiber that has none.
+    /// The width of the column of each fiber, with the spaces behind it; 0 for a fiber without a column.
     pub(crate) fibers: Vec<usize>,
 }
 
 impl Columns {
-    /// Columns that are wide enough for these rows.
+    /// Returns columns that are wide enough for these rows.
     pub(crate) fn new(
         alloc: Global,
         file: NamedFile,
@@ -50,7 +50,7 @@ impl Columns {
         })
     }
 
-    /// Whether all fibers have room side by side, behind so many spaces: whether the widest line has at most 120 bytes.
+    /// Whether all columns fit side by side behind `margin` spaces: the widest line has at most 120 bytes.
     pub(crate) fn fit(&self, margin: usize) -> bool {
         let mut width = margin.saturating_add(self.entry).saturating_add(self.place);
         for fiber in self.fibers.iter() {
@@ -60,7 +60,7 @@ impl Columns {
     }
 }
 
-/// The place of a row in the file: its line and its column, or nothing. `AllocError` where memory is refused.
+/// Adds the place of a row in the file, if any: its line and its column. `AllocError` if memory runs out.
 pub(crate) fn push_row_place(
     told: &mut Vec<u8>,
     file: NamedFile,
@@ -76,7 +76,7 @@ pub(crate) fn push_row_place(
     }
 }
 
-// How wide the column of the entries is.
+// The width of the column of the entries.
 fn entry_width(rows: &[Row]) -> usize {
     match rows.last() {
         Some(row) => HEADING.max(width_of(row.event.entry)),
@@ -84,7 +84,7 @@ fn entry_width(rows: &[Row]) -> usize {
     }
 }
 
-// How wide the column of the places is, with the spaces behind it.
+// The width of the column of the places, with the spaces behind it.
 fn place_width(
     alloc: Global,
     file: NamedFile,
@@ -101,8 +101,8 @@ fn place_width(
     Ok(widest.saturating_add(GAP))
 }
 
-// How wide the columns of the fibers are by their names. A fiber that has no name in the file has a column where it has
-// a row.
+// The widths of the columns of the fibers by their names. A fiber without a name in the file has a column only if it
+// has a row.
 fn name_widths(alloc: Global, source: &Source, replay: &Named) -> Result<Vec<usize>, AllocError> {
     let mut widths = Vec::new(alloc);
     for fiber in 0..replay.fibers.len() {
@@ -112,7 +112,7 @@ fn name_widths(alloc: Global, source: &Source, replay: &Named) -> Result<Vec<usi
     Ok(widths)
 }
 
-// How wide the column of a fiber is by its name.
+// The width of the column of a fiber by its name.
 fn name_width(
     alloc: Global,
     source: &Source,
@@ -130,7 +130,7 @@ fn name_width(
     }
 }
 
-// How wide the name of a fiber is, with the spaces behind it.
+// The width of the name of a fiber, with the spaces behind it.
 fn full_width(
     alloc: Global,
     source: &Source,
@@ -142,7 +142,7 @@ fn full_width(
     Ok(name.len().saturating_add(GAP))
 }
 
-// Makes each column as wide as the name of its fiber and its rows are.
+// Makes each column with rows at least as wide as its rows and the name of its fiber.
 fn widen_by_rows(
     alloc: Global,
     source: &Source,
@@ -161,7 +161,7 @@ fn widen_by_rows(
     Ok(())
 }
 
-// A column is at least so wide.
+// Makes a column at least `wide` bytes wide.
 fn widen(widths: &mut [usize], place: usize, wide: usize) {
     if let Some(width) = widths.get_mut(place) {
         *width = wide.max(*width);

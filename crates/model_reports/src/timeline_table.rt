@@ -10,12 +10,12 @@ use model_runs::Named;
 use model_terms::Source;
 use std::alloc::{AllocError, Global};
 
-// How many spaces are before each line.
+// The number of spaces before each line.
 const MARGIN: usize = 5;
 
-/// The timeline of a replay: a row for each entry that did something anyone would see, with its number, its place in the
-/// file and, in the column of its fiber, what it did. Where that would be wider than 120 columns, each fiber has a table
-/// of its own, one below the other. `AllocError` where memory is refused.
+/// Adds the timeline of a replay: a row for each entry with a visible effect, with its number, its place in the file
+/// and, in the column of its fiber, what the entry did. If a line would have more than 120 bytes, each fiber has a
+/// table of its own, one below the other. `AllocError` if memory runs out.
 pub(crate) fn push_timeline(
     told: &mut Vec<u8>,
     alloc: Global,
@@ -38,7 +38,7 @@ pub(crate) fn push_timeline(
     }
 }
 
-// What a table is made of.
+// The parts of a table.
 #[derive(Clone, Copy)]
 struct Table<'a> {
     file: NamedFile<'a>,
@@ -47,7 +47,7 @@ struct Table<'a> {
     columns: &'a Columns,
 }
 
-// All fibers side by side.
+// Adds a table with all fibers side by side.
 fn push_table(told: &mut Vec<u8>, table: Table, rows: &[Row]) -> Result<(), AllocError> {
     push_heading(told, table)?;
     push_names(told, table)?;
@@ -60,7 +60,7 @@ fn push_table(told: &mut Vec<u8>, table: Table, rows: &[Row]) -> Result<(), Allo
     Ok(())
 }
 
-// What heads the entries and the places.
+// Adds the headings of the entries and the places.
 fn push_heading(told: &mut Vec<u8>, table: Table) -> Result<(), AllocError> {
     push_times(told, b' ', MARGIN)?;
     push_times(told, b' ', table.columns.entry.saturating_sub(5))?;
@@ -68,7 +68,7 @@ fn push_heading(told: &mut Vec<u8>, table: Table) -> Result<(), AllocError> {
     push_times(told, b' ', table.columns.place.saturating_sub(5))
 }
 
-// The names of the fibers, each at the start of its column.
+// Adds the names of the fibers, each at the start of its column.
 fn push_names(told: &mut Vec<u8>, table: Table) -> Result<(), AllocError> {
     let mut behind = 0;
     for (fiber, width) in table.columns.fibers.iter().enumerate() {
@@ -83,13 +83,13 @@ fn push_names(told: &mut Vec<u8>, table: Table) -> Result<(), AllocError> {
     Ok(())
 }
 
-// The name of a fiber.
+// Adds the name of a fiber.
 fn push_numbered(told: &mut Vec<u8>, table: Table, fiber: usize) -> Result<(), AllocError> {
     let number = u16::try_from(fiber).unwrap_or(u16::MAX);
     push_fiber(told, table.source, table.replay, number)
 }
 
-// The number and the place of a row.
+// Adds the number and the place of a row.
 fn push_front(told: &mut Vec<u8>, table: Table, row: &Row) -> Result<(), AllocError> {
     push_times(told, b' ', MARGIN)?;
     push_right(told, table.columns.entry, row.event.entry)?;
@@ -100,7 +100,7 @@ fn push_front(told: &mut Vec<u8>, table: Table, row: &Row) -> Result<(), AllocEr
     push_times(told, b' ', table.columns.place.saturating_sub(wide))
 }
 
-// How far the column of a row's fiber is from the first fiber's.
+// The distance of the column of a row's fiber from that of the first fiber.
 fn start(widths: &[usize], row: &Row) -> usize {
     let mut start = 0usize;
     for width in widths.iter().take(usize::from(row.event.fiber)) {
@@ -109,7 +109,7 @@ fn start(widths: &[usize], row: &Row) -> usize {
     start
 }
 
-// The fibers one below the other, each with a table of its own.
+// Adds the fibers one below the other, each with a table of its own.
 fn push_blocks(told: &mut Vec<u8>, table: Table, rows: &[Row]) -> Result<(), AllocError> {
     for (fiber, width) in table.columns.fibers.iter().enumerate() {
         if *width > 0 {
@@ -123,7 +123,7 @@ fn push_blocks(told: &mut Vec<u8>, table: Table, rows: &[Row]) -> Result<(), All
     Ok(())
 }
 
-// A blank line before each table but that of fiber 0.
+// Adds a blank line before each table but that of fiber 0.
 fn push_gap(told: &mut Vec<u8>, fiber: usize) -> Result<(), AllocError> {
     if fiber > 0 {
         told.push(b'\n')?;
@@ -131,7 +131,7 @@ fn push_gap(told: &mut Vec<u8>, fiber: usize) -> Result<(), AllocError> {
     Ok(())
 }
 
-// The rows of one fiber.
+// Adds the rows of one fiber.
 fn push_own_rows(
     told: &mut Vec<u8>,
     table: Table,

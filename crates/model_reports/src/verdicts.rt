@@ -1,4 +1,4 @@
-//! The verdicts of all models: how many there are of each, and the status that they come to.
+//! The verdicts of all models: the number of each, and their status.
 
 ghost use Rattle.std.specs.Prelude.{◌≡◌};
 ghost use Rattle.std.specs.List.{list_any};
@@ -9,7 +9,7 @@ use model_claims::Verdict;
 use std::alloc::{AllocError, Global};
 use text_io::Status;
 
-/// How many models have each verdict.
+/// The number of models with each verdict.
 #[derive(Clone, Copy, PartialEq, Eq, Debug)]
 pub struct Counts {
     /// Passed.
@@ -20,7 +20,7 @@ pub struct Counts {
     pub undecided: usize,
 }
 
-/// How many of these verdicts there are of each.
+/// Returns the number of each of these verdicts.
 pub fn counts_of(verdicts: &[Verdict]) -> Counts {
     Counts {
         passed: count_of(verdicts, Verdict::Passed),
@@ -29,7 +29,7 @@ pub fn counts_of(verdicts: &[Verdict]) -> Counts {
     }
 }
 
-// How many of these verdicts are this one.
+// The number of these verdicts that are `wanted`.
 fn count_of(verdicts: &[Verdict], wanted: Verdict) -> usize {
     let mut count = 0usize;
     for verdict in verdicts {
@@ -40,7 +40,7 @@ fn count_of(verdicts: &[Verdict], wanted: Verdict) -> usize {
     count
 }
 
-/// The status of these verdicts: 1 where a model failed, else 3 where one is undecided, else 0.
+/// Returns the status of these verdicts: 1 if a model failed, else 3 if one is undecided, else 0.
 pub fn status_of(verdicts: &[Verdict]) -> Status
     ensures { result ≡ status_of verdicts.now }
 {
@@ -53,7 +53,7 @@ pub fn status_of(verdicts: &[Verdict]) -> Status
     }
 }
 
-// Whether one of these verdicts is that a model failed.
+// Whether one of these verdicts is `Failed`.
 fn has_failed(verdicts: &[Verdict]) -> bool
     ensures { result ≡ list_any is_failed verdicts.now }
 {
@@ -66,7 +66,7 @@ fn has_failed(verdicts: &[Verdict]) -> bool
     false
 }
 
-// Whether one of these verdicts is that a model is undecided.
+// Whether one of these verdicts is `Undecided`.
 fn has_undecided(verdicts: &[Verdict]) -> bool
     ensures { result ≡ list_any is_undecided verdicts.now }
 {
@@ -79,8 +79,8 @@ fn has_undecided(verdicts: &[Verdict]) -> bool
     false
 }
 
-/// The last line of a report: how many models passed, failed and are undecided, behind a blank line. `AllocError` where
-/// memory is refused.
+/// Returns the last line of a report, after a blank line: how many models passed, failed and are undecided.
+/// `AllocError` if memory runs out.
 pub fn summary(alloc: Global, verdicts: &[Verdict]) -> Result<Vec<u8>, AllocError> {
     let counts = counts_of(verdicts);
     let mut told = Vec::new(alloc);

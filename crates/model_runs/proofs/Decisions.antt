@@ -1,4 +1,4 @@
--- What became of a claim is what one of the searches says of it.
+-- The result of a claim follows from one of the searches.
 use Rattle.std.proofs.Common.{◌≡◌, ℕ, List, Option, Some, None, Result, Ok, Err, IfOk, true, ap, ◌∙◌}
 use Rattle.std.specs.List.{slice_get}
 use Rattle.std.specs.Option.{is_some}
@@ -28,7 +28,7 @@ decided_by source claim searches n s (Ok r) there answers says number = record {
 }
 decided_by source claim searches n s (Err e) there answers says number = tt
 
--- what moment_result says of a claim
+-- the clause `moment` of `moment_result`, for a claim
 abbrev pub Says : Claim → ℕ → Search → Moments → Result ClaimResult Refused → Type 0
 Says claim number ends moments it =
     (code : Tree) (k : Limits) (wanted : List (List ClaimWord)) (words : List ClaimWord) →

@@ -1,4 +1,4 @@
--- What decides the claims at any moment.
+-- The verdicts of claims at any moment.
 use Rattle.std.proofs.Common.{◌≡◌, ◌≢◌, ℕ, zero, suc, ◌+◌, ◌<◌, ◌≤◌, Bool, true, false, List, [], ◌∷◌, ◌++◌, length, drop, take, map, refl}
 use Rattle.std.proofs.Common.{sym, ap, ◌∙◌, subst, arith, inl, inr, get_or}
 use Rattle.std.specs.Prelude.{Option, Some, None, IfSome, IfNone}
@@ -27,13 +27,13 @@ use Rattle.model_runs.specs.Private.Looking.{IsMetAt, IsRightAt, IsRightOf, IsRi
 all_at : {A : Type 0} (P : A → Type 0) (xs : List A) (i : ℕ) (x : A) → slice_get xs i ≡ Some x → All P xs → P x
 all_at P xs i x e h = subst P (get_or_from_slice_get xs i x x e) (All-get_or P xs i x (slice_get_within xs i x e) h)
 
--- where none is the claim of this number, it isn't met
+-- if no element is the claim of this number, the claim isn't found
 pub unfound : (met : List Met) (n : ℕ) → AllWithin (λ m. m.claim ≡ n → ⊥) met 0 (length met) → IsFound n met → ⊥
 unfound met n none f =
     let low = slice_get_within met f.1.0 f.0 f.1.1 in
     none f.1.0 f.0 (omega arith) low (ap (λ (m : Met). m.claim) (get_or_from_slice_get met f.1.0 f.0 f.0 f.1.1) ∙ f.2)
 
--- the one that is met was met by its schedule
+-- the schedule of the claim's element meets its words
 pub meets_at : (code : Tree) (k : Limits) (wanted : List (List ClaimWord)) (words : List ClaimWord) (met : List Met) (n i : ℕ) →
     All (IsMetIn code k wanted) met → slice_get wanted n ≡ Some words → (f : IsMetAt met n i) →
     Meets code k words f.0.schedule.items
@@ -78,7 +78,7 @@ judged code k wanted words it n right there rule faulty explored at some none =
     (some_meets code k wanted words it.met.items n right.met.each there at some)
     (none_meets code k wanted words it n right there at none)
 
--- the answer of this number has the schedule of what was met
+-- the answer of this index has the schedule of the element of this index
 answer_at : (answers : List NamedAnswer) (met : List Met) (i : ℕ) (m : Met) → map (λ a. a.schedule) answers ≡ map (λ (x : Met). x.schedule.items) met →
     slice_get met i ≡ Some m → (a : NamedAnswer) × (slice_get answers i ≡ Some a) × (a.schedule ≡ m.schedule.items)
 answer_at [] [] i m same at = absurd (cc)
@@ -88,7 +88,7 @@ answer_at (a ∷ answers) (y ∷ met) zero m same at =
     (a, refl, same_Some _ _ (ap (λ l. slice_get l 0) same) ∙ ap (λ (x : Met). x.schedule.items) (same_Some y m at))
 answer_at (a ∷ answers) (y ∷ met) (suc i) m same at = answer_at answers met i m (ap (drop 1) same) at
 
--- the moment that is shown is right
+-- the moment that is shown decides the claim
 pub shown_by : (code : Tree) (k : Limits) (wanted : List (List ClaimWord)) (words : List ClaimWord) (it : Moments) (n : ℕ) →
     IsRightAt code k wanted it → slice_get wanted n ≡ Some words → (at_moment : Bool) (shown at : Option ℕ) →
     IfSome at (IsMetAt it.met.items n) → (at_moment ≡ true → shown ≡ at) →
@@ -105,7 +105,7 @@ shown_by code k wanted words it n right there true (Some i) (Some j) some same =
           (meets_at code k wanted words it.met.items n i right.met.each there is),
     )
 
--- two lists of which each has one more, with the same of both
+-- two lists with equal images, after one more element of each
 pub one_more_alike : {A B S : Type 0} (f : A → S) (g : B → S) (xs ys : List A) (bs : List B) (i : ℕ) (a : A) (b : B) →
     i < length bs → b ≡ get_or bs i b → map f xs ≡ map g (take i bs) → ys ≡ xs ++ a ∷ [] → f a ≡ g b →
     map f ys ≡ map g (take (i + 1) bs)
@@ -120,13 +120,13 @@ get_drop [] (suc n) = refl
 get_drop (x ∷ xs) zero = refl
 get_drop (x ∷ xs) (suc n) = get_drop xs n
 
--- what is left of what is looked for, from this claim on
+-- the conditions from this claim on
 left_at : (cs : List Claim) (i n : ℕ) (c : Claim) → i < length cs → c ≡ get_or cs i c → drop n (soughts cs) ≡ soughts (drop i cs) →
     drop n (soughts cs) ≡ sought_in c.rule c.moment ++ soughts (drop (i + 1) cs)
 left_at cs i n c low at left =
     left ∙ at_drop_more soughts cs i c low ∙ ap (λ (x : Claim). soughts (x ∷ drop (i + 1) cs)) (sym at)
 
--- ... and behind it
+-- the conditions behind this claim
 pub left_behind : (cs : List Claim) (i n m : ℕ) (c : Claim) → i < length cs → c ≡ get_or cs i c →
     drop n (soughts cs) ≡ soughts (drop i cs) → m ≡ length (sought_in c.rule c.moment) →
     drop (n + m) (soughts cs) ≡ soughts (drop (i + 1) cs)
@@ -134,7 +134,7 @@ left_behind cs i n m c low at left long =
     sym (drop-drop m n (soughts cs)) ∙ ap (drop m) (left_at cs i n c low at left)
     ∙ drop_at (sought_in c.rule c.moment) (soughts (drop (i + 1) cs)) m (sym long)
 
--- what decides this claim has that number
+-- the condition that decides claim `i` has number `n`
 pub right_of : (cs : List Claim) (i n : ℕ) (c : Claim) (it : Moments) → i < length cs → c ≡ get_or cs i c →
     drop n (soughts cs) ≡ soughts (drop i cs) → IsRightAtSome (soughts cs) it → IsRightOf c n it
 right_of cs i n c it low at left right = record {

@@ -1,4 +1,4 @@
--- What becomes of claims by what is found.
+-- The results of claims, by the searches.
 use Rattle.std.specs.Prelude.{◌≡◌, ◌⊎◌, ◌&&◌, not, ℕ, List, map, Option, Some, None}
 use Rattle.std.specs.List.{slice_get}
 use Rattle.model_terms.specs.declared.source.Source.{Source}
@@ -10,20 +10,20 @@ use Rattle.model_runs.specs.declared.result.ClaimResult.{ClaimResult}
 use Rattle.model_runs.specs.declared.result.Search.{Search}
 use Rattle.model_runs.specs.Moments.{IsDecidedAtMoments}
 
--- the verdict of a claim by what its search has found, and the answer that is shown
+-- the verdict of a claim by the answers of its search, and the answer that is shown
 abbrev pub IsJudgedBy : Source → Claim → Search → Option ℕ → Verdict → Type 0
 IsJudgedBy source claim s shown verdict =
     IsJudged claim.rule (s.complete && not claim.blind) (map (λ a. truth_in source claim a.seen) s.answers.items) shown
     (under claim.fails verdict)
 
--- what became of a claim is what its search says of it
+-- the result of a claim follows from this search
 pub record IsResultOf (source : Source) (claim : Claim) (s : Search) (it : ClaimResult) : Type 0 where
   pub form : it.form ≡ claim.form
   pub rule : it.rule ≡ claim.rule
   pub fails : it.fails ≡ claim.fails
   pub judged : IsJudgedBy source claim s it.shown it.verdict
 
--- what became of a claim is what one of these searches says of it, the one that is named
+-- the result of a claim on answers follows from the search that the result names, among these searches
 pub record IsDecided (source : Source) (searches : List Search) (it : ClaimResult) : Type 0 where
   pub claim : Claim
   pub search : Search
@@ -31,6 +31,6 @@ pub record IsDecided (source : Source) (searches : List Search) (it : ClaimResul
   pub of_answers : claim.moment ≡ None
   pub is_result : IsResultOf source claim search it
 
--- what became of a claim is what one of these searches says of it, or what the search for moments does
+-- the result of a claim follows from one of these searches, or from the search for moments
 abbrev pub IsDecidedIn : Source → List Search → Search → ClaimResult → Type 0
 IsDecidedIn source searches found it = IsDecided source searches it ⊎ IsDecidedAtMoments searches found it

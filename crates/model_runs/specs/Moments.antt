@@ -1,4 +1,4 @@
--- What a search that looks at each world says of the claims at any moment.
+-- The verdicts of claims at any moment, by a search that checks them in each world.
 use Rattle.std.specs.Prelude.{◌≡◌, ⊤, ◌⊎◌, ◌++◌, ◌&&◌, ℕ, Bool, true, false, List, [], ◌∷◌, map, Option, Some, None}
 use Rattle.std.specs.List.{All, flat_map, list_any, slice_get}
 use Rattle.std.specs.declared.alloc.Global.{Global}
@@ -26,7 +26,7 @@ use Rattle.model_runs.specs.declared.result.ClaimResult.{ClaimResult}
 use Rattle.model_runs.specs.declared.result.NamedAnswer.{NamedAnswer}
 use Rattle.model_runs.specs.declared.result.Search.{Search}
 
--- ---- what is looked for
+-- ---- what a search looks for
 abbrev pub claim_comparison : Comparison → ItsComparison
 claim_comparison comparisons.Equal = is.Equal
 claim_comparison comparisons.Unequal = is.Differs
@@ -45,46 +45,46 @@ abbrev pub turning : Rule → List ClaimWord
 turning rules.Every = its.Not ∷ []
 turning rules.Some = []
 
--- what decides a claim by itself: of one on every moment a moment at which its words aren't true, of one on some moment
--- a moment at which they are
+-- the condition on a moment that decides a claim by itself: for a claim about every moment, that its words aren't true;
+-- for a claim about some moment, that they are
 abbrev pub sought : Rule → List MomentWord → List ClaimWord
 sought rule words = map claim_word words ++ turning rule
 
--- of a claim at any moment what decides it, of another one nothing
+-- the condition that decides a claim at any moment; none for another claim
 abbrev pub sought_in : Rule → Option (Vec MomentWord Global) → List (List ClaimWord)
 sought_in rule None = []
 sought_in rule (Some words) = sought rule words.items ∷ []
 
--- the same of all claims of a model
+-- these conditions for all claims of a model
 abbrev pub soughts : List Claim → List (List ClaimWord)
 soughts claims = flat_map (λ c. sought_in c.rule c.moment) claims
 
--- ---- what is found
--- each was met by its schedule, and where the search is complete no schedule meets another one
+-- ---- what a search finds
+-- each of these conditions is met by its schedule; if the search is complete, no schedule meets another condition
 pub record AreMet (code : Tree) (k : Limits) (wanted : List (List ClaimWord)) (complete : Bool) (met : List Met)
     : Type 0 where
   pub each : All (IsMetIn code k wanted) met
   pub none : complete ≡ true → (i : ℕ) (words : List ClaimWord) → slice_get wanted i ≡ Some words →
       (IsFound i met → ⊥) → (schedule : List ℕ) → Meets code k words schedule → ⊥
 
--- ---- what becomes of a claim
+-- ---- the result of a claim
 -- some schedule leads to a moment at which these words are true
 abbrev pub SomeMeets : Tree → Limits → List ClaimWord → Type 0
 SomeMeets code k words = (schedule : List ℕ) × Meets code k words schedule
 
--- no schedule does
+-- no schedule leads to a moment at which these words are true
 abbrev pub NoneMeets : Tree → Limits → List ClaimWord → Type 0
 NoneMeets code k words = (schedule : List ℕ) → Meets code k words schedule → ⊥
 
--- one of these answers is a fault
+-- whether one of these answers is a fault
 abbrev pub has_fault : List NamedAnswer → Bool
 has_fault answers = list_any (λ a. a.seen.faulty) answers
 
--- The verdict of a claim at any moment that isn't under `fails`, by what decides it. One on every moment passes only
--- where no schedule leads to a moment that refutes it and no answer of a complete exploration is a fault, and fails only
--- where one does or is; one on some moment passes only where a schedule leads to a moment that meets it, and fails only
--- where none does. The flags say whether an answer is a fault, whether the exploration is complete, and whether the
--- search for moments is.
+-- The verdict of a claim at any moment that isn't under `fails`, by the words that decide it. A claim about every
+-- moment passes only if no schedule leads to a moment that refutes it and no answer of a complete exploration is a
+-- fault; it fails only if a schedule does or an answer is. A claim about some moment passes only if a schedule leads to
+-- a moment that meets it, and fails only if none does. The flags say whether an answer is a fault, whether the
+-- exploration is complete, and whether the search for moments is complete.
 abbrev pub IsJudgedAt : Tree → Limits → List ClaimWord → Rule → Bool → Bool → Bool → Verdict → Type 0
 IsJudgedAt code k words rules.Every faulty explored searched verdicts.Passed =
     (faulty ≡ false) × (explored ≡ true) × NoneMeets code k words
@@ -96,14 +96,14 @@ IsJudgedAt code k words rules.Some faulty explored searched verdicts.Passed = So
 IsJudgedAt code k words rules.Some faulty explored searched verdicts.Failed = NoneMeets code k words
 IsJudgedAt code k words rules.Some faulty explored searched verdicts.Undecided = searched ≡ false
 
--- the moment that is shown is one that decides the claim
+-- the moment that is shown decides the claim
 abbrev pub IsShownAt : Tree → Limits → List ClaimWord → List NamedAnswer → Bool → Option ℕ → Type 0
 IsShownAt code k words answers true (Some i) =
     (a : NamedAnswer) × (slice_get answers i ≡ Some a) × Meets code k words a.schedule
 IsShownAt code k words answers true None = ⊤
 IsShownAt code k words answers false shown = ⊤
 
--- what became of a claim that these words decide is what an exploration and a search for moments say of it
+-- the result of a claim that these words decide follows from an exploration and a search for moments
 pub record IsJudgedMoment (claim : Claim) (code : Tree) (k : Limits) (words : List ClaimWord) (ends found : Search)
     (it : ClaimResult) : Type 0 where
   pub form : it.form ≡ claim.form
@@ -113,8 +113,8 @@ pub record IsJudgedMoment (claim : Claim) (code : Tree) (k : Limits) (words : Li
       IsJudgedAt code k words claim.rule (has_fault ends.answers.items) ends.complete found.complete v
   pub shown : IsShownAt code k words found.answers.items it.at_moment it.shown
 
--- what became of a claim at any moment is what they say of the words that decide it; the exploration is the one of these
--- searches that is named
+-- the result of a claim at any moment follows from an exploration and a search for moments; the exploration is the one
+-- of these searches that the result names
 pub record IsDecidedAtMoments (searches : List Search) (found : Search) (it : ClaimResult) : Type 0 where
   pub claim : Claim
   pub words : Vec MomentWord Global

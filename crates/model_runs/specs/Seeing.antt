@@ -1,4 +1,4 @@
--- What is seen of the ends of schedules.
+-- What a claim sees of the ends of schedules.
 use Rattle.std.specs.Prelude.{◌≡◌, true, if◌then◌else◌, ℕ, List, map, Option, Some, None, Result, Ok, Err}
 use Rattle.std.specs.List.{All}
 use Rattle.effect_term.specs.declared.reply.Outcome.{Outcome}
@@ -13,25 +13,25 @@ use Rattle.model_claims.specs.declared.answer.Seen.{Seen}
 use Rattle.model_runs.specs.declared.result.NamedAnswer.{NamedAnswer}
 use Rattle.model_runs.specs.declared.result.Search.{Search}
 
--- how each fiber has ended, if it did, at the end of a schedule; of a fault nothing
+-- the outcome of each fiber, if it has ended, at the end of a schedule; none for a fault
 abbrev pub outcomes : Result Report RunError → Option (List (Option Outcome))
 outcomes (Ok r) = Some (map (λ f. f.outcome) r.fibers)
 outcomes (Err e) = None
 
--- the same of what a claim sees
+-- the outcomes that a claim sees
 abbrev pub seen_outcomes : Seen → Option (List (Option Outcome))
 seen_outcomes s = if s.faulty then None else Some (map (λ f. f.outcome) s.fibers.items)
 
--- what is seen of an answer is what its schedule comes to
+-- the outcomes that are seen of an answer are those to which its schedule leads in the core
 pub record IsSeen (code : Tree) (k : Limits) (a : NamedAnswer) : Type 0 where
   pub same : seen_outcomes a.seen ≡ outcomes (reported (core code k a.schedule))
 
--- among the answers there is one for each of these
+-- the answers have the schedules of these, in the same order
 abbrev pub IsAllOf : List Answer → List NamedAnswer → Type 0
 IsAllOf found answers = map (λ a. a.schedule) answers ≡ map (λ a. a.schedule) found
 
--- a search is right about a code: each of its answers is what its schedule comes to, and where the search is complete,
--- its answers are those of an exploration that has every schedule's
+-- a search is right about a code: each of its answers has the outcomes to which its schedule leads; if the search is
+-- complete, its answers are those of an exploration that covers every schedule
 pub record IsRight (code : Tree) (k : Limits) (s : Search) : Type 0 where
   pub each : All (IsSeen code k) s.answers.items
   pub all : s.complete ≡ true → (found : List Answer) × All (IsReached code k) found ×

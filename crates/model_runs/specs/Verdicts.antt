@@ -5,27 +5,27 @@ use Rattle.model_claims.specs.declared.judging.Verdict.{Verdict}
 use Rattle.model_claims.specs.declared.judging.Verdict.TheVariants as verdict
 use Rattle.model_runs.specs.declared.result.ClaimResult.{ClaimResult}
 
--- a claim with this verdict has failed
+-- whether a claim with this verdict has failed
 abbrev pub has_failed : Verdict → Bool
 has_failed verdict.Passed = false
 has_failed verdict.Failed = true
 has_failed verdict.Undecided = false
 
--- a claim with this verdict is undecided
+-- whether a claim with this verdict is undecided
 abbrev pub is_undecided : Verdict → Bool
 is_undecided verdict.Passed = false
 is_undecided verdict.Failed = false
 is_undecided verdict.Undecided = true
 
--- one of these claims has failed
+-- whether one of these claims has failed
 abbrev pub one_has_failed : List ClaimResult → Bool
 one_has_failed claims = list_any (λ c. has_failed c.verdict) claims
 
--- one of these claims is undecided
+-- whether one of these claims is undecided
 abbrev pub one_is_undecided : List ClaimResult → Bool
 one_is_undecided claims = list_any (λ c. is_undecided c.verdict) claims
 
--- the worst verdict of these claims: that of one that has failed, or else of one that is undecided
+-- the worst verdict of these claims: failed if one has failed, else undecided if one is undecided, else passed
 abbrev pub worst : List ClaimResult → Verdict
 worst claims =
     if one_has_failed claims then verdict.Failed

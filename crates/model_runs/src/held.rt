@@ -1,4 +1,4 @@
-//! What refs hold at a moment.
+//! The values of refs at a moment.
 
 ghost use Rattle.std.specs.Prelude.{◌≡◌, IfOk, OnOk};
 ghost use Rattle.std.specs.List.{All};
@@ -12,7 +12,8 @@ use every_schedule::ClaimWord;
 use scheduled_core::{enter_all, first_fibers};
 use std::alloc::{AllocError, Global};
 
-/// What the refs that these words compare hold behind a schedule, each once, in the order of the words.
+/// Returns the values, after a schedule, of the refs that these words compare: each ref once, in the order of the
+/// words. Empty if the schedule ends in a fault.
 pub(crate) fn held_refs(
     alloc: Global,
     program: &Program,
@@ -37,7 +38,7 @@ pub(crate) fn held_refs(
     }
 }
 
-// What the refs that these words compare hold in a registry, each once.
+// Returns the values in a registry of the refs that these words compare, each ref once.
 fn values_of(
     alloc: Global,
     registry: &mut PlainRegistry,
@@ -54,7 +55,7 @@ fn values_of(
     Ok(held)
 }
 
-// Adds what a ref holds, unless it is there.
+// Adds the value of a ref, unless the list has the ref.
 fn add_held(
     registry: &mut PlainRegistry,
     number: u16,
@@ -74,7 +75,7 @@ fn add_held(
     Ok(())
 }
 
-// The value of a ref, or 0 where there is none of this number.
+// The value of the ref of this number; 0 if there is no such ref.
 #[tactic(auto, using(every_schedule::proofs::RefValues::may_get, every_schedule::proofs::RefValues::got_value, every_schedule::proofs::RefValues::got_same, every_schedule::proofs::RefValues::past_ref))]
 fn value_of(registry: &mut PlainRegistry, number: u16) -> Value
     ensures value { result ≡ ref_of registry.old.state number }

@@ -1,4 +1,4 @@
-//! What becomes of a claim.
+//! The result of a claim.
 
 ghost use Rattle.std.specs.Prelude.{◌≡◌, map, IfOk, List, Some as Somebody};
 ghost use Rattle.std.specs.List.{slice_get};
@@ -21,7 +21,7 @@ use model_terms::{Probe, Refused, Source};
 use model_text::Model;
 use std::alloc::{AllocError, Global};
 
-// What a claim says of each of these answers.
+// Returns the truth of a claim at each of these answers.
 fn truths_of(
     alloc: Global,
     source: &Source,
@@ -37,7 +37,7 @@ fn truths_of(
     Ok(truths)
 }
 
-/// What becomes of a claim by what its search has found.
+/// Judges a claim by the answers of its search.
 pub(crate) fn judge_claim(
     alloc: Global,
     source: &Source,
@@ -56,7 +56,7 @@ pub(crate) fn judge_claim(
     ))
 }
 
-/// What became of a claim, with the replay of the answer that decides it.
+/// Returns the result of a claim, with the replay of the answer that decides the claim.
 pub(crate) fn claim_result(
     alloc: Global,
     source: &Source,
@@ -93,8 +93,8 @@ pub(crate) fn claim_result(
     })
 }
 
-/// What became of a claim at any moment, which has this number among these, with the replay of what decides it. The
-/// exploration has that number among the searches.
+/// Returns the result of a claim at any moment, with the replay of the answer that decides the claim. `number` is the
+/// claim's number among the claims at any moment, `search` that of the exploration among the searches.
 pub(crate) fn moment_result(
     alloc: Global,
     source: &Source,
@@ -135,7 +135,7 @@ pub(crate) fn moment_result(
     })
 }
 
-// The answers among which the one counts that decides a claim.
+// The answers that include the one that decides a claim.
 fn decisive_answers<'a>(
     judged: JudgedAt,
     ends: &'a Search,
@@ -148,7 +148,7 @@ fn decisive_answers<'a>(
     }
 }
 
-// The replay of the answer of this number, if there is one, of the term with this in it.
+// The replay of the answer of this number, if there is one, in the term with this probe.
 fn replay_of(
     alloc: Global,
     source: &Source,

@@ -1,15 +1,16 @@
-//! Models explored and judged: what can come of a model's term, and whether its claims hold.
+//! Explores models and judges their claims.
 //!
-//! It stands on the terms and claims of models (`model_terms`, `model_claims`), on the searches of a program
-//! (`every_schedule`, `sampled_schedules`), on the events of a replay (`fiber_events`) and on the places of a code's
-//! words (`code_sources`). [`run_model`] explores the term of a model, names what was found and judges the claims, and
-//! [`check_model`] tells the faults of a model before any runs. It promises that a model's verdict is the worst of its
-//! claims', that a claim's verdict is the one that the answers of its search give it, and that each answer is what its
-//! schedule comes to in the core, as far as the outcomes of its fibers go. Where a search is complete, every report that
-//! stays what it is and every fault, under any schedule, is among its answers; a claim on every answer passes there
-//! alone. A claim at any moment whose refs have known numbers is looked at in each world: one on every moment passes only
-//! where no schedule leads to a world that refutes it, and fails only by a schedule that does, or by a fault; one on some
-//! moment is met by a schedule, and fails only where none meets it.
+//! This crate uses the terms and claims of models (`model_terms`, `model_claims`), the searches of a program
+//! (`every_schedule`, `sampled_schedules`), the events of a replay (`fiber_events`) and the places of a code's words
+//! (`code_sources`). [`run_model`] explores the term of a model, gives the answers in the names of the file and judges
+//! the claims. [`check_model`] returns the first fault of a model before any model runs.
+//!
+//! It promises that a model's verdict is the worst of its claims' verdicts, that a claim's verdict follows from the
+//! answers of its search, and that the outcomes of an answer are those to which its schedule leads in the core. A
+//! complete search has every final report and every fault of any schedule among its answers; a claim about every answer
+//! passes only by a complete search. A claim at any moment on refs of known numbers is checked in each world. A claim
+//! about every moment passes only if no schedule leads to a world that refutes it, and fails only by such a schedule or
+//! a fault. A claim about some moment passes only by a schedule that meets it, and fails only if no schedule does.
 #![tactic(auto)]
 
 mod held;

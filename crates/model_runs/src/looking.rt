@@ -1,4 +1,4 @@
-//! Searches that look at each world for what claims at any moment speak of.
+//! Searches that check claims at any moment in each world.
 
 ghost use Rattle.std.specs.Prelude.{◌≡◌, ◌++◌, map, IfOk, OnOk};
 ghost use Rattle.derived_ops.specs.Expansion.{code_of};
@@ -18,7 +18,7 @@ use model_claims::{Claim, Comparison, MomentWord, Rule};
 use std::alloc::{AllocError, Global};
 use world_search::{Bounds, Watcher};
 
-// How a search compares two values.
+// Translates a comparison for a search.
 fn sought_comparison(comparison: Comparison) -> SoughtComparison
     ensures { result ≡ claim_comparison comparison }
 {
@@ -32,7 +32,7 @@ fn sought_comparison(comparison: Comparison) -> SoughtComparison
     }
 }
 
-// A word, as a search takes it.
+// Translates a word for a search.
 fn sought_word(word: MomentWord) -> ClaimWord
     ensures { result ≡ claim_word word }
 {
@@ -46,7 +46,7 @@ fn sought_word(word: MomentWord) -> ClaimWord
     }
 }
 
-// Words, as a search takes them.
+// Translates words for a search.
 fn sought_words(alloc: Global, words: &[MomentWord]) -> Result<Vec<ClaimWord>, AllocError>
     ensures { IfOk result (λ it. it.items ≡ map claim_word words.now) }
 {
@@ -57,7 +57,7 @@ fn sought_words(alloc: Global, words: &[MomentWord]) -> Result<Vec<ClaimWord>, A
     Ok(sought)
 }
 
-// Turns the words of a claim on every moment round, so that they are true where the claim is refuted.
+// Negates the words of a claim about every moment, so that they are true where the claim is refuted.
 fn turn(words: &mut Vec<ClaimWord>, rule: Rule) -> Result<(), AllocError>
     ensures { OnOk result (words.new.items ≡ words.old.items ++ turning rule) }
 {
@@ -70,7 +70,7 @@ fn turn(words: &mut Vec<ClaimWord>, rule: Rule) -> Result<(), AllocError>
     }
 }
 
-// What decides a claim by itself.
+// The condition on a moment that decides a claim by itself.
 fn sought_of(alloc: Global, rule: Rule, words: &[MomentWord]) -> Result<Sought, AllocError>
     ensures { IfOk result (λ it. it ≡ sought rule words.now) }
 {
@@ -79,7 +79,7 @@ fn sought_of(alloc: Global, rule: Rule, words: &[MomentWord]) -> Result<Sought, 
     Ok(Sought::new(sought))
 }
 
-// Adds what decides a claim by itself, if it is one at any moment.
+// Adds the condition that decides a claim by itself, if the claim is one at any moment.
 fn add_sought(alloc: Global, claim: &Claim, wanted: &mut Vec<Sought>) -> Result<(), AllocError>
     ensures { OnOk result (wanted.new.items ≡ wanted.old.items ++ sought_in claim.now.rule claim.now.moment) }
 {
@@ -92,7 +92,7 @@ fn add_sought(alloc: Global, claim: &Claim, wanted: &mut Vec<Sought>) -> Result<
     }
 }
 
-/// What decides the claims at any moment among these, each by itself, in their order.
+/// The conditions that decide the claims at any moment among these, in the order of the claims.
 pub(crate) fn soughts(alloc: Global, claims: &[Claim]) -> Result<Vec<Sought>, AllocError>
     ensures { IfOk result (λ it. it.items ≡ all_soughts claims.now) }
 {
@@ -103,8 +103,8 @@ pub(crate) fn soughts(alloc: Global, claims: &[Claim]) -> Result<Vec<Sought>, Al
     Ok(wanted)
 }
 
-/// Which of these some world meets, as far as the plan goes: with few worlds at first, and then with ten times as many,
-/// until the search is complete, each is met, or the watcher ends it.
+/// Searches for worlds that meet these conditions, within the plan: with 10,000 worlds at first, and then with ten
+/// times as many, until the search is complete, each condition is met, or the watcher ends the search.
 pub(crate) fn search_by_plan<V: Watcher>(
     alloc: Global,
     program: &Program,
@@ -130,12 +130,12 @@ pub(crate) fn search_by_plan<V: Watcher>(
     search_with(alloc, program, plan, wanted, plan.worlds, watcher)
 }
 
-// Whether a search with more worlds than this number finds no more, or its watcher has ended it.
+// Whether a search with a greater bound of worlds would find no more, or the watcher has ended the search.
 fn is_last(found: &Claimed, wanted: usize, worlds: usize) -> bool {
     found.complete || found.halted || found.met.len() >= wanted || found.worlds < worlds
 }
 
-// The same, with at most this number of worlds.
+// Searches for worlds that meet these conditions, with at most this number of worlds.
 fn search_with<V: Watcher>(
     alloc: Global,
     program: &Program,

@@ -1,4 +1,4 @@
-//! What becomes of the claims at any moment.
+//! The verdicts of claims at any moment.
 
 ghost use Rattle.std.specs.Prelude.{◌≡◌, map, IfNone, IfOk, IfSome, List, Some as Somebody, true};
 ghost use Rattle.std.specs.List.{slice_get};
@@ -29,17 +29,18 @@ use model_terms::{Probe, Refused, Source};
 use model_text::Model;
 use std::alloc::{AllocError, Global};
 
-/// What a search has found that looks at each world.
+/// The result of a search that checks claims in each world.
 #[derive(Drop)]
 pub(crate) struct Moments {
-    /// The claims that a moment decides, by their numbers among those at any moment, each with a schedule to it.
+    /// The claims that a moment decides, by their numbers among the claims at any moment, each with a schedule to that
+    /// moment.
     pub met: Vec<Met>,
-    /// What is reported of it: an answer for each of them.
+    /// The search in the names of the file. It has an answer for each element of `met`, in the same order.
     pub search: Search,
 }
 
-/// Looks at each world of a model's term for what decides the claims at any moment. Nothing is looked at where there
-/// are none.
+/// Searches the worlds of a model's term for moments that decide the claims at any moment. Searches no world if there
+/// are no such claims.
 pub(crate) fn moments_of<V: Watcher>(
     alloc: Global,
     source: &Source,
@@ -58,7 +59,7 @@ pub(crate) fn moments_of<V: Watcher>(
     }
 }
 
-// The same, of the term.
+// Searches the worlds of a prepared term for moments that decide the claims at any moment.
 fn look<V: Watcher>(
     alloc: Global,
     prepared: &Prepared,
@@ -85,7 +86,7 @@ fn look<V: Watcher>(
     Ok(found_moments(found, answers))
 }
 
-// What was found where nothing was looked at.
+// The result without a search.
 fn nothing_found(alloc: Global) -> Moments
     ensures { (code : Tree) (k : TheLimits) (wanted : List (List ClaimWord)) → IsRightAt code k wanted result }
 {
@@ -103,7 +104,7 @@ fn nothing_found(alloc: Global) -> Moments
     }
 }
 
-// What was found, with these answers.
+// The result of a search, with these answers.
 fn found_moments(found: Claimed, answers: Vec<NamedAnswer>) -> Moments
     ensures met { result.met.items ≡ found.met.items }
     ensures complete { result.search.complete ≡ found.complete }
@@ -124,7 +125,7 @@ fn found_moments(found: Claimed, answers: Vec<NamedAnswer>) -> Moments
     }
 }
 
-// Each moment that decides a claim, as it is reported.
+// The moments that decide claims, in the names of the file.
 fn answers_of(
     alloc: Global,
     prepared: &Prepared,
@@ -142,7 +143,7 @@ fn answers_of(
     Ok(answers)
 }
 
-// A moment that decides a claim, as it is reported.
+// A moment that decides a claim, in the names of the file.
 fn answer_of(
     alloc: Global,
     prepared: &Prepared,
@@ -167,7 +168,7 @@ fn answer_of(
     named_end(alloc, prepared, plan, entries, held, 0)
 }
 
-// Which of these is the claim of this number.
+// The index in `met` of the claim of this number, if any.
 fn met_number(met: &[Met], claim: usize) -> Option<usize>
     ensures some { IfSome result (IsMetAt met.now claim) }
     ensures none { IfNone result (IsFound claim met.now → ⊥) }
@@ -180,7 +181,7 @@ fn met_number(met: &[Met], claim: usize) -> Option<usize>
     None
 }
 
-// The first of these answers that is a fault.
+// The index of the first of these answers that is a fault, if any.
 fn fault_number(answers: &[NamedAnswer]) -> Option<usize>
     ensures { is_some result ≡ has_fault answers.now }
 {
@@ -192,7 +193,7 @@ fn fault_number(answers: &[NamedAnswer]) -> Option<usize>
     None
 }
 
-// The verdict where no moment decides a claim, by whether there are others.
+// The verdict if no moment that was found decides a claim. `complete` says that there are no other moments.
 fn verdict_by_search(rule: Rule, complete: bool) -> Verdict
     ensures { result ≡ by_search rule complete }
 {
@@ -205,8 +206,8 @@ fn verdict_by_search(rule: Rule, complete: bool) -> Verdict
     }
 }
 
-// The verdict of a claim that isn't under `fails`: whether an answer is a fault, whether a moment decides the claim,
-// whether the exploration is complete, and whether the search for moments is.
+// The verdict of a claim that isn't under `fails`. The flags say whether an answer is a fault, whether a moment decides
+// the claim, whether the exploration is complete, and whether the search for moments is complete.
 fn moment_verdict(rule: Rule, faulty: bool, met: bool, explored: bool, searched: bool) -> Verdict
     ensures { result ≡ the_verdict rule faulty met explored searched }
 {
@@ -228,18 +229,18 @@ fn moment_verdict(rule: Rule, faulty: bool, met: bool, explored: bool, searched:
     }
 }
 
-/// The verdict of a claim at any moment, and what decides it.
+/// The verdict of a claim at any moment, and the answer that decides the claim.
 #[derive(Clone, Copy)]
 pub(crate) struct JudgedAt {
     /// The verdict.
     pub verdict: Verdict,
-    /// Whether what decides it is a moment, and not a fault.
+    /// Whether the claim is decided by moments, not by a fault.
     pub at_moment: bool,
-    /// Its number among the answers of that search.
+    /// The number of the moment or the fault among the answers of its search, if any decides the claim.
     pub shown: Option<usize>,
 }
 
-// What decides a claim: a fault, or a moment.
+// Adds to a verdict what decides the claim: a fault if the claim is about every moment and there is one, else a moment.
 fn decider(rule: Rule, fault: Option<usize>, met: Option<usize>, verdict: Verdict) -> JudgedAt
     ensures verdict { result.verdict ≡ verdict }
     ensures moment { result.at_moment ≡ true → result.shown ≡ met }
@@ -258,8 +259,8 @@ fn decider(rule: Rule, fault: Option<usize>, met: Option<usize>, verdict: Verdic
     }
 }
 
-/// The verdict of a claim that has this number among those at any moment, by an exploration of the term and by a search
-/// for moments.
+/// Judges the claim of this number among the claims at any moment, by an exploration of the term and a search for
+/// moments.
 pub(crate) fn judge_at(claim: &Claim, number: usize, ends: &Search, moments: &Moments) -> JudgedAt
     ensures judged { (code : Tree) (k : TheLimits) (wanted : List (List ClaimWord)) (words : List ClaimWord) →
         IsRightAt code k wanted moments.now → slice_get wanted number ≡ Somebody words →

@@ -21,27 +21,27 @@ use std::alloc::{AllocError, Global};
 /// A replay of a model's term under a schedule, in the names of its file.
 #[derive(Drop)]
 pub struct Named {
-    /// What each entry was that moved a fiber.
+    /// The events of the entries that moved a fiber.
     pub events: Events,
-    /// Of each event, in the same order, the number of the form of the file that its move comes from. `None` where it
-    /// comes from no word, as a look does.
+    /// For each event, in the same order, the number of the form of the file that its move comes from. `None` if the
+    /// move comes from no word, as a look.
     pub forms: Vec<Option<usize>>,
-    /// The name of each fiber, from that of fiber 0 on.
+    /// The name of each fiber, in the order of their numbers.
     pub fibers: Vec<FiberName>,
     /// The name of each ref, in the order of their numbers.
     pub refs: Vec<BinderName>,
     /// The name of each deferred, in the order of their numbers.
     pub deferreds: Vec<BinderName>,
-    /// How many entries were made: all of them, or those before the one that ended the replay by a fault.
+    /// The number of entries that were made: all, or those before the entry that ended the replay with a fault.
     pub made: usize,
     /// The report, or the fault that ended the replay.
     pub end: Result<Report, RunError>,
 }
 
-/// The names of what a replay makes, and the forms of its moves.
+/// The names of the fibers, refs and deferreds of a replay, and the forms of its moves.
 #[derive(Drop)]
 pub(crate) struct Names {
-    /// Of each event the form that it comes from.
+    /// For each event, the form that its move comes from.
     pub forms: Vec<Option<usize>>,
     /// The names of the fibers.
     pub fibers: Vec<FiberName>,
@@ -51,7 +51,7 @@ pub(crate) struct Names {
     pub deferreds: Vec<BinderName>,
 }
 
-/// Replays a term under a schedule, and gives what is in it the names of the file.
+/// Replays a term under a schedule, in the names of the file.
 pub(crate) fn replay_named(
     alloc: Global,
     prepared: &Prepared,
@@ -88,7 +88,7 @@ pub(crate) fn replay_named(
     })
 }
 
-// The names of what these events make. The places are those of the words before each entry.
+// The names of what these events make. `places` has, for each entry, the number of the word before its move.
 fn names_of(
     alloc: Global,
     origins: &[Origin],
@@ -110,13 +110,13 @@ fn names_of(
     Ok(names)
 }
 
-// Where the word comes from at which a fiber was before this entry.
+// The origin of the word at which a fiber was before this entry.
 fn origin_of(origins: &[Origin], places: &[usize], entry: usize) -> Option<Origin> {
     let place = places.get(entry.saturating_sub(1))?;
     origins.get(*place).copied()
 }
 
-// One more event, of a word that comes from there.
+// Adds one more event, whose word has this origin.
 fn note(names: &mut Names, event: Event, origin: Option<Origin>) -> Result<(), AllocError>
     ensures { OnOk result (length names.new.forms.items ≡ length names.old.forms.items + 1) }
 {
@@ -133,7 +133,7 @@ fn note(names: &mut Names, event: Event, origin: Option<Origin>) -> Result<(), A
     Ok(())
 }
 
-// The form of an event, where its move is that of a word.
+// The form of an event, if its move comes from a word.
 fn form_of(event: Event, origin: Option<Origin>) -> Option<usize> {
     if is_of_word(event) {
         origin?.form
@@ -142,7 +142,7 @@ fn form_of(event: Event, origin: Option<Origin>) -> Option<usize> {
     }
 }
 
-// Whether the move of an event is that of the word at which its fiber was before it.
+// Whether the move of an event comes from the word at which its fiber was before the move.
 fn is_of_word(event: Event) -> bool {
     let Event {
         entry: _,
@@ -157,7 +157,7 @@ fn is_of_word(event: Event) -> bool {
     }
 }
 
-// Whether a word notes this that makes no shared call: what is said, and what a bracket notes of its resource.
+// Whether this mark, of a move without a shared call, comes from a word: from `say`, or from a bracket's resource.
 fn is_mark_of_word(mark: Option<Mark>) -> bool {
     matches!(
         mark,
@@ -165,7 +165,7 @@ fn is_mark_of_word(mark: Option<Mark>) -> bool {
     )
 }
 
-// Whether a word makes this call, whose move noted this.
+// Whether this call comes from a word. `mark` is the mark of its move, if any.
 fn is_call_of_word(call: Call, mark: Option<Mark>) -> bool {
     match call {
         Call::Start | Call::Cancel(_) | Call::Join(_) => true,
@@ -177,7 +177,7 @@ fn is_call_of_word(call: Call, mark: Option<Mark>) -> bool {
     }
 }
 
-// The name of a fiber that a word from there starts.
+// The name of a fiber that a word of this origin starts.
 fn fiber_name(origin: Option<Origin>) -> FiberName {
     match origin {
         None => FiberName::Hidden,
@@ -185,7 +185,7 @@ fn fiber_name(origin: Option<Origin>) -> FiberName {
     }
 }
 
-// The name of a ref or a deferred that a word from there makes.
+// The name of a ref or a deferred that a word of this origin makes.
 fn cell_name(origin: Option<Origin>) -> BinderName {
     match origin {
         None => BinderName::Hidden,

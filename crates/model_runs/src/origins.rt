@@ -1,18 +1,18 @@
-//! The words of a term's code, in the names of its file.
+//! The origins of the words of a term's code, in the names of the file.
 
 use code_sources::{StartRole, WordSource};
 use model_claims::FiberName;
 use model_terms::{Binder, BinderName, ModelTerm, WordPlace};
 use std::alloc::{AllocError, Global};
 
-/// Where a word of a code comes from, in the names of the file.
+/// The origin of a word of a code, in the names of the file.
 #[derive(Clone, Copy)]
 pub(crate) struct Origin {
     /// The number of the form of the file, if one is known.
     pub form: Option<usize>,
-    /// The name that the form binds, if it begins with one.
+    /// The name that the form binds behind its head; `Hidden` if there is none.
     pub name: BinderName,
-    /// What the fiber is that it starts, where it starts one.
+    /// The role of the fiber that the word starts, if it starts one.
     pub role: StartRole,
 }
 
@@ -28,7 +28,7 @@ impl Origin {
     }
 }
 
-// The name of a fiber whose binder has this one.
+// The name of a fiber whose binder has this name.
 fn fiber_name(name: BinderName) -> FiberName {
     match name {
         BinderName::Word(form) => FiberName::Word(form),
@@ -38,7 +38,7 @@ fn fiber_name(name: BinderName) -> FiberName {
     }
 }
 
-/// Where the words of a term's code come from, by the places of its text.
+/// Returns the origins of the words of a term's code, by their places in the term's text.
 pub(crate) fn origins_of(
     alloc: Global,
     term: &ModelTerm,
@@ -55,10 +55,10 @@ pub(crate) fn origins_of(
     Ok(origins)
 }
 
-// More halvings than a search among any number of places has.
+// At least the number of halvings of a binary search among any number of places.
 const HALVINGS: u32 = 64;
 
-// The form of the file that the form of the term at this place was made for.
+// The form of the file for which the form of the term at this place was made.
 fn form_at(places: &[WordPlace], place: usize) -> Option<usize> {
     let mut low = 0usize;
     let mut high = places.len();

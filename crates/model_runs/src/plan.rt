@@ -1,4 +1,4 @@
-//! How far the searches of a model go.
+//! The bounds of the searches of a model.
 
 ghost use Rattle.std.specs.Prelude.{◌≤◌, ◌<◌, ◌^◌};
 ghost use Rattle.cell_registry.specs.Cells.{AreLimits};
@@ -6,48 +6,48 @@ ghost use Rattle.cell_registry.specs.Cells.{AreLimits};
 use cell_registry::Limits;
 use model_claims::Settings;
 
-/// How far the searches of a model go, where the model doesn't say.
+/// The bounds of the searches of a model where the model sets none.
 #[derive(Clone, Copy)]
 pub struct SearchBounds {
-    /// How many worlds an exploration keeps at most.
+    /// The greatest number of worlds that an exploration keeps.
     pub worlds: usize,
     /// The number of bytes at which an exploration stops.
     pub memory: usize,
 }
 
-/// How far a search goes.
+/// The bounds of a search.
 #[derive(Clone, Copy)]
 pub(crate) struct Plan {
-    /// How many fibers, refs and deferreds there may be, and how often a fiber may change its own state.
+    /// The greatest numbers of fibers, refs and deferreds, and of changes of a fiber's own state.
     pub limits: Limits,
-    /// How many worlds an exploration keeps at most.
+    /// The greatest number of worlds that an exploration keeps.
     pub worlds: usize,
     /// The number of bytes at which an exploration stops.
     pub memory: usize,
-    /// How many entries a schedule has at most.
+    /// The greatest number of entries of a schedule.
     pub entries: u32,
-    /// How many schedules are drawn where not every schedule was explored.
+    /// The number of schedules that are drawn if not every schedule was explored.
     pub times: u32,
-    /// What they are drawn by.
+    /// The seed of the drawing.
     pub seed: u64,
 }
 
-// How many fibers, refs or deferreds there may be, where a model doesn't say.
+// The limit on fibers, refs or deferreds if a model sets none.
 const FEW: u16 = 16;
 
-// How many of them there may be at most.
+// The greatest limit on fibers, refs or deferreds.
 const MANY: u16 = 1000;
 
-// How often a fiber may change its own state, where a model doesn't say, and at most.
+// The limit on changes of a fiber's own state if a model sets none, and the greatest such limit.
 const COUNT: u64 = 1_099_511_627_775;
 
-// How many entries a schedule has at most, where a model doesn't say.
+// The limit on entries of a schedule if a model sets none.
 const ENTRIES: u32 = 10_000;
 
-// How many schedules are drawn, where a model doesn't say.
+// The number of schedules that are drawn if a model sets none.
 const TIMES: u32 = 2_000;
 
-// A number of fibers, refs or deferreds.
+// The limit on fibers, refs or deferreds, from 1 to 1000; 16 if none is given.
 fn band(given: Option<u64>) -> u16
     ensures some { 1 ≤ result }
     ensures many { result ≤ 1000 }
@@ -66,7 +66,7 @@ fn band(given: Option<u64>) -> u16
     }
 }
 
-// A number of changes.
+// The limit on changes, from 1 to 1,099,511,627,775; the greatest if none is given.
 fn count(given: Option<u64>) -> u64
     ensures some { 1 ≤ result }
     ensures many { result < 2 ^ 40 }
@@ -85,7 +85,7 @@ fn count(given: Option<u64>) -> u64
     }
 }
 
-// A number that has 32 bits.
+// The given number if it fits into 32 bits, else `usual`.
 fn small(given: Option<u64>, usual: u32) -> u32 {
     match given {
         None => usual,
@@ -96,7 +96,7 @@ fn small(given: Option<u64>, usual: u32) -> u32 {
     }
 }
 
-// A number of worlds.
+// The given number of worlds if it fits into a `usize`, else `usual`.
 fn worlds(given: Option<u64>, usual: usize) -> usize {
     match given {
         None => usual,
@@ -107,7 +107,7 @@ fn worlds(given: Option<u64>, usual: usize) -> usize {
     }
 }
 
-// What there may be of everything that fibers share.
+// The limits of the registry.
 fn limits(settings: Settings) -> Limits
     ensures { AreLimits result }
 {
@@ -123,7 +123,7 @@ fn limits(settings: Settings) -> Limits
     }
 }
 
-/// How far the searches of a model with these settings go.
+/// The bounds of the searches of a model with these settings.
 pub(crate) fn plan_of(settings: Settings, bounds: SearchBounds) -> Plan
     ensures { AreLimits result.limits }
 {

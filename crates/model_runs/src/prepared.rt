@@ -10,16 +10,16 @@ use model_text::Model;
 use std::alloc::{AllocError, Global};
 use term_parse::{ParseError, parse};
 
-/// A model's term, ready to run, with where the words of its code come from.
+/// A model's term, ready to run, with the origins of the words of its code.
 #[derive(Drop)]
 pub(crate) struct Prepared {
     /// The program.
     pub program: Program,
-    /// Where each word of its code comes from.
+    /// The origin of each word of its code.
     pub origins: Vec<Origin>,
 }
 
-/// A model's term with this put into it, ready to run, or the fault of the model.
+/// Prepares a model's term with this probe, or returns the fault of the model.
 pub(crate) fn prepare(
     alloc: Global,
     source: &Source,
@@ -34,7 +34,7 @@ pub(crate) fn prepare(
     Ok(Prepared { program, origins })
 }
 
-/// The program of a model's term. A term that goes past a limit is a fault of the model.
+/// Returns the program of a model's term. A term that exceeds a limit is a fault of the model.
 pub(crate) fn program_in(
     alloc: Global,
     source: &Source,
@@ -75,7 +75,7 @@ fn parse_words(fault: ParseError) -> &'static str {
     }
 }
 
-// The term of the model goes past the limit of this name.
+// Refuses a model whose term exceeds the limit of this name.
 fn refuse(
     alloc: Global,
     source: &Source,
@@ -88,7 +88,7 @@ fn refuse(
     Err(Refused::Fault(fault))
 }
 
-// The fault of a term that goes past the limit of this name.
+// The fault E23 of a term that exceeds the limit of this name.
 fn limit_fault(
     alloc: Global,
     source: &Source,
@@ -109,7 +109,7 @@ fn limit_fault(
     })
 }
 
-// What is wrong with a term that goes past the limit of this name.
+// The message of that fault.
 fn limit_message(
     alloc: Global,
     source: &Source,
@@ -128,7 +128,7 @@ fn limit_message(
     Ok(message)
 }
 
-// How long the text of a term is.
+// The note with the number of bytes of a term's text.
 fn length_note(alloc: Global, term: &ModelTerm) -> Result<Vec<u8>, AllocError> {
     let mut note = Vec::from_slice(alloc, b"the translation has ")?;
     push_number(alloc, &mut note, term.text.len() as u64)?;
@@ -136,7 +136,7 @@ fn length_note(alloc: Global, term: &ModelTerm) -> Result<Vec<u8>, AllocError> {
     Ok(note)
 }
 
-// A number in decimal.
+// Adds a number in decimal.
 fn push_number(alloc: Global, text: &mut Vec<u8>, number: u64) -> Result<(), AllocError> {
     let digits = format!(in alloc; "{number}")?;
     text.extend_from_slice(digits.as_bytes())

@@ -1,10 +1,10 @@
-//! The different things that a model's claims want put into its term.
+//! The different probes that a model's claims need.
 
 use model_claims::Claim;
 use model_terms::{Probe, Said};
 use std::alloc::{AllocError, Global};
 
-/// The different things that these claims want put into the term, in the order of the claims.
+/// Returns the different probes that these claims need, in the order of the claims.
 pub(crate) fn probes_of(alloc: Global, claims: &[Claim]) -> Result<Vec<Probe>, AllocError> {
     let mut probes = Vec::new(alloc);
     for claim in claims {
@@ -15,7 +15,7 @@ pub(crate) fn probes_of(alloc: Global, claims: &[Claim]) -> Result<Vec<Probe>, A
     Ok(probes)
 }
 
-/// Which of these a claim wants put into the term.
+/// Returns the number of the wanted probe among `probes`, if any.
 pub(crate) fn probe_number(probes: &[Probe], wanted: &Probe) -> Option<usize> {
     for (number, probe) in probes.iter().enumerate() {
         if is_same(probe, wanted) {
@@ -25,7 +25,7 @@ pub(crate) fn probe_number(probes: &[Probe], wanted: &Probe) -> Option<usize> {
     None
 }
 
-// Whether the same is put into the term.
+// Whether two probes are the same.
 fn is_same(one: &Probe, other: &Probe) -> bool {
     match one {
         Probe::Nothing => matches!(other, Probe::Nothing),
@@ -41,7 +41,7 @@ fn is_same(one: &Probe, other: &Probe) -> bool {
     }
 }
 
-// Whether the same fiber says the same.
+// Whether two `say`s have the same fiber and the same value.
 fn is_said(one: Said, other: Said) -> bool {
     one.fiber == other.fiber && one.value == other.value
 }

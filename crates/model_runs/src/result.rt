@@ -1,4 +1,4 @@
-//! What became of a model and its claims.
+//! The results of a model and its claims.
 
 use crate::named::Named;
 use crate::warnings::Warning;
@@ -7,87 +7,87 @@ use effect_term::Value;
 use every_schedule::Schedule;
 use model_claims::{Rule, Seen, Verdict};
 
-/// A ref at a moment.
+/// A ref and its value at a moment.
 #[derive(Clone, Copy)]
 pub struct HeldRef {
-    /// Its number, in the order in which refs are made.
+    /// The number of the ref, in the order in which refs are made.
     pub number: u16,
-    /// The value that it holds.
+    /// The value that the ref holds.
     pub value: Value,
 }
 
-/// An answer that was found, in the names of the file; or a moment that decides a claim.
+/// An answer that was found, or a moment that decides a claim, in the names of the file.
 #[derive(Drop)]
 pub struct NamedAnswer {
-    /// What its fibers have come to.
+    /// The outcomes of its fibers, and the values that they said.
     pub seen: Seen,
-    /// Of a moment, what the refs hold that its claim speaks of; nothing of an answer.
+    /// For a moment, the values of the refs that its claim compares; empty for an answer.
     pub held: Vec<HeldRef>,
-    /// The fault that ends its schedule, if one does.
+    /// The fault that ends its schedule, if any.
     pub fault: Option<RunError>,
-    /// A schedule under which it comes, as `replay` takes it.
+    /// A schedule that leads to the answer, for `replay`.
     pub schedule: Schedule,
-    /// How many of the schedules came to it that were drawn at random; 0 where the exploration has found it.
+    /// The number of schedules drawn at random that led to the answer; 0 if the exploration found the answer.
     pub came: u32,
 }
 
-/// What was found of a model's term, with what a claim wants put into it.
+/// The result of a search of a model's term with the probe of a claim.
 #[derive(Drop)]
 pub struct Search {
     /// Whether every schedule was explored.
     pub complete: bool,
-    /// Whether the watcher has ended the exploration.
+    /// Whether the watcher ended the exploration.
     pub halted: bool,
-    /// How many worlds were found.
+    /// The number of worlds that were found.
     pub worlds: usize,
-    /// How many schedules were drawn at random; 0 where every schedule was explored.
+    /// The number of schedules drawn at random; 0 if every schedule was explored.
     pub sampled: u32,
-    /// What can come.
+    /// The answers that were found.
     pub answers: Vec<NamedAnswer>,
 }
 
-/// What became of a claim.
+/// The result of a claim.
 #[derive(Drop)]
 pub struct ClaimResult {
     /// The number of the form of the claim.
     pub form: usize,
-    /// Whether it speaks of every answer or of some answer.
+    /// Whether the claim is about every answer or about some answer.
     pub rule: Rule,
-    /// Whether it was to fail.
+    /// Whether the claim has to be refuted.
     pub fails: bool,
-    /// Whether it holds.
+    /// Its verdict.
     pub verdict: Verdict,
-    /// The number of its search in [`ModelResult::searches`]; of a claim at any moment the search that tells whether a
-    /// schedule faults.
+    /// The number of its search in [`ModelResult::searches`]. For a claim at any moment, this search finds whether a
+    /// schedule ends in a fault.
     pub search: usize,
-    /// Whether it is decided by a look at each world, in [`ModelResult::moments`].
+    /// Whether the search for moments, [`ModelResult::moments`], decides the claim.
     pub at_moment: bool,
-    /// The number of the answer that decides it, in its search or in that one, if one does.
+    /// The number of the answer that decides the claim, in the search of [`ModelResult::search_of`], if any.
     pub shown: Option<usize>,
-    /// That answer's schedule, replayed.
+    /// The replay of that answer's schedule.
     pub replay: Option<Named>,
 }
 
-/// What became of a model.
+/// The result of a model.
 #[derive(Drop)]
 pub struct ModelResult {
     /// The worst verdict of its claims.
     pub verdict: Verdict,
-    /// How many worlds were found, in all searches together.
+    /// The number of worlds that were found in all searches together.
     pub worlds: u64,
-    /// What was found of its term, with what its claims want put into it.
+    /// The searches of its term, one for each probe that its claims need.
     pub searches: Vec<Search>,
-    /// What was found of the worlds of its term, where a claim wants a look at each of them: its answers are moments,
-    /// each of which decides a claim. Nothing is looked at where no claim wants it.
+    /// The search for moments in the worlds of its term. Each of its answers is a moment that decides a claim. The
+    /// search has no worlds if no claim is checked in each world.
     pub moments: Search,
-    /// What became of each claim, in the order of the file.
+    /// The result of each claim, in the order of the file.
     pub claims: Vec<ClaimResult>,
-    /// What is worth a look.
+    /// Its warnings.
     pub warnings: Vec<Warning>,
 }
 
 impl ModelResult {
-    /// The search that a claim was decided by, with the answer that is shown among its answers.
+    /// Returns the search that decides a claim. The shown answer is among the answers of this search.
     pub fn search_of(&self, claim: &ClaimResult) -> Option<&Search> {
         if claim.at_moment {
             return Some(&self.moments);

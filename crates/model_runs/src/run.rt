@@ -1,4 +1,4 @@
-//! A model explored and judged.
+//! Explores and judges a model.
 
 ghost use Rattle.std.specs.Prelude.{◌≡◌, ◌≤◌, length, true, IfOk, None as Nothing};
 ghost use Rattle.std.specs.List.{All};
@@ -25,13 +25,13 @@ use model_terms::{Probe, Refused, Source, translate};
 use model_text::Model;
 use std::alloc::Global;
 
-/// Explores a model's term, with what each of its claims wants put into it, and judges the claims.
+/// Explores a model's term with the probe of each of its claims, and judges the claims.
 ///
-/// The model's bounds go before these. An exploration keeps few worlds at first, and then ten times as many, up to its
-/// bound; where it isn't complete even so, schedules are drawn at random, and what they come to counts as found. Each
-/// claim is judged by the search of the term with what it wants put into it. Claims at any moment on refs whose numbers
-/// the term tells are looked at together, in each world of one search; a fault refutes one on every moment. Where the
-/// model has a fault, it is refused as by [`check_model`].
+/// The model's bounds override `bounds`. An exploration keeps 10,000 worlds at first, and then ten times as many, up to
+/// its bound. If the exploration still isn't complete, schedules are drawn at random, and their settled ends count as
+/// answers. Each claim is judged by the search of the term with its probe. Claims at any moment on refs of known
+/// numbers are checked together, in each world of one more search; a fault refutes such a claim about every moment. A
+/// model with a fault is refused as by [`check_model`].
 pub fn run_model(
     alloc: Global,
     source: &Source,
@@ -45,9 +45,9 @@ pub fn run_model(
     run_model_watched(alloc, source, model, bounds, &mut Unwatched)
 }
 
-/// The same ([`run_model`]), while all searches of the model are watched. Where the watcher ends one, what was found
-/// until then decides, as at a bound, and at most 200 schedules are drawn: a claim that they don't decide is undecided.
-/// With a [`TimeLimit`] for each model its explorations end by the limit, together.
+/// Runs [`run_model`] with a watcher of all searches. If the watcher ends a search, the answers found until then
+/// decide, as at a bound, and at most 200 schedules are drawn; a claim that these don't decide is undecided. Under one
+/// [`TimeLimit`] all explorations of the model together end by the limit.
 pub fn run_model_watched<V: Watcher>(
     alloc: Global,
     source: &Source,
@@ -86,7 +86,7 @@ pub fn run_model_watched<V: Watcher>(
     Ok(result_of(searches, moments, results, warnings))
 }
 
-// What became of a model, by its claims.
+// The result of a model, by the results of its claims.
 fn result_of(
     searches: Vec<Search>,
     moments: Moments,
@@ -110,7 +110,7 @@ fn result_of(
     }
 }
 
-// How many worlds these searches have found, and that one.
+// The number of worlds that these searches and the search for moments have found.
 fn all_worlds(searches: &[Search], moments: &Search) -> u64 {
     let mut worlds = moments.worlds as u64;
     for search in searches {
@@ -119,7 +119,7 @@ fn all_worlds(searches: &[Search], moments: &Search) -> u64 {
     worlds
 }
 
-// A search of the term with each of these put into it.
+// Searches the term with each of these probes.
 fn searches_of<V: Watcher>(
     alloc: Global,
     source: &Source,
@@ -139,7 +139,7 @@ fn searches_of<V: Watcher>(
     Ok(searches)
 }
 
-// A search of the term with this put into it.
+// Searches the term with this probe.
 fn search_with<V: Watcher>(
     alloc: Global,
     source: &Source,
@@ -158,7 +158,7 @@ fn search_with<V: Watcher>(
     }
 }
 
-// What became of each claim.
+// Returns the result of each claim.
 fn results_of(
     alloc: Global,
     source: &Source,
@@ -185,7 +185,7 @@ fn results_of(
     Ok(results)
 }
 
-// How many claims at any moment this claim is.
+// 1 for a claim at any moment, else 0.
 fn count_of(claim: &Claim) -> usize
     ensures one { result ≤ 1 }
     ensures count { result ≡ length (sought_in claim.now.rule claim.now.moment) }
@@ -196,7 +196,7 @@ fn count_of(claim: &Claim) -> usize
     }
 }
 
-// What became of a claim; one at any moment has this number among these.
+// Returns the result of a claim. `number` is the number of claims at any moment before this claim.
 fn decided(
     alloc: Global,
     source: &Source,
@@ -220,7 +220,7 @@ fn decided(
     }
 }
 
-// What became of a claim at any moment, which has this number among these.
+// Returns the result of a claim at any moment. `number` is the number of such claims before this claim.
 fn decided_at_moments(
     alloc: Global,
     source: &Source,
@@ -247,7 +247,7 @@ fn decided_at_moments(
     }
 }
 
-// What became of a claim on answers, by the search of the term with what it wants put into it.
+// Returns the result of a claim on answers, by the search of the term with its probe.
 fn decided_by_answers(
     alloc: Global,
     source: &Source,
@@ -271,8 +271,8 @@ fn decided_by_answers(
     }
 }
 
-/// The first fault of a model, which is reported before any model runs: one of its term, its claims and bounds, or of its
-/// term with what a claim wants put into it.
+/// Returns the first fault of a model, if any, before any model runs: a fault of its term, of its claims and bounds, or
+/// of its term with the probe of a claim.
 pub fn check_model(alloc: Global, source: &Source, model: &Model) -> Result<(), Refused> {
     let term = translate(alloc, source, model, Probe::Nothing)?;
     let claims = read_claims(alloc, source, model, &term)?;
@@ -284,7 +284,7 @@ pub fn check_model(alloc: Global, source: &Source, model: &Model) -> Result<(), 
     Ok(())
 }
 
-// The fault of a term with this put into it, if it has one.
+// Returns the fault of the term with this probe, if any.
 fn check_probe(alloc: Global, source: &Source, model: &Model, probe: Probe) -> Result<(), Refused> {
     let term = translate(alloc, source, model, probe)?;
     let _ = program_in(alloc, source, model, &term)?;

@@ -22,17 +22,17 @@ use scheduled_core::same_end;
 use std::alloc::{AllocError, Global};
 use world_search::Bounds;
 
-/// How many worlds are kept at first: most models have fewer.
+/// The greatest number of worlds of the first search: most models have fewer.
 pub(crate) const FIRST: usize = 10_000;
 
-/// How often the worlds are made ten times as many.
+/// The greatest number of times that the bound of worlds is multiplied by ten.
 pub(crate) const TIMES_MORE: u32 = 8;
 
-// How many schedules are drawn at most where the watcher has ended the exploration.
+// The greatest number of schedules that are drawn if the watcher has ended the exploration.
 const FEW_TIMES: u32 = 200;
 
-/// What can come of a program, as far as the plan goes: with few worlds at first, and then with ten times as many, up
-/// to those of the plan.
+/// Explores a program within the plan: with 10,000 worlds at first, and then with ten times as many, up to those of the
+/// plan.
 fn explore_by_plan<V: Watcher>(
     alloc: Global,
     program: &Program,
@@ -58,7 +58,7 @@ fn explore_by_plan<V: Watcher>(
     explore_with(alloc, program, plan, plan.worlds, watcher)
 }
 
-// The answers of a program, with at most this number of worlds.
+// Explores a program with at most this number of worlds.
 fn explore_with<V: Watcher>(
     alloc: Global,
     program: &Program,
@@ -79,8 +79,8 @@ fn explore_with<V: Watcher>(
     explore_watched(alloc, program, plan.limits, bounds, watcher)
 }
 
-/// What can come of a term, as far as the plan goes and the watcher lets it. Where not every schedule was explored,
-/// some are drawn at random.
+/// Searches a term within the plan, until the watcher ends the search. If not every schedule was explored, some are
+/// drawn at random.
 pub(crate) fn search_term<V: Watcher>(
     alloc: Global,
     prepared: &Prepared,
@@ -102,8 +102,8 @@ pub(crate) fn search_term<V: Watcher>(
     Ok(search_of(&found, drawn.schedules, more))
 }
 
-// The schedules that are drawn where an exploration isn't complete: those of the plan, while the watcher lets them.
-// Where the watcher has ended the exploration, they are few, and it isn't asked.
+// Draws the plan's number of schedules after an exploration that isn't complete, until the watcher ends the drawing. If
+// the watcher has ended the exploration (`halted`), draws at most 200 and doesn't ask the watcher.
 fn drawn_by_plan<V: Watcher>(
     alloc: Global,
     program: &Program,
@@ -128,7 +128,7 @@ fn drawn_by_plan<V: Watcher>(
     )
 }
 
-// The answers of an exploration.
+// The answers of an exploration, in the names of the file.
 fn explored_answers(
     alloc: Global,
     prepared: &Prepared,
@@ -146,7 +146,7 @@ fn explored_answers(
     Ok(answers)
 }
 
-// What was found, with these answers, after this number of schedules was drawn.
+// The result of a search: an exploration, the number of schedules that were drawn, and the answers of both.
 fn search_of(found: &Exploration, sampled: u32, answers: Vec<NamedAnswer>) -> Search
     ensures complete { result.complete ≡ found.now.complete }
     ensures halted { result.halted ≡ found.now.halted }
@@ -161,7 +161,7 @@ fn search_of(found: &Exploration, sampled: u32, answers: Vec<NamedAnswer>) -> Se
     }
 }
 
-// These answers, and those that were drawn, that no further entry changes and that aren't found.
+// Adds to these answers each one that was drawn, is settled, and wasn't found.
 fn with_drawn(
     alloc: Global,
     prepared: &Prepared,
@@ -181,7 +181,7 @@ fn with_drawn(
     Ok(all)
 }
 
-// Adds an answer that was drawn, where no further entry changes it and it isn't found.
+// Adds an answer that was drawn, if it is settled and wasn't found.
 fn add_drawn(
     alloc: Global,
     prepared: &Prepared,
@@ -202,7 +202,7 @@ fn add_drawn(
     Ok(())
 }
 
-// Whether an end that was drawn is settled, and isn't among these answers.
+// Whether an end that was drawn is settled (no further entry changes it) and isn't among these answers.
 fn is_new(answers: &[Answer], coming: &Coming) -> bool {
     if coming.cut {
         return false;
@@ -238,7 +238,8 @@ fn named_answer(
     )
 }
 
-/// What a schedule comes to, in the names of the file, with what refs hold there. So often it was drawn at random.
+/// Returns the answer of a schedule in the names of the file. `held` has the values of refs at its end, and `came` is
+/// the number of drawn schedules that led to the answer.
 pub(crate) fn named_end(
     alloc: Global,
     prepared: &Prepared,
@@ -265,7 +266,7 @@ pub(crate) fn named_end(
     })
 }
 
-// The fault of a replay, if it ended by one.
+// The fault that ended a replay, if any.
 fn fault_of(replay: &Named) -> Option<RunError> {
     match &replay.end {
         Ok(_) => None,

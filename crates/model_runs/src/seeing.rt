@@ -11,7 +11,8 @@ use model_terms::is_name;
 use scheduled_core::FiberReport;
 use std::alloc::{AllocError, Global};
 
-/// What a claim sees of a replay: what each fiber has come to and what it said. Of a fault it sees nothing more.
+/// Returns what a claim sees of a replay: the outcome of each fiber and the values that the fiber said. Of a fault a
+/// claim sees no fibers.
 pub(crate) fn seen_of(alloc: Global, replay: &Named) -> Result<Seen, AllocError>
     ensures { IfOk result (λ seen. seen_outcomes seen ≡ outcomes replay.now.end) }
 {
@@ -21,7 +22,7 @@ pub(crate) fn seen_of(alloc: Global, replay: &Named) -> Result<Seen, AllocError>
     }
 }
 
-// What is seen of a fault.
+// What a claim sees of a fault.
 fn fault_seen(alloc: Global) -> Seen
     ensures { result.faulty ≡ true }
 {
@@ -34,7 +35,7 @@ fn fault_seen(alloc: Global) -> Seen
     }
 }
 
-// What is seen of these fibers.
+// What a claim sees of these fibers.
 fn fibers_seen(
     alloc: Global,
     reports: &[FiberReport],
@@ -52,7 +53,7 @@ fn fibers_seen(
     })
 }
 
-// What each of these fibers has come to, and what it said.
+// Returns the outcome of each of these fibers, and adds the values that the fibers said to `says`.
 fn add_fibers(
     alloc: Global,
     says: &mut Vec<Value>,
@@ -68,7 +69,7 @@ fn add_fibers(
     Ok(fibers)
 }
 
-// What a fiber of this name has come to, and what it said.
+// Returns the outcome of a fiber of this name, and adds the values that the fiber said to `says`.
 fn fiber_seen(
     says: &mut Vec<Value>,
     name: FiberName,
@@ -87,7 +88,7 @@ fn fiber_seen(
     })
 }
 
-// The name of a fiber.
+// The name of a fiber; `Hidden` if there is none.
 fn name_of(names: &[FiberName], number: usize) -> FiberName {
     match names.get(number) {
         Some(name) => *name,
@@ -95,7 +96,7 @@ fn name_of(names: &[FiberName], number: usize) -> FiberName {
     }
 }
 
-// The values that are said, without those that are said for names.
+// Adds the values that were said, without those that a probe says for names.
 fn add_says(says: &mut Vec<Value>, marks: &[Mark]) -> Result<(), AllocError> {
     for mark in marks {
         if let Mark::Say(value) = mark {

@@ -1,16 +1,16 @@
-//! What is worth a look, though no claim fails by it.
+//! Warnings about models.
 
 use crate::result::{ClaimResult, NamedAnswer, Search};
 use model_claims::{Claim, Verdict, Want, is_wanted};
 use model_terms::ModelTerm;
 use std::alloc::{AllocError, Global};
 
-/// What is worth a look, though no claim fails by it.
+/// A warning about a model. No verdict depends on it.
 #[derive(Clone, Copy, PartialEq, Eq, Debug)]
 pub enum Warning {
-    /// The form of this number reads a ref before it changes it: two moves, and another fiber may come between.
+    /// The form of this number reads a ref and then changes it, in two moves: another fiber can move between them.
     Torn(usize),
-    /// The form of this number is an outcome that is wanted, and no schedule comes to it.
+    /// The form of this number is a wanted outcome to which no schedule leads.
     Unmet(usize),
 }
 
@@ -23,7 +23,7 @@ impl Warning {
         }
     }
 
-    /// The number of the form that it speaks of.
+    /// The number of the form that the warning is about.
     pub fn form(self) -> usize {
         match self {
             Warning::Torn(form) => form,
@@ -32,7 +32,7 @@ impl Warning {
     }
 }
 
-/// What is worth a look in a model of this term and these claims, of which this became by these searches.
+/// Returns the warnings about a model with this term, these claims, and their results by these searches.
 pub(crate) fn warnings_of(
     alloc: Global,
     term: &ModelTerm,
@@ -50,7 +50,7 @@ pub(crate) fn warnings_of(
     Ok(warnings)
 }
 
-// The outcomes that a claim wants, and that no schedule comes to, where that is known.
+// Adds the outcomes that a passed claim wants and no schedule leads to, if its search is complete.
 fn add_unmet(
     warnings: &mut Vec<Warning>,
     claim: &Claim,
@@ -72,7 +72,7 @@ fn add_unmet(
     }
 }
 
-// The wanted outcomes that none of these answers has.
+// Adds the wanted outcomes that none of these answers has.
 fn add_unmet_wants(
     warnings: &mut Vec<Warning>,
     wants: &[Want],
@@ -86,7 +86,7 @@ fn add_unmet_wants(
     Ok(())
 }
 
-// Whether fiber 0 comes to a wanted outcome in one of these answers.
+// Whether fiber 0 has a wanted outcome in one of these answers.
 fn is_met(want: &Want, answers: &[NamedAnswer]) -> bool {
     for answer in answers {
         if is_met_in(want, answer) {
@@ -96,7 +96,7 @@ fn is_met(want: &Want, answers: &[NamedAnswer]) -> bool {
     false
 }
 
-// Whether fiber 0 comes to a wanted outcome in this answer.
+// Whether fiber 0 has a wanted outcome in this answer.
 fn is_met_in(want: &Want, answer: &NamedAnswer) -> bool {
     match answer.seen.fibers.as_slice().first() {
         Some(main) => is_wanted(want.outcome, main.outcome),

@@ -1,4 +1,4 @@
-//! The words at which fibers are before the entries of a schedule.
+//! The word at which a fiber is before its entry of a schedule.
 
 ghost use Rattle.cell_registry.specs.Cells.{AreLimits};
 ghost use Rattle.scheduled_core.specs.Fitting.{AllFit, world_of};
@@ -9,8 +9,8 @@ use fiber_frames::Config;
 use scheduled_core::{enter, first_fibers};
 use std::alloc::{AllocError, Global};
 
-/// For each entry of a schedule, up to one that is refused, the number of the word of the code at which its fiber is
-/// before it.
+/// Returns, for each entry of a schedule, the number of the word of the code at which its fiber is before the entry.
+/// The list ends with the first entry that ends the replay with a fault.
 pub(crate) fn word_places(
     alloc: Global,
     program: &Program,
@@ -30,7 +30,7 @@ pub(crate) fn word_places(
     places_along(alloc, &mut fibers, &mut registry, schedule)
 }
 
-// For each entry of a schedule from here on the number of the word at which its fiber is before it.
+// The word of each entry of a schedule that begins with these fibers and this registry.
 fn places_along(
     alloc: Global,
     fibers: &mut Vec<Config>,
@@ -51,7 +51,7 @@ fn places_along(
     Ok(places)
 }
 
-// The number of the word at which the fiber of this number is; a number past all words where it isn't born.
+// The number of the word at which the fiber of this number is; `usize::MAX` if there is no such fiber.
 fn place_of(fibers: &[Config], number: u16) -> usize {
     match fibers.get(usize::from(number)) {
         Some(fiber) => fiber.word_place(),

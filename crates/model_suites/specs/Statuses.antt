@@ -8,7 +8,7 @@ use Rattle.model_suites.specs.declared.tested.Became.TheVariants as ways
 use Rattle.text_io.specs.declared.status.Status.{Status}
 use Rattle.text_io.specs.declared.status.Status.TheVariants.{Succeeded, Errored, Canceled, Unended, Usage, Refused, Fault}
 
--- all passed, one failed, or none failed and one is undecided
+-- the status of a suite: all passed, one failed or there is none, or none failed and one is undecided
 abbrev pub IsSuiteStatus : Status → Type 0
 IsSuiteStatus Succeeded = Unit {0}
 IsSuiteStatus Errored = Unit {0}
@@ -18,12 +18,12 @@ IsSuiteStatus Usage = ⊥
 IsSuiteStatus Refused = ⊥
 IsSuiteStatus Fault = ⊥
 
--- the verdict that a model came to: failed where its term was refused; none where it was listed alone
+-- the verdict of a model: failed if its term was refused; none if the model was only listed
 abbrev pub verdict_in : Became → List Verdict
 verdict_in ways.Listed = []
 verdict_in (ways.Refused fault) = Failed ∷ []
 verdict_in (ways.Explored explored) = explored.result.verdict ∷ []
 
--- the status of so many models with these verdicts: 1 where there are none to be tested, else that of the verdicts
+-- the status of `models` models with these verdicts: 1 if there are none to test, else that of the verdicts
 abbrev pub suite_status : ℕ → List Verdict → Status
 suite_status models verdicts = if models == 0 then Errored else status_of verdicts

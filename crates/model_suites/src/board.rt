@@ -1,4 +1,4 @@
-//! A board on which threads leave what became of models, for the one that tells it.
+//! A board on which threads leave the results of models, for the thread that reports them.
 
 ghost use Rattle.std.specs.Prelude.{◌<◌, IfSome};
 
@@ -7,30 +7,30 @@ use std::alloc::{AllocError, Global};
 use std::sync::atomic::{AtomicUsize, Ordering};
 use std::sync::{Condvar, Mutex, Wait};
 
-/// A board on which threads leave what became of models, by their numbers. Each model is claimed by one thread at most.
+/// A board on which threads leave the results of models, by their numbers. At most one thread claims each model.
 #[derive(Drop)]
 pub struct Board {
-    // How many models there are.
+    // The number of models.
     count: usize,
-    // The number of the first model that nobody has claimed.
+    // The number of the first model that no thread has claimed.
     next: AtomicUsize,
-    // What was left and not yet taken.
+    // The results that were left and not yet taken.
     left: Mutex<Left>,
-    // Something was left.
+    // Notifies threads that a result was left.
     changed: Condvar,
 }
 
-// What was left on a board and not yet taken.
+// The results that were left on a board and not yet taken.
 #[derive(Drop)]
 struct Left {
-    // What became of each model.
+    // The result of each model.
     found: Vec<Option<Became>>,
-    // A thread ran out of memory.
+    // Whether a thread ran out of memory.
     lacks_memory: bool,
 }
 
 impl Board {
-    /// A board for so many models.
+    /// Returns a board for `count` models.
     pub(crate) fn new(alloc: Global, count: usize) -> Result<Board, AllocError> {
         let mut found = Vec::new(alloc);
         for _ in 0..count {
@@ -47,7 +47,7 @@ impl Board {
         })
     }
 
-    /// The number of a model that nobody has claimed. It is the caller's from now on.
+    /// Claims a model for the caller. Returns its number; none if every model is claimed.
     pub(crate) fn claim(&self) -> Option<usize>
         ensures { IfSome result (λ index. index < self.now.count) }
     {
@@ -59,23 +59,23 @@ impl Board {
         }
     }
 
-    /// No model can be claimed any more.
+    /// Closes the board: no model can be claimed any more.
     pub fn close(&self) {
         self.next.store(self.count, Ordering::SeqCst);
     }
 
-    /// Leaves what became of a model, or that memory ran out.
+    /// Leaves the result of a model, or that memory ran out.
     pub(crate) fn put<R: Wait>(&self, rt: &R, index: usize, found: Result<Became, AllocError>) {
         self.left.lock(rt).put(index, found);
         self.changed.notify_all();
     }
 
-    /// Whether what became of a model is here.
+    /// Whether the result of a model is here.
     pub(crate) fn has<R: Wait>(&self, rt: &R, index: usize) -> bool {
         self.left.lock(rt).has(index)
     }
 
-    /// Waits until what became of a model is here, and takes it. `AllocError` where a thread ran out of memory.
+    /// Waits until the result of a model is here, and takes it. `AllocError` if a thread ran out of memory.
     pub(crate) fn take<R: Wait>(&self, rt: &R, index: usize) -> Result<Became, AllocError> {
         let left = self.left.lock(rt);
         let mut left = self.changed.wait_while(rt, left, |left| left.lacks(index));
@@ -84,7 +84,7 @@ impl Board {
 }
 
 impl Left {
-    // Leaves what became of a model, or that memory ran out.
+    // Leaves the result of a model, or that memory ran out.
     fn put(&mut self, index: usize, found: Result<Became, AllocError>) {
         match (self.found.get_mut(index), found) {
             (Some(place), Ok(became)) => *place = Some(became),
@@ -92,7 +92,7 @@ impl Left {
         }
     }
 
-    // Whether what became of a model is here.
+    // Whether the result of a model is here.
     fn has(&self, index: usize) -> bool {
         match self.found.get(index) {
             Some(found) => found.is_some(),
@@ -100,12 +100,12 @@ impl Left {
         }
     }
 
-    // Whether what became of a model isn't here, and can still come.
+    // Whether the result of a model isn't here, and can still come.
     fn lacks(&self, index: usize) -> bool {
         !self.lacks_memory && !self.has(index)
     }
 
-    // Takes what became of a model.
+    // Takes the result of a model.
     fn take(&mut self, index: usize) -> Result<Became, AllocError> {
         match self.found.get_mut(index) {
             Some(place) => place.take().ok_or(AllocError),

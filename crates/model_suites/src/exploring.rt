@@ -15,7 +15,7 @@ use std::thread;
 use std::thread::Threads;
 use std::time::{Clock, Instant};
 
-// What becomes of the model of this number.
+// Explores the model of this number, unless models are only listed.
 fn explore<C: Clock>(
     clock: &C,
     alloc: Global,
@@ -41,7 +41,7 @@ fn explore<C: Clock>(
     }
 }
 
-// Explores and judges a model, within these seconds if they are given.
+// Explores and judges a model, within this number of seconds if one is given.
 fn explore_model<C: Clock>(
     clock: &C,
     alloc: Global,
@@ -62,7 +62,7 @@ fn explore_model<C: Clock>(
     }
 }
 
-// A model that was explored, in so many milliseconds.
+// The result of a model that was explored in this number of milliseconds.
 fn explored(found: ModelResult, milliseconds: u64) -> Explored
     requires { found.verdict ≡ worst found.claims.items }
 {
@@ -72,7 +72,7 @@ fn explored(found: ModelResult, milliseconds: u64) -> Explored
     }
 }
 
-// How many milliseconds have passed; 0 where the clock fails.
+// The number of milliseconds since `begun`; 0 if the clock fails.
 fn milliseconds_since<C: Clock>(clock: &C, begun: Option<Instant>) -> u64 {
     let Some(begun) = begun else {
         return 0;
@@ -86,7 +86,7 @@ fn milliseconds_since<C: Clock>(clock: &C, begun: Option<Instant>) -> u64 {
     }
 }
 
-// Explores models that nobody explores yet, until there are none left.
+// Explores models that no thread has claimed, until there are none left.
 fn help<R: Clock + Wait>(rt: &R, alloc: Global, models: &Models<'_>, board: &Board) {
     for _ in 0..models.entries.len() {
         let Some(index) = board.claim() else {
@@ -96,7 +96,7 @@ fn help<R: Clock + Wait>(rt: &R, alloc: Global, models: &Models<'_>, board: &Boa
     }
 }
 
-/// The same in so many threads. Where memory runs out, there are fewer.
+/// Explores models that no thread has claimed in `threads` threads, or in fewer if memory runs out.
 pub(crate) fn help_all<R: Clock + Threads + Wait + Sync>(
     rt: &R,
     alloc: Global,
@@ -107,8 +107,8 @@ pub(crate) fn help_all<R: Clock + Threads + Wait + Sync>(
     let _ = thread::map_indices(rt, alloc, threads, &|_| help(rt, alloc, models, board));
 }
 
-/// What became of the model of this number: taken from the board, or found by exploring. While another thread explores
-/// it, this one explores others, and then waits.
+/// Returns the result of the model of this number, from the board or by exploring the model. While another thread
+/// explores the model, the calling thread explores others, and then waits.
 pub(crate) fn tested_at<R: Clock + Wait>(
     rt: &R,
     alloc: Global,
@@ -122,7 +122,7 @@ pub(crate) fn tested_at<R: Clock + Wait>(
     Ok(Tested { index, became })
 }
 
-// The same without its number.
+// Returns this result without the number of the model.
 fn became_at<R: Clock + Wait>(
     rt: &R,
     alloc: Global,

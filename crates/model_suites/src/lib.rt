@@ -1,10 +1,10 @@
-//! The models of files, read, checked and tested, one after another or side by side.
+//! Reads, checks and tests the models of files, one after another or side by side.
 //!
-//! It stands on what becomes of a model (`model_runs`), on its texts (`model_reports`), and on the files of the system.
-//! All faults of all files are found before any model is explored ([`Suite::open`]). Then each model is explored, by
-//! one thread or by several that share a [`Board`] ([`Suite::help`], [`Suite::tested`]), and told in the order of the
-//! files ([`Suite::tell`]). It promises that the status is the one that the verdicts of the models give
-//! ([`Told::status`]), and that each verdict is the worst of its model's claims'. What is printed is shown by tests.
+//! This crate uses the results of models (`model_runs`), their reports (`model_reports`), and the files of the system.
+//! [`Suite::open`] finds all faults of all files before any model is explored. Then one thread, or several that share a
+//! [`Board`], explore each model ([`Suite::help`], [`Suite::tested`]), and [`Suite::tell`] reports the models in the
+//! order of the files. The crate promises that the status follows from the verdicts of the models ([`Told::status`]),
+//! and that each verdict is the worst of its model's claims' verdicts. Tests show what is printed.
 #![tactic(auto)]
 
 mod board;

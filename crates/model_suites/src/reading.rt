@@ -8,10 +8,10 @@ use std::rt::Files;
 /// The longest model file, in bytes.
 pub const LONGEST: usize = 1_048_576;
 
-// How many bytes are asked for at once.
+// The greatest number of bytes of a read.
 const CHUNK: usize = 65_536;
 
-// How many reads are made of a file at most.
+// The greatest number of reads of a file.
 const MOST_READS: usize = 2_000_000;
 
 /// Why a file couldn't be read.
@@ -19,9 +19,9 @@ const MOST_READS: usize = 2_000_000;
 pub enum ReadProblem {
     /// Memory ran out.
     NoMemory,
-    /// It couldn't be opened, or a read failed.
+    /// The file couldn't be opened, or a read failed.
     Failed,
-    /// It has more than [`LONGEST`] bytes.
+    /// The file has more than [`LONGEST`] bytes.
     TooLong,
 }
 
@@ -31,7 +31,7 @@ impl From<AllocError> for ReadProblem {
     }
 }
 
-/// The bytes of the file with this path.
+/// Reads the file with this path.
 pub(crate) fn read_path<R: Files>(
     rt: &R,
     alloc: Global,
@@ -44,7 +44,7 @@ pub(crate) fn read_path<R: Files>(
     }
 }
 
-// All bytes of a reader, if they aren't too many.
+// Reads all bytes of a file, at most `LONGEST`.
 fn read_whole<F: Read + Drop>(alloc: Global, file: F) -> Result<Vec<u8>, ReadProblem> {
     let mut file = file;
     let mut chunk = vec![in alloc; 0u8; CHUNK]?;
@@ -62,7 +62,7 @@ fn read_whole<F: Read + Drop>(alloc: Global, file: F) -> Result<Vec<u8>, ReadPro
     Err(ReadProblem::Failed)
 }
 
-// The bytes of a read behind those before it.
+// Adds the bytes of a read to those before.
 fn add_read(text: &mut Vec<u8>, chunk: &[u8], count: usize) -> Result<(), ReadProblem> {
     let Some(read) = chunk.get(..count) else {
         return Err(ReadProblem::Failed);

@@ -21,12 +21,12 @@ use std::sync::Wait;
 use std::thread::Threads;
 use std::time::Clock;
 
-/// What is printed of the models.
+/// The form of what is printed.
 #[derive(Clone, Copy, PartialEq, Eq, Debug)]
 pub enum SuiteForm {
-    /// A line for each model, and behind them what failed.
+    /// A line for each model, and then the details of the models.
     Report,
-    /// A line for each model, of which none is explored.
+    /// A line for each model; none is explored.
     List,
     /// One line of JSON.
     Json,
@@ -34,22 +34,22 @@ pub enum SuiteForm {
     Tap,
 }
 
-/// Which models are tested, how far, and what is printed of them.
+/// Which models are tested, the bounds of their searches, and what is printed.
 #[derive(Clone, Copy)]
 pub struct SuiteOrder<'a> {
-    /// A text that the name of a model contains, if it is to be tested.
+    /// If given, the models whose names contain this text are tested; else all are.
     pub filter: Option<&'a str>,
-    /// How many worlds are kept of a model that sets no bound of its own.
+    /// The greatest number of worlds that are kept of a model that sets no bound of its own.
     pub worlds: u64,
     /// The number of bytes at which the search of a model stops.
     pub memory: u64,
-    /// After how many seconds the searches of a model stop, if they do.
+    /// The number of seconds after which the searches of a model stop, if given.
     pub seconds: Option<u64>,
     /// What is printed.
     pub form: SuiteForm,
     /// Whether a report for CI is wanted.
     pub junit: bool,
-    /// Whether a page is wanted.
+    /// Whether a page of HTML is wanted.
     pub html: bool,
     /// Whether the words of verdicts have colours.
     pub color: bool,
@@ -58,9 +58,9 @@ pub struct SuiteOrder<'a> {
 /// A file that was read.
 #[derive(Drop)]
 pub(crate) struct SuiteFile<'a> {
-    /// The path that it was opened under.
+    /// The path under which the file was opened.
     pub(crate) name: &'a str,
-    /// What it has.
+    /// The file with its forms and items.
     pub(crate) source: Source,
 }
 
@@ -76,13 +76,13 @@ pub(crate) struct Entry {
 /// The files that were read, and their models.
 #[derive(Drop)]
 pub(crate) struct Models<'a> {
-    /// How they are tested.
+    /// The order by which they are tested.
     pub(crate) order: SuiteOrder<'a>,
     /// The files.
     pub(crate) files: Vec<SuiteFile<'a>>,
     /// The models that are tested.
     pub(crate) entries: Vec<Entry>,
-    // How many models the files have in all.
+    // The number of models that the files have in all.
     all: usize,
     // The texts of the faults of files.
     faults: Vec<u8>,
@@ -96,7 +96,7 @@ pub struct Suite<'a> {
 }
 
 impl<'a> Suite<'a> {
-    /// Reads files, and finds all their faults. `AllocError` where memory runs out.
+    /// Reads files, and finds all their faults. `AllocError` if memory runs out.
     pub fn open<R: Files>(
         rt: &R,
         alloc: Global,
@@ -116,17 +116,17 @@ impl<'a> Suite<'a> {
         Ok(Suite { alloc, models })
     }
 
-    /// The texts of the faults of files; nothing where they have none. Where they have some, no model is tested.
+    /// The texts of the faults of files; empty if there are none. If there are faults, no model is tested.
     pub fn faults(&self) -> &[u8] {
         self.models.faults.as_slice()
     }
 
-    /// How many models are tested.
+    /// The number of models that are tested.
     pub fn len(&self) -> usize {
         self.models.entries.len()
     }
 
-    /// What is printed before all models. `AllocError` where memory runs out.
+    /// Returns what is printed before all models. `AllocError` if memory runs out.
     pub fn opening(&self) -> Result<Vec<u8>, AllocError> {
         match self.models.order.form {
             SuiteForm::Report => heading(self.alloc, self.models.entries.len(), self.models.all),
@@ -135,27 +135,27 @@ impl<'a> Suite<'a> {
         }
     }
 
-    /// What is told of the models: of none so far.
+    /// Returns the reports of the models before any was tested.
     pub fn told(&self) -> Told
         ensures { result.verdicts.items ≡ [] }
     {
         Told::new(self.alloc, self.models.entries.len())
     }
 
-    /// A board for what becomes of the models. `AllocError` where memory runs out.
+    /// Returns a board for the results of the models. `AllocError` if memory runs out.
     pub fn board(&self) -> Result<Board, AllocError> {
         Board::new(self.alloc, self.models.entries.len())
     }
 
-    /// Explores models that nobody explores yet, in so many threads, and puts what becomes of them on the board, until
+    /// Explores models that no thread has claimed, in `threads` threads, and puts their results on the board, until
     /// there are none left or memory runs out.
     pub fn help<R: Clock + Threads + Wait + Sync>(&self, rt: &R, board: &Board, threads: usize) {
         help_all(rt, self.alloc, &self.models, board, threads);
     }
 
-    /// What became of the model of this number: taken from the board, or found by exploring. While another thread
-    /// explores it, this one explores others, and then waits. Each is asked for once. `AllocError` where memory runs
-    /// out.
+    /// Returns the result of the model of this number, from the board or by exploring the model. While another thread
+    /// explores the model, the calling thread explores others, and then waits. Each model is asked for once.
+    /// `AllocError` if memory runs out.
     pub fn tested<R: Clock + Wait>(
         &self,
         rt: &R,
@@ -167,22 +167,22 @@ impl<'a> Suite<'a> {
         tested_at(rt, self.alloc, &self.models, board, index)
     }
 
-    /// Takes in what became of a model, and returns what is printed of it at once. They come in the order of their
-    /// numbers. `AllocError` where memory runs out.
+    /// Adds the result of a model, and returns what is printed of the model at once. Models are added in the order of
+    /// their numbers. `AllocError` if memory runs out.
     pub fn tell(&self, told: &mut Told, tested: Tested) -> Result<Vec<u8>, AllocError>
         ensures { OnOk result (told.new.verdicts.items ≡ told.old.verdicts.items ++ verdict_in tested.became) }
     {
         told.add(self.alloc, &self.models, tested)
     }
 
-    /// What is printed behind all models. `AllocError` where memory runs out.
+    /// Returns what is printed after all models. `AllocError` if memory runs out.
     pub fn ending(&self, told: &mut Told) -> Result<Vec<u8>, AllocError>
         ensures { told.new.verdicts.items ≡ told.old.verdicts.items }
     {
         told.ending(self.alloc, self.models.order.form)
     }
 
-    /// The terms of the models. `AllocError` where memory runs out.
+    /// Returns the terms of the models. `AllocError` if memory runs out.
     pub fn terms(&self) -> Result<Vec<u8>, AllocError> {
         let mut text = Vec::new(self.alloc);
         for entry in self.models.entries.iter() {
@@ -225,7 +225,7 @@ fn add_file<'a, R: Files>(
     }
 }
 
-// Adds that a file isn't read, and why.
+// Adds the text of the fault that a file isn't read, and why.
 fn add_unread(
     alloc: Global,
     faults: &mut Vec<u8>,
@@ -319,7 +319,7 @@ fn is_wanted(order: &SuiteOrder<'_>, file: &SuiteFile<'_>, model: &Model) -> boo
     }
 }
 
-// Whether a text has another one in it.
+// Whether a text contains another one.
 fn contains(text: &[u8], part: &[u8]) -> bool {
     let last = text.len().saturating_sub(part.len());
     for start in 0..last.saturating_add(1) {
@@ -330,7 +330,7 @@ fn contains(text: &[u8], part: &[u8]) -> bool {
     false
 }
 
-// Whether a text goes on from a place with another one.
+// Whether a text contains another one at a place.
 fn begins(text: &[u8], start: usize, part: &[u8]) -> bool {
     match text.get(start..) {
         Some(rest) => rest.starts_with(part),
@@ -338,7 +338,7 @@ fn begins(text: &[u8], start: usize, part: &[u8]) -> bool {
     }
 }
 
-// How many models are tested.
+// The line with the number of models that are tested.
 fn heading(alloc: Global, tested: usize, all: usize) -> Result<Vec<u8>, AllocError> {
     let mut digits = Buffer::new();
     let mut text = Vec::from_slice(alloc, digits.format(tested).as_bytes())?;

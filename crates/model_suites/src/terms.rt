@@ -7,9 +7,9 @@ use model_terms::{ModelTerm, Probe, Refused, Source, translate};
 use model_text::Model;
 use std::alloc::{AllocError, Global};
 
-/// Adds the terms of a model behind a text: the term that is explored for most claims, and of each claim that wants more
-/// in its term, as a fiber that watches a ref, the term with that. Each is one line, behind a comment with the name of
-/// the model and with that claim.
+/// Adds the terms of a model to a text: the term without a probe, and for each claim that needs a probe, as a fiber
+/// that watches a ref, the term with the probe. Each term is one line, after a comment with the name of the model and
+/// with that claim.
 pub(crate) fn push_terms(
     alloc: Global,
     source: &Source,
@@ -26,7 +26,7 @@ pub(crate) fn push_terms(
     }
 }
 
-// Out of memory is an error. A model with a fault has no term.
+// Returns `AllocError` if memory ran out. A model with a fault is passed over: it has no term.
 fn passed_over(refused: Refused) -> Result<(), AllocError> {
     match refused {
         Refused::NoMemory => Err(AllocError),
@@ -34,7 +34,7 @@ fn passed_over(refused: Refused) -> Result<(), AllocError> {
     }
 }
 
-// Adds the terms of the claims that want more in their term.
+// Adds the terms of the claims that need a probe.
 fn push_probed(
     alloc: Global,
     source: &Source,
@@ -53,7 +53,7 @@ fn push_probed(
     }
 }
 
-// Adds the term of a claim, if it wants more in it.
+// Adds the term of a claim, if the claim needs a probe.
 fn push_with_probe(
     alloc: Global,
     source: &Source,
@@ -72,7 +72,7 @@ fn push_with_probe(
     }
 }
 
-// Adds a term behind a comment with the model's name and a claim.
+// Adds a comment with the model's name and a claim, and then a term.
 fn push_claimed(
     source: &Source,
     model: &Model,

@@ -1,4 +1,4 @@
-//! What became of a model that is tested.
+//! The result of a model that is tested.
 
 ghost use Rattle.std.specs.Prelude.{◌≡◌};
 ghost use Rattle.model_runs.specs.Verdicts.{worst};
@@ -6,32 +6,32 @@ ghost use Rattle.model_runs.specs.Verdicts.{worst};
 use model_runs::ModelResult;
 use model_terms::SourceFault;
 
-/// What became of a model that is tested.
+/// The result of a model that is tested.
 #[derive(Drop)]
 pub struct Tested {
     /// The number of the model.
     pub index: usize,
-    /// What became of it.
+    /// Its result.
     pub became: Became,
 }
 
-/// What became of a model.
+/// The result of a model.
 #[derive(Drop)]
 pub enum Became {
-    /// It is listed alone.
+    /// The model is only listed.
     Listed,
-    /// Its term was refused.
+    /// The term of the model was refused.
     Refused(SourceFault),
-    /// It was explored.
+    /// The model was explored.
     Explored(Explored),
 }
 
-/// What became of a model that was explored. Its verdict is the worst of its claims'.
+/// The result of a model that was explored. Its verdict is the worst of its claims' verdicts.
 #[derive(Drop)]
 pub struct Explored {
     /// Its verdict, its claims and its searches.
     pub result: ModelResult,
-    /// How many milliseconds that took.
+    /// The number of milliseconds that the exploration took.
     pub milliseconds: u64,
     pub ghost right: { result.verdict ≡ worst result.claims.items },
 }

@@ -17,15 +17,15 @@ use serde_json::Value;
 use std::alloc::{AllocError, Global};
 use text_io::Status;
 
-/// The reports of the models that were tested so far, as far as they aren't printed at once.
+/// The reports of the models that were tested so far, without what is printed at once.
 #[derive(Drop)]
 pub struct Told {
-    /// How many models are tested in all.
+    /// The number of models that are tested in all.
     pub models: usize,
-    /// The verdict of each that was tested so far, in their order. Where they are listed alone, there are none.
+    /// The verdict of each model that was tested so far, in their order. Empty if the models are only listed.
     pub verdicts: Vec<Verdict>,
     alloc: Global,
-    // What stands behind all lines.
+    // What is printed after the lines of all models.
     details: Vec<u8>,
     // Each model as JSON.
     values: Vec<Value>,
@@ -36,7 +36,7 @@ pub struct Told {
 }
 
 impl Told {
-    /// No model was tested so far, of so many.
+    /// Returns the reports of `models` models before any was tested.
     pub(crate) fn new(alloc: Global, models: usize) -> Told
         ensures models { result.models ≡ models }
         ensures none { result.verdicts.items ≡ [] }
@@ -52,7 +52,7 @@ impl Told {
         }
     }
 
-    /// Takes in what became of a model, and returns what is printed of it at once.
+    /// Adds the result of a model, and returns what is printed of the model at once.
     pub(crate) fn add(
         &mut self,
         alloc: Global,
@@ -76,7 +76,7 @@ impl Told {
         }
     }
 
-    // Takes in what became of a model that was explored.
+    // Adds the result of a model that was explored.
     fn add_explored(
         &mut self,
         alloc: Global,
@@ -100,7 +100,7 @@ impl Told {
         self.add_form(alloc, order, judged)
     }
 
-    // Adds a model to the reports that are asked for besides what is printed.
+    // Adds a model to the reports that are wanted besides what is printed.
     fn add_reports(
         &mut self,
         alloc: Global,
@@ -144,7 +144,7 @@ impl Told {
         }
     }
 
-    // Takes in that a model of a file was refused, for this fault.
+    // Adds a model of a file that was refused for this fault.
     fn add_refused(
         &mut self,
         alloc: Global,
@@ -163,7 +163,7 @@ impl Told {
         Ok(Vec::new(alloc))
     }
 
-    /// What is printed behind all models.
+    /// Returns what is printed after all models.
     pub(crate) fn ending(&mut self, alloc: Global, form: SuiteForm) -> Result<Vec<u8>, AllocError>
         ensures { self.new.verdicts.items ≡ self.old.verdicts.items }
     {
@@ -182,18 +182,18 @@ impl Told {
         }
     }
 
-    /// The report for CI. `AllocError` where memory runs out.
+    /// Returns the report for CI. `AllocError` if memory runs out.
     pub fn junit(&self) -> Result<Vec<u8>, AllocError> {
         junit_document(self.alloc, self.verdicts.as_slice(), self.cases.as_slice())
     }
 
-    /// The page of the models that were tested. `AllocError` where memory runs out.
+    /// Returns the page of the models that were tested. `AllocError` if memory runs out.
     pub fn html(&self) -> Result<Vec<u8>, AllocError> {
         self.page.document(self.verdicts.as_slice())
     }
 
-    /// The status of the models that were tested: 1 where one failed, or where there was none to be tested, else 3
-    /// where one is undecided, else 0; and 0 where models were listed alone.
+    /// Returns the status of the models that were tested: 1 if one failed or there is none to test, else 3 if one is
+    /// undecided, else 0. The status of models that are only listed is 0.
     #[tactic(auto, using(crate::proofs::Known::known))]
     pub fn status(&self) -> Status
         ensures verdicts { result ≡ suite_status self.now.models self.now.verdicts.items }

@@ -46,6 +46,6 @@ pub struct Binder {
 pub struct WordPlace {
     /// The number of bytes of the term's text before the opening bracket of the form.
     pub term: usize,
-    /// The number of the form of the file that it was written for.
+    /// The number of the form of the file that the form of the term is written for.
     pub form: usize,
 }

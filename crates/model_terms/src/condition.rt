@@ -91,7 +91,7 @@ pub(crate) fn then_zero(out: &mut Writing, at: usize) -> Result<(), Stop> {
     out.then(Task::Close(1))
 }
 
-// A value that is 0 if and only if the condition holds.
+// Plans a value that is 0 if and only if the condition holds, and returns it.
 fn tested_value(read: Reading, out: &mut Writing, at: usize, here: Here) -> Result<Operand, Stop> {
     let fault = wrong_at(read, Wrong::Condition, at, here.view);
     let parts = read.parts(at);
@@ -118,7 +118,7 @@ fn tested_value(read: Reading, out: &mut Writing, at: usize, here: Here) -> Resu
     difference(out, at, operand, less)
 }
 
-// The sum of a value and `more`, bound by a `let`.
+// Plans a `let` that binds the sum of a value and `more`, and returns the bound name.
 fn difference(out: &mut Writing, at: usize, operand: Operand, more: i64) -> Result<Operand, Stop> {
     let name = out.fresh(b"t")?;
     out.then(Task::Open(Word::Let, at))?;

@@ -24,7 +24,7 @@ fn tell_form(told: &mut Vec<u8>, fault: FormFault) -> Result<(), AllocError> {
     }
 }
 
-// The words for the fault of an item, if they need no more.
+// The message for the fault of an item, if it is the same for each file.
 fn item_words(fault: ItemFault) -> &'static str {
     match fault {
         ItemFault::NoMemory => "no memory",
@@ -76,7 +76,7 @@ fn tell_item(told: &mut Vec<u8>, fault: ItemFault, spelled: &[u8]) -> Result<(),
     }
 }
 
-// The end of the token or form that begins here, or the next byte if none does.
+// The end of the form that begins at `place`, or the place of the next byte if none does.
 fn end_of(alloc: Global, text: &[u8], place: usize) -> usize {
     let next = place.saturating_add(1).min(text.len());
     match read_forms(alloc, text) {
@@ -92,7 +92,7 @@ fn end_of(alloc: Global, text: &[u8], place: usize) -> usize {
     }
 }
 
-// The fault of a file that begins here.
+// The fault of a file with its message. The fault begins at `start`.
 fn file_fault(
     alloc: Global,
     text: &[u8],
@@ -116,7 +116,7 @@ fn file_fault(
     })
 }
 
-/// Why a file without items is refused.
+/// The refusal of a file for a fault of its forms or items.
 pub(crate) fn file_refused(alloc: Global, text: &[u8], fault: FileFault) -> Refused {
     let Some(start) = fault.place() else {
         return Refused::NoMemory;
@@ -145,7 +145,7 @@ fn tell_name_fault(told: &mut Vec<u8>, spelled: &[u8], fault: NameFault) -> Resu
     }
 }
 
-// The fault of a file for a name.
+// The fault of a name of a file, with its message and note.
 fn twice_fault(
     alloc: Global,
     text: &[u8],
@@ -171,7 +171,7 @@ fn twice_fault(
     })
 }
 
-/// Why a file is refused because of a name.
+/// The refusal of a file because of a name.
 pub(crate) fn twice_refused(
     alloc: Global,
     text: &[u8],

@@ -15,8 +15,8 @@ use effect_term::Kind;
 use model_forms::{Block, FormKind, behind_first};
 use term_parse::{Part, Word, parts_of};
 
-/// A form of the language that is written: its number, its word, its surroundings, the name that replaces its first
-/// part, if one was picked, and the block that is its last part, if it is one.
+/// A form of the language to write: its number, its word, its surroundings, the name picked for its first part, if one
+/// was, and the block that is its last part, if one is.
 #[derive(Clone, Copy)]
 pub(crate) struct FormWork {
     pub(crate) at: usize,
@@ -26,7 +26,7 @@ pub(crate) struct FormWork {
     pub(crate) last: Option<Block>,
 }
 
-/// The kind of a name of a term.
+/// The [`NameKind`] for a kind of the language of terms.
 pub(crate) fn kind_of(kind: Kind) -> NameKind {
     match kind {
         Kind::Value => NameKind::Value,
@@ -55,7 +55,7 @@ fn takes_several(word: Word) -> bool {
     )
 }
 
-/// Plans what follows a form that binds names.
+/// Plans the last part of a form.
 pub(crate) fn then_follow(out: &mut Writing, follow: Follow, here: Here) -> Result<(), Stop> {
     match follow {
         Follow::Part(at) => out.then(Task::Term(at, here)),
@@ -146,7 +146,7 @@ struct PickedRow {
     count: usize,
 }
 
-// The row and the value of a word that spells them with a dot between.
+// The row and the value that a word such as `r.i` names, if the form is one.
 fn picked_row(
     read: Reading,
     out: &mut Writing,
@@ -209,7 +209,7 @@ fn below_zero(number: usize) -> i64 {
     }
 }
 
-/// Writes the form with this number, with this name as its first part.
+/// Writes the form with this number, with `name` as its first part.
 pub(crate) fn one_form(
     read: Reading,
     out: &mut Writing,
@@ -234,7 +234,7 @@ pub(crate) fn one_form(
     plan_form(read, out, work, parts)
 }
 
-// The first name of a row of fibers, and their number, if the form cancels a whole row.
+// The first name of a row of fibers and the number of its names, if the form cancels a whole row.
 fn whole_row(
     read: Reading,
     out: &mut Writing,
@@ -302,7 +302,7 @@ fn plan_values(read: Reading, out: &mut Writing, work: FormWork, parts: Block) -
     Ok(())
 }
 
-// Plans a note if a ref is set to a value that reads the same ref.
+// Plans a check whether the value that a ref is set to reads the same ref.
 fn plan_torn(
     read: Reading,
     out: &mut Writing,
@@ -336,7 +336,7 @@ fn plan_parts(read: Reading, out: &mut Writing, work: FormWork, parts: Block) ->
     Ok(())
 }
 
-// Plans a part of a form, which is the form with this number.
+// Plans a part of a form. `number` is the number of the part, and `at` that of its form.
 fn plan_part(
     read: Reading,
     out: &mut Writing,
@@ -363,7 +363,7 @@ fn plan_part(
     }
 }
 
-// Plans the last part of a form, if it has no form of its own.
+// Plans the last part of a form, if it is the block of the statements behind the form.
 fn plan_rest(
     read: Reading,
     out: &mut Writing,
@@ -379,7 +379,7 @@ fn plan_rest(
     }
 }
 
-// A part that is a term: this form, or the block that is the form's last part.
+// The last part of a form is its block, if it has one; each other part is the form with the number `at`.
 fn follow_of(work: FormWork, number: usize, at: usize) -> Follow {
     match work.last {
         Some(block) => {
@@ -393,7 +393,7 @@ fn follow_of(work: FormWork, number: usize, at: usize) -> Follow {
     }
 }
 
-// Whether the part with this number is what a fiber of its own runs.
+// Whether a fiber of its own runs the part with this number.
 fn is_body(word: Word, number: usize) -> bool {
     match word {
         Word::Start => number == 1,
@@ -472,7 +472,7 @@ fn plan_use(
     out.then(Task::Operand(Operand::Name(name)))
 }
 
-// Plans a value of a form, its part with this number.
+// Plans the value that is the part of a form with this number.
 fn plan_value(out: &mut Writing, work: FormWork, number: usize) -> Result<(), Stop> {
     let index = match work.word {
         Word::Add => number,
@@ -508,7 +508,7 @@ fn plan_term(
     then_follow(out, follow, under(here, scope))
 }
 
-// A scope with one more binder of the form.
+// The scope with one more name: the binder of the form with this number, if there is one.
 fn enter_made(
     read: Reading,
     out: &mut Writing,
@@ -521,7 +521,7 @@ fn enter_made(
     }
 }
 
-// Plans a fiber that watches the ref that a form makes, if it is wanted.
+// Plans a fiber that watches the ref that a form makes, if the refs of its binder are watched.
 fn plan_watch(read: Reading, out: &mut Writing, work: FormWork) -> Result<(), Stop> {
     let Some(at) = nth_of(read.forms, read.parts(work.at), 0) else {
         return Ok(());

@@ -68,7 +68,7 @@ fn number_of(
     }
 }
 
-// The place of the last sign of an index.
+// The place of the last `+` or `-` of an index.
 fn sign_at(index: &[u8]) -> Option<usize> {
     let mut found = None;
     for (at, byte) in index.iter().enumerate() {
@@ -79,7 +79,7 @@ fn sign_at(index: &[u8]) -> Option<usize> {
     found
 }
 
-// The number behind a dot: a number or a constant, or the sum or difference of such a one and a number.
+// The number behind a dot: a number or a name that means one, or the sum or difference of one of these and a number.
 fn index_of(
     read: Reading,
     out: &mut Writing,
@@ -112,7 +112,7 @@ pub(crate) fn dot_at(spelled: &[u8]) -> Option<usize> {
     spelled.iter().position(|byte| *byte == b'.')
 }
 
-/// The bytes of a form up to its dot.
+/// The span of a form up to its dot.
 pub(crate) fn front_of(span: Span, dot: usize) -> Span {
     Span {
         start: span.start,
@@ -120,7 +120,7 @@ pub(crate) fn front_of(span: Span, dot: usize) -> Span {
     }
 }
 
-/// The bytes of a form behind its dot.
+/// The span of a form behind its dot.
 pub(crate) fn behind_of(span: Span, dot: usize) -> Span {
     Span {
         start: span.start.saturating_add(dot).saturating_add(1),
@@ -140,7 +140,7 @@ fn one_of(first: usize, count: usize, number: i64) -> Option<usize> {
     }
 }
 
-// The meaning of a spelling with a dot.
+// The meaning of a word such as `w.1`, if the name before its dot has a meaning.
 fn element(
     read: Reading,
     out: &mut Writing,
@@ -184,7 +184,7 @@ pub(crate) fn named(
     }
 }
 
-/// The term's name that the form with this number spells, of a kind other than a value.
+/// The term's name of this kind that the form with this number spells. The kind isn't `Value`.
 pub(crate) fn name_at(
     read: Reading,
     out: &mut Writing,
@@ -207,7 +207,7 @@ pub(crate) fn name_at(
     }
 }
 
-// The term's name of a meaning of this kind.
+// The term's name in a meaning of this kind, or the fault of another meaning.
 fn name_in(meaning: Meaning, kind: NameKind) -> Result<usize, Wrong> {
     let other = Wrong::OtherKind(sort_of(meaning), Sort::Name(kind));
     match meaning {
@@ -249,7 +249,7 @@ fn value_word(read: Reading, out: &mut Writing, at: usize, view: View) -> Result
     }
 }
 
-/// The value of the form with this number. The value of a list is bound before, by a `let`.
+/// The value of the form with this number. The value of a list is bound by a `let` around the form that is planned.
 pub(crate) fn value(
     read: Reading,
     out: &mut Writing,
@@ -270,7 +270,7 @@ pub(crate) fn value(
     }
 }
 
-/// The number that the form with this number is, or that it names as a constant.
+/// The number that the form with this number spells or names.
 pub(crate) fn known_number(
     read: Reading,
     out: &mut Writing,
@@ -332,7 +332,7 @@ pub(crate) fn fresh_at(
     }
 }
 
-/// A binder for the form with this number, outside of any scope so far.
+/// A binder for the form with this number, which is in no scope yet.
 pub(crate) fn bound_at(read: Reading, at: usize, meaning: Meaning) -> Bound {
     let name = read.span(at);
     Bound {
@@ -342,7 +342,7 @@ pub(crate) fn bound_at(read: Reading, at: usize, meaning: Meaning) -> Bound {
     }
 }
 
-/// A scope with one more binder; the same scope for `_`.
+/// Adds a binder to a scope, and returns the new scope. A binder `_` isn't added.
 pub(crate) fn enter(
     read: Reading,
     out: &mut Writing,

@@ -8,12 +8,11 @@ use crate::translation::LATE;
 // The least value that a fiber says for its name.
 const FIRST: i64 = 4611686000000000000;
 
-/// The value that a fiber says which watches a ref.
+/// The value that a fiber that watches a ref says.
 pub(crate) const WATCHER: i64 = FIRST + 2;
 
-/// Whether a fiber says this value for its name ([`Probe::Names`](crate::Probe::Names)), or says it to show that it
-/// watches a ref. Such a value is from 4611686000000000000 to 4611686018427387900. A file that says one itself hides it
-/// from its claims.
+/// Whether this is a value that a fiber says for its name ([`Probe::Names`](crate::Probe::Names)), or to show that it
+/// watches a ref: 4611686000000000000 to 4611686018427387900. If a file says one itself, its claims don't see it.
 pub fn is_name(value: i64) -> bool
     ensures { IsTrue result ↔ (pos 4611686000000000000 ≤ℤ value) × (value <ℤ pos 4611686018427387901) }
 {
@@ -31,7 +30,7 @@ pub(crate) fn name_value(fiber: FiberName) -> i64 {
     }
 }
 
-// The value for the name that a form spells, or for one of the 16 names of a row.
+// The value for the name that a form spells, or for one of the at most 16 names of a row.
 fn spelled_value(form: usize, number: usize) -> i64 {
     let place = form
         .saturating_add(1)

@@ -9,7 +9,7 @@ use std::alloc::{AllocError, Global};
 // The number of lists of names.
 const LISTS: usize = 1024;
 
-/// What a name of a source names.
+/// The item that a name of a source names.
 #[derive(Clone, Copy)]
 pub(crate) enum NamedItem {
     Number(i64),
@@ -62,7 +62,7 @@ fn is_model(item: NamedItem) -> bool {
 }
 
 impl ItemNames {
-    /// Without names.
+    /// Makes an empty table of names.
     pub(crate) fn new(alloc: Global) -> Result<ItemNames, AllocError> {
         let mut lists = Vec::with_capacity(alloc, LISTS)?;
         for _ in 0..LISTS {
@@ -90,7 +90,7 @@ impl ItemNames {
         self.names.as_slice()
     }
 
-    // The first name of the list for a spelling.
+    // The number of the first name of the list for a spelling.
     fn list(&self, spelled: &[u8]) -> usize {
         self.lists
             .get(list_of(spelled, LISTS))
@@ -116,7 +116,7 @@ impl ItemNames {
     }
 }
 
-/// The name of an item, and the item that it names, if it has one.
+/// The name of an item and the item that it names, if the item has a name.
 pub(crate) fn name_of(item: &Item) -> Option<(Span, NamedItem)> {
     match item {
         Item::Constant(constant) => {

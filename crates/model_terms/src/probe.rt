@@ -1,4 +1,4 @@
-//! Additions to a term, by which its reports show more.
+//! Additions to a term that make its reports show more.
 
 use crate::binder::{BinderName, NameKind};
 use crate::look::value;
@@ -12,8 +12,8 @@ use crate::wrong::Stop;
 use itoa::Buffer;
 use term_parse::Word;
 
-/// Plans a fiber that reads the ref with this name once, if this binder's refs are watched. It says who it is first, so
-/// that no report takes it for another fiber. It takes one more open bracket.
+/// Plans a fiber that reads the ref with this name once, if the refs of `binder` are watched. The fiber says
+/// [`WATCHER`] first, so that no report takes it for another fiber. Its `start` stays open around what follows.
 pub(crate) fn watch(
     out: &mut Writing,
     at: usize,
@@ -47,7 +47,7 @@ fn say_before(out: &mut Writing, at: usize, value: i64) -> Result<(), Stop> {
     out.then(Task::Close(1))
 }
 
-// Whether a spelling is that of a name of a row: the row's name, a dot and a number.
+// Whether a spelling is the name of a row, a dot and this number.
 fn is_one_of(spelled: &[u8], row: &[u8], number: usize) -> bool {
     let mut buffer = Buffer::new();
     let behind = buffer.format(number).as_bytes();
@@ -56,7 +56,7 @@ fn is_one_of(spelled: &[u8], row: &[u8], number: usize) -> bool {
         && spelled.get(row.len().saturating_add(1)..) == Some(behind)
 }
 
-// Whether a fiber has this name.
+// Whether this is the name of a fiber, or of its row.
 fn is_called(read: Reading, fiber: FiberName, spelled: &[u8]) -> bool {
     match fiber {
         FiberName::Main => spelled == b"main".as_slice(),
@@ -70,7 +70,7 @@ fn is_called(read: Reading, fiber: FiberName, spelled: &[u8]) -> bool {
     }
 }
 
-// Whether a `say` of this fiber and this value is the given one.
+// Whether `said` is the `say` of this value by this fiber.
 fn is_said(read: Reading, said: SaidBy, fiber: FiberName, operand: Operand) -> bool {
     match operand {
         Operand::Number(number) => {
@@ -80,7 +80,7 @@ fn is_said(read: Reading, said: SaidBy, fiber: FiberName, operand: Operand) -> b
     }
 }
 
-// Which of the two compared `say`s this is: the first, the second or neither.
+// One of the two compared `say`s, or neither.
 #[derive(Clone, Copy)]
 enum Turn {
     First,
@@ -88,7 +88,7 @@ enum Turn {
     Neither,
 }
 
-// Which of the two compared `say`s a fiber makes with this value.
+// Which of the two compared `say`s is the `say` of this value by this fiber.
 fn turn_of(
     read: Reading,
     said: Option<(SaidBy, SaidBy)>,
@@ -131,7 +131,7 @@ pub(crate) fn say(
     out.then(Task::Close(open))
 }
 
-// Opens what is around the first of the two `say`s: it sets the hidden ref.
+// Opens a mask around the first of the two `say`s, and sets the hidden ref there.
 fn say_first(out: &mut Writing, at: usize) -> Result<(), Stop> {
     let order = out.order;
     open_mask(out, at)?;
@@ -151,7 +151,7 @@ fn open_mask(out: &mut Writing, at: usize) -> Result<(), Stop> {
     out.then(Task::Bind(poll, NameKind::Poll, BinderName::Hidden))
 }
 
-// Opens what is around the second of the two `say`s: it says `LATE` first if the hidden ref isn't set.
+// Opens a mask around the second of the two `say`s, and says `LATE` there if the hidden ref isn't set.
 fn say_second(out: &mut Writing, at: usize) -> Result<(), Stop> {
     let order = out.order;
     open_mask(out, at)?;
@@ -167,7 +167,7 @@ fn say_second(out: &mut Writing, at: usize) -> Result<(), Stop> {
     Ok(())
 }
 
-// Says `LATE` if a value is 0.
+// Says `LATE` if the value `was` is 0.
 fn say_late(out: &mut Writing, at: usize, was: usize) -> Result<(), Stop> {
     out.then(Task::Open(Word::If0, at))?;
     out.then(Task::Operand(Operand::Name(was)))?;
@@ -179,7 +179,7 @@ fn say_late(out: &mut Writing, at: usize, was: usize) -> Result<(), Stop> {
     out.then(Task::Close(2))
 }
 
-/// Notes the form with this number if the bytes of the term from here on read the ref with this name.
+/// Notes the form with this number if the bytes of the term from `start` on read the ref with this name.
 pub(crate) fn note_torn(
     out: &mut Writing,
     start: usize,
@@ -192,7 +192,7 @@ pub(crate) fn note_torn(
     Ok(())
 }
 
-// Whether the bytes of the term from here on read the ref with this name.
+// Whether the bytes of the term from `start` on read the ref with this name.
 fn reads(out: &Writing, start: usize, name: usize) -> bool {
     let spelled = out.spellings.spelled(name);
     let text = out.text.as_slice();

@@ -17,7 +17,7 @@ pub(crate) fn bytes_of(text: &[u8], span: Span) -> &[u8] {
     text.get(span.start..span.end).unwrap_or(&[])
 }
 
-/// The bytes of a form.
+/// The span of a form.
 pub(crate) fn span_of(form: Form) -> Span {
     Span {
         start: form.start,
@@ -25,7 +25,7 @@ pub(crate) fn span_of(form: Form) -> Span {
     }
 }
 
-/// The form with this number, or an empty form at the beginning of the text if there is none.
+/// The form with this number, or an empty word at the beginning of the text if there is none.
 pub(crate) fn form_at(forms: &[Form], at: usize) -> Form {
     forms.get(at).copied().unwrap_or(Form {
         kind: FormKind::Word,
@@ -35,7 +35,7 @@ pub(crate) fn form_at(forms: &[Form], at: usize) -> Form {
     })
 }
 
-/// The block of the form with this number.
+/// The block of the form with this number and the forms inside it.
 pub(crate) fn block_at(forms: &[Form], at: usize) -> Block {
     let inside = form_at(forms, at).inside;
     Block {
@@ -66,12 +66,12 @@ pub(crate) fn behind_nth(forms: &[Form], block: Block, n: usize) -> Block {
     rest
 }
 
-/// The number of the form of a block behind the first `n`, if there is one.
+/// The number of the form that follows the first `n` of a block, if there is one.
 pub(crate) fn nth_of(forms: &[Form], block: Block, n: usize) -> Option<usize> {
     first_of(forms, behind_nth(forms, block, n))
 }
 
-/// The number of forms of a block.
+/// The number of forms of a block, without those inside them.
 pub(crate) fn count_of(forms: &[Form], block: Block) -> usize {
     let mut rest = block;
     for count in 0..forms.len() {
@@ -89,7 +89,7 @@ impl<'a> Reading<'a> {
         form_bytes(self.text, form_at(self.forms, at))
     }
 
-    /// The place of the form with this number.
+    /// The span of the form with this number.
     pub(crate) fn span(self, at: usize) -> Span {
         span_of(form_at(self.forms, at))
     }
@@ -99,7 +99,7 @@ impl<'a> Reading<'a> {
         form_at(self.forms, at).kind
     }
 
-    /// The word at the head of the list with this number, empty if there is none.
+    /// The word at the head of the list with this number, or an empty word if there is none.
     pub(crate) fn head(self, at: usize) -> &'a [u8] {
         match first_of(self.forms, inside_at(self.forms, at)) {
             Some(first) => match self.kind(first) {

@@ -1,4 +1,4 @@
-//! Why a model is refused.
+//! Why a file or a model is refused.
 
 use std::alloc::{AllocError, AllocFailed};
 
@@ -17,7 +17,7 @@ pub struct SourceFault {
     pub notes: Vec<Vec<u8>>,
 }
 
-/// Why a model is refused.
+/// Why a file or a model is refused.
 #[derive(Drop)]
 pub enum Refused {
     /// Memory ran out.

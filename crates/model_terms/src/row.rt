@@ -11,7 +11,7 @@ use crate::wrong::{Stop, Wrong};
 use model_forms::FormKind;
 use term_parse::Word;
 
-// The greatest number of names of a row.
+// The greatest number of names in a row.
 const MOST_NAMES: i64 = 16;
 
 /// The words that make rows.
@@ -22,7 +22,7 @@ pub(crate) enum RowWord {
     Refs,
 }
 
-/// The word of rows with this spelling, if there is one.
+/// The word with this spelling that makes rows, if there is one.
 pub(crate) fn row_word(spelled: &[u8]) -> Option<RowWord> {
     match spelled {
         b"starts" => Some(RowWord::Starts),
@@ -32,7 +32,7 @@ pub(crate) fn row_word(spelled: &[u8]) -> Option<RowWord> {
     }
 }
 
-/// The number of parts of a row, without what follows it.
+/// The number of parts of a row without its last part.
 pub(crate) fn row_parts(word: RowWord) -> usize {
     match word {
         RowWord::Starts | RowWord::Refs => 3,
@@ -48,8 +48,8 @@ fn row_kind(word: RowWord) -> NameKind {
     }
 }
 
-// A row that is written: the numbers of its form, its word, the forms of its name and of its index, if it has one, the
-// number of its names, and the first of them.
+// A row to write: its form, its word, the forms of its name and of its index, if it has one, the number of its names,
+// the first of them, and its surroundings.
 #[derive(Clone, Copy)]
 struct RowWork {
     at: usize,
@@ -61,7 +61,7 @@ struct RowWork {
     here: Here,
 }
 
-/// Writes the row with this number, which has its last part.
+/// Writes the row with this number, which must have its last part.
 pub(crate) fn row_form(
     read: Reading,
     out: &mut Writing,
@@ -84,7 +84,7 @@ pub(crate) fn row_form(
     Err(wrong_at(read, Wrong::RowParts(head), at, here.view))
 }
 
-/// Writes the row with this number, and what follows it.
+/// Writes the row with this number and its last part, `follow`.
 pub(crate) fn row(
     read: Reading,
     out: &mut Writing,
@@ -115,7 +115,7 @@ pub(crate) fn row(
     plan_row(read, out, work, nth_of(read.forms, parts, 2), follow)
 }
 
-// The forms of a row's name and of its index.
+// The forms of a row's name and of its index, if it has one.
 fn name_and_index(
     read: Reading,
     front: usize,
@@ -145,7 +145,7 @@ fn name_and_index(
     Err(wrong_at(read, Wrong::NoIndex, front, here.view))
 }
 
-// The number of names of a row.
+// The number of names of a row, 1 to 16, that the form with this number gives.
 fn how_many(read: Reading, out: &mut Writing, at: usize, here: Here) -> Result<usize, Stop> {
     if let Some(number) = known_number(read, out, at, here.view)?
         && 1 <= number
@@ -171,7 +171,7 @@ fn names(read: Reading, out: &mut Writing, name: usize, count: usize) -> Result<
     Ok(first)
 }
 
-// Plans a row; its value or body is the form with this number.
+// Plans a row; `body` is the form of the refs' value or of the term that each fiber runs.
 fn plan_row(
     read: Reading,
     out: &mut Writing,
@@ -206,7 +206,7 @@ fn plan_row(
     out.then(Task::Close(open))
 }
 
-// The name in the file of the row's name with this number.
+// The name in the file of the name with this number in a row.
 fn row_name(read: Reading, work: RowWork, number: usize) -> BinderName {
     if is_hidden(read, work.name) {
         BinderName::Hidden
@@ -215,7 +215,7 @@ fn row_name(read: Reading, work: RowWork, number: usize) -> BinderName {
     }
 }
 
-// Opens the form of one of a row's names, and binds it.
+// Opens the form that makes the name with this number in a row, and binds the name.
 fn plan_named(
     read: Reading,
     out: &mut Writing,
@@ -229,7 +229,7 @@ fn plan_named(
     out.then(Task::Bind(name, row_kind(work.word), binder))
 }
 
-// Plans one of a row of fibers.
+// Plans the fiber with this number in a row.
 fn plan_start(
     read: Reading,
     out: &mut Writing,
@@ -252,7 +252,7 @@ fn plan_start(
     out.then(Task::Term(body, here))
 }
 
-// The scope of one of a row of fibers, in which the index is the fiber's number.
+// The scope of the fiber with this number in a row, where the row's index is this number.
 fn index_scope(
     read: Reading,
     out: &mut Writing,
@@ -268,7 +268,7 @@ fn index_scope(
     enter(read, out, scope, bound)
 }
 
-// Plans one of a row of refs.
+// Plans the ref with this number in a row.
 fn plan_ref(
     read: Reading,
     out: &mut Writing,

@@ -4,11 +4,11 @@ use crate::binder::NameKind;
 use crate::wrong::Span;
 use model_forms::Block;
 
-/// The end of a list of binders, or of uses.
+/// The end of a list of binders, uses or names.
 pub(crate) const NONE: usize = usize::MAX;
 
-/// What a place sees: the innermost binder, the innermost use of a definition around it, and a limit. The place sees
-/// the definitions and constants that begin before this number of bytes of the source.
+/// What a place sees. `scope` is the innermost binder, and `uses` the innermost use of a definition around the place.
+/// The place sees the definitions and constants that begin before byte `limit` of the source.
 #[derive(Clone, Copy)]
 pub(crate) struct View {
     pub(crate) scope: usize,
@@ -16,15 +16,15 @@ pub(crate) struct View {
     pub(crate) limit: usize,
 }
 
-/// The fiber that runs a term.
+/// The name of the fiber that runs a term.
 #[derive(Clone, Copy)]
 pub(crate) enum FiberName {
     Main,
     Left,
     Right,
-    /// The form that spells its name.
+    /// The number of the form that spells its name.
     Word(usize),
-    /// The form that spells the row's name, and its number in the row.
+    /// The number of the form that spells the row's name, and the number of the fiber in the row.
     Row(usize, usize),
 }
 
@@ -40,11 +40,11 @@ pub(crate) struct Here {
 pub(crate) enum Meaning {
     /// A number.
     Number(i64),
-    /// The name of the term with this number.
+    /// The name of the term with this number, and its kind.
     Name(NameKind, usize),
-    /// The names of the term from this number on, and their number.
+    /// The names of a row: their kind, the number of the first in the term, and how many there are.
     Row(NameKind, usize, usize),
-    /// A term that was passed to a definition, with this number.
+    /// The term with this number among those that were passed to definitions.
     Term(usize),
 }
 
@@ -81,6 +81,6 @@ pub(crate) struct Use {
 #[derive(Clone, Copy)]
 pub(crate) enum Operand {
     Number(i64),
-    /// The name of the term with this number.
+    /// The number of a name of the term.
     Name(usize),
 }

@@ -26,7 +26,7 @@ pub fn prelude() -> &'static str {
     PRELUDE
 }
 
-/// A model file, preceded by the definitions that every file has. Places and forms count from the first of these.
+/// A model file behind the definitions that every file has. Places and form numbers count from the first definition.
 #[derive(Drop)]
 pub struct Source {
     /// The definitions that every file has, and then the file.
@@ -48,14 +48,14 @@ pub(crate) fn reading_of(source: &Source) -> Reading<'_> {
     }
 }
 
-/// Why a name is refused.
+/// The reason why a name is refused.
 #[derive(Clone, Copy)]
 pub(crate) enum NameFault {
     /// The name is a word of the language.
     Word,
-    /// Another definition or constant, which begins here, has it.
+    /// Another definition or constant, whose name begins here, has it.
     Twice(usize),
-    /// Another model, which begins here, has it.
+    /// Another model, whose name begins here, has it.
     TwoModels(usize),
 }
 
@@ -72,7 +72,7 @@ fn is_model(item: NamedItem) -> bool {
     matches!(item, NamedItem::Model)
 }
 
-// Why a name is refused after those above it, if it is.
+// Returns the fault of a name among the names above it, if it has one.
 fn name_fault(names: &ItemNames, text: &[u8], name: Span, item: NamedItem) -> Option<NameFault> {
     let spelled = bytes_of(text, name);
     let model = is_model(item);
@@ -87,7 +87,7 @@ fn name_fault(names: &ItemNames, text: &[u8], name: Span, item: NamedItem) -> Op
     }
 }
 
-// The names of the items, or the first refused one.
+// Adds the names of the items up to the first refused one, and returns that name with its fault.
 fn names_of(
     names: &mut ItemNames,
     text: &[u8],
@@ -122,7 +122,7 @@ pub fn read_source(alloc: Global, bytes: &[u8]) -> Result<Source, Refused>
     }
 }
 
-// A source of this text and file.
+// Makes a source of this text and file, or returns the first fault of a name or of a definition.
 fn with_names(
     alloc: Global,
     text: Vec<u8>,

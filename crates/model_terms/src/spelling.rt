@@ -1,4 +1,4 @@
-//! The names of a term, no two of which have the same spelling.
+//! The names of a term. Each has a spelling of its own.
 
 use crate::named::list_of;
 use crate::scope::NONE;
@@ -8,8 +8,7 @@ use std::alloc::{AllocError, Global};
 // The number of lists of spellings.
 const LISTS: usize = 1024;
 
-// A name: the range of its bytes, the next number to try behind it if it is wanted again, and the next name of its
-// list.
+// A name: the range of its bytes, the next number to try as a suffix of it, and the next name of its list.
 #[derive(Clone, Copy)]
 struct Spelling {
     start: usize,
@@ -27,7 +26,7 @@ pub(crate) struct Spellings {
 }
 
 impl Spellings {
-    /// Without names.
+    /// Makes an empty table of names.
     pub(crate) fn new(alloc: Global) -> Result<Spellings, AllocError> {
         let mut lists = Vec::with_capacity(alloc, LISTS)?;
         for _ in 0..LISTS {
@@ -50,12 +49,12 @@ impl Spellings {
         }
     }
 
-    // Some of the bytes.
+    // The bytes from `start` to `end`.
     fn range(&self, start: usize, end: usize) -> &[u8] {
         self.bytes.as_slice().get(start..end).unwrap_or(&[])
     }
 
-    // The number of the name whose spelling is the bytes from this one on.
+    // The number of the name that the bytes from `start` on spell, if there is one.
     fn find(&self, start: usize) -> Option<usize> {
         let wanted = self.range(start, self.bytes.len());
         let mut at = self
@@ -73,7 +72,7 @@ impl Spellings {
         None
     }
 
-    // Makes a name of the bytes from this one on.
+    // Makes a name of the bytes from `start` on, and returns its number.
     fn take(&mut self, start: usize) -> Result<usize, AllocError> {
         let end = self.bytes.len();
         let list = list_of(self.range(start, end), LISTS);
@@ -91,7 +90,7 @@ impl Spellings {
         Ok(number)
     }
 
-    // Appends the small letters and digits of a name, with an `x` before them if the first is a digit.
+    // Appends a name's letters and digits in lower case, with an `x` in front if they don't begin with a letter.
     fn write_base(&mut self, name: &[u8]) -> Result<(), AllocError> {
         let start = self.bytes.len();
         for byte in name {
@@ -108,7 +107,7 @@ impl Spellings {
         Ok(())
     }
 
-    // Appends the number behind a name that is taken.
+    // Appends a number to a spelling that is taken, with an `n` between if the spelling ends in a digit.
     fn write_number(&mut self, number: usize) -> Result<(), AllocError> {
         let ends_in_digit = match self.bytes.as_slice().last() {
             Some(byte) => byte.is_ascii_digit(),
@@ -122,7 +121,7 @@ impl Spellings {
             .extend_from_slice(buffer.format(number).as_bytes())
     }
 
-    // The first number to try behind the name with this number.
+    // The next number to try as a suffix of the name with this number.
     fn number_behind(&self, number: usize) -> usize {
         match self.spellings.get(number) {
             Some(spelling) => spelling.number,
@@ -130,14 +129,14 @@ impl Spellings {
         }
     }
 
-    // Stores the next number to try.
+    // Stores the next number to try as a suffix of the name with this number.
     fn keep_number(&mut self, number: usize, behind: usize) {
         if let Some(spelling) = self.spellings.get_mut(number) {
             spelling.number = behind;
         }
     }
 
-    /// The number of a new name, with a spelling near this one.
+    /// Makes a new name with a spelling near `name`, and returns its number.
     pub(crate) fn fresh(&mut self, name: &[u8]) -> Result<usize, AllocError> {
         let start = self.bytes.len();
         self.write_base(name)?;
@@ -147,7 +146,7 @@ impl Spellings {
         }
     }
 
-    // A new name: the bytes from `start` on, which are taken, with a number behind them.
+    // Makes a new name of the bytes from `start` on, which are taken, and a number behind them.
     fn numbered(&mut self, start: usize, taken: usize) -> Result<usize, AllocError> {
         let end = self.bytes.len();
         let mut number = self.number_behind(taken);

@@ -1,4 +1,4 @@
-//! Terms and statements, step by step.
+//! Writes terms and statements, step by step.
 
 use crate::condition::{condition, condition_word};
 use crate::form::{FormWork, form, is_binder, one_form, parts_wanted, plan_form};
@@ -19,7 +19,7 @@ use term_parse::{Word, word_of};
 // The greatest number of steps of a translation.
 const MOST_STEPS: usize = 4_000_000;
 
-/// Writes the rest of a term.
+/// Does the tasks of a term until none is left.
 pub(crate) fn write_all(read: Reading, out: &mut Writing) -> Result<(), Stop> {
     for _ in 0..MOST_STEPS {
         out.settle()?;
@@ -48,7 +48,7 @@ fn step(read: Reading, out: &mut Writing, task: Task) -> Result<(), Stop> {
     }
 }
 
-// Writes the form of the language with this number, whose first part is a name of a row.
+// Writes the form of the language with this number, with the name `name` of a row as its first part.
 fn one(read: Reading, out: &mut Writing, at: usize, name: usize, here: Here) -> Result<(), Stop> {
     match word_of(read.head(at)) {
         Some(word) => one_form(read, out, at, word, name, here),
@@ -165,7 +165,7 @@ fn statements(
     Ok(())
 }
 
-// The word of the language at the head of a list, if no definition has its name.
+// The word of the language at the head of a list, if no definition has this name.
 fn short_word(read: Reading, at: usize, here: Here) -> Option<Word> {
     let spelled = read.head(at);
     if definition_of(read, spelled, here).is_some() {
@@ -186,7 +186,7 @@ fn binds_below(read: Reading, at: usize, here: Here) -> bool {
     }
 }
 
-// Writes a statement that binds a name for these, which follow it.
+// Writes a statement that binds a name for the statements `behind` it.
 fn binding(
     read: Reading,
     out: &mut Writing,

@@ -25,7 +25,7 @@ pub(crate) fn tell_number(told: &mut Vec<u8>, number: i64) -> Result<(), AllocEr
     told.extend_from_slice(buffer.format(number).as_bytes())
 }
 
-// The digit of a number below 16.
+// The hexadecimal digit of a number below 16.
 fn digit(number: u8) -> u8 {
     match number {
         0..=9 => number.saturating_add(b'0'),
@@ -33,7 +33,7 @@ fn digit(number: u8) -> u8 {
     }
 }
 
-// Adds a byte: itself if it is printable ASCII, otherwise its two hexadecimal digits.
+// Adds a byte: itself if it is printable ASCII, otherwise `\x` and its two hexadecimal digits.
 fn tell_byte(told: &mut Vec<u8>, byte: u8) -> Result<(), AllocError> {
     if byte < b' ' || b'~' < byte {
         told.extend_from_slice(&[b'\\', b'x', digit(byte / 16), digit(byte % 16)])
@@ -43,7 +43,7 @@ fn tell_byte(told: &mut Vec<u8>, byte: u8) -> Result<(), AllocError> {
     }
 }
 
-/// Adds a name; only the beginning of a long one is shown.
+/// Adds a name: its first 40 bytes, and `..` if it is longer.
 pub(crate) fn tell_name(told: &mut Vec<u8>, spelled: &[u8]) -> Result<(), AllocError> {
     for byte in spelled.iter().take(MOST_SHOWN) {
         tell_byte(told, *byte)?;

@@ -26,23 +26,22 @@ pub struct Said {
     pub value: Value,
 }
 
-/// An addition to a term, by which its reports show more.
+/// An addition to a term that makes its reports show more.
 #[derive(Clone, Copy)]
 pub enum Probe {
     /// Nothing.
     Nothing,
-    /// Beside each ref that this binder makes, a fiber that reads it once, at any moment, and ends with its value.
+    /// For each ref of this binder, a fiber that reads the ref once, at any moment, and ends with its value.
     Watch(BinderName),
-    /// A hidden ref that records whether the first `say` came before the second. If it didn't, the fiber says [`LATE`]
+    /// A hidden ref that records whether the first `say` came before the second. If it didn't, a fiber says [`LATE`]
     /// before the second.
     Order(Said, Said),
-    /// In each fiber but fiber 0, a `say` before its first move: its value tells the fibers of one name from those of
-    /// another ([`is_name`](crate::is_name)). So two fibers of different names have different reports, unless they are
-    /// canceled before they begin.
+    /// In each fiber but fiber 0, a `say` before anything else ([`is_name`](crate::is_name)). Fibers of different names
+    /// say different values. Their reports then differ, unless the fibers are canceled before they begin.
     Names,
 }
 
-/// The value that is said before the second of two `say`s if the first didn't come before it.
+/// The value that a fiber says before the second of two `say`s if the first didn't come before it.
 pub const LATE: i64 = 4611686018427387901;
 
 /// The term of a model, as text.
@@ -54,11 +53,11 @@ pub struct ModelTerm {
     pub binders: Vec<Binder>,
     /// The places in the file that its forms come from, in the order of the text.
     pub places: Vec<WordPlace>,
-    /// The forms of the file that read a ref, add to it and set it, as two moves; another fiber can move between them.
+    /// The forms of the file that read a ref and then change it with the value. Another fiber can move in between.
     pub torn: Vec<usize>,
 }
 
-// What the statements of a definition or a model see, if its name begins here.
+// The surroundings of the statements of a definition or a model whose name begins at `limit`.
 fn top(limit: usize) -> Here {
     let view = View {
         scope: NONE,
@@ -117,7 +116,7 @@ fn write_model(read: Reading, out: &mut Writing, model: &Model) -> Result<(), St
     write_all(read, out)
 }
 
-/// The term of a model of a source, with the additions of a probe.
+/// Returns the term of a model of a source, with the additions of a probe.
 ///
 /// # Errors
 /// Returns [`Refused::Fault`] if the model has a fault: the first one of its forms, in the order in which the term is
@@ -160,7 +159,7 @@ fn are_places_within(places: &[WordPlace], count: usize) -> bool
     places.iter().all(|place| place.term < count)
 }
 
-// The written term, if it is within its limit, and its binders and places are within it.
+// Returns the written term if it has at most 65,536 bytes, and its binders and places are within it.
 fn finished(alloc: Global, read: Reading, out: Writing, model: &Model) -> Result<ModelTerm, Refused>
     ensures short { IfOk result (λ t. vec_len t.text ≤ 65536) }
     ensures binders { IfOk result (λ t. All (λ b. (b.start ≤ b.end) × (b.end ≤ vec_len t.text)) t.binders.items) }

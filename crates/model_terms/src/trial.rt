@@ -42,7 +42,7 @@ fn tried_meaning(
     }
 }
 
-// Writes the term of a definition, with any meanings of their kinds for its parts.
+// Writes the term of a definition, with a trial meaning for each of its parts.
 fn write_definition(read: Reading, out: &mut Writing, definition: Definition) -> Result<(), Stop> {
     let limit = definition.name.start;
     let mut scope = NONE;
@@ -74,7 +74,7 @@ fn write_definition(read: Reading, out: &mut Writing, definition: Definition) ->
     write_all(read, out)
 }
 
-// Tries one definition with at most `work` steps, and returns how many are left.
+// Tries one definition within the work limit `work`, and returns what is left of it.
 fn try_definition(
     alloc: Global,
     read: Reading,
@@ -95,7 +95,7 @@ fn try_definition(
     }
 }
 
-/// Tries the definitions of a file, one after another, until the work for all is used up.
+/// Tries the definitions of a file, one after another, until the work for all of them is used up.
 pub(crate) fn try_definitions(alloc: Global, read: Reading, prelude: usize) -> Result<(), Refused> {
     let mut work = MOST_WORK;
     for name in read.named.names() {

@@ -47,7 +47,7 @@ fn no_forms() -> Block {
     Block { first: 0, end: 0 }
 }
 
-/// The part of a definition that the form with this number is.
+/// The part of a definition that the form with this number spells.
 pub(crate) fn part_at(read: Reading, at: usize) -> DefinedPart {
     match read.kind(at) {
         FormKind::Word | FormKind::Text => word_part(read, at),
@@ -65,7 +65,7 @@ pub(crate) fn part_at(read: Reading, at: usize) -> DefinedPart {
     }
 }
 
-// A part that is a word.
+// The part of a definition that a word spells.
 fn word_part(read: Reading, at: usize) -> DefinedPart {
     let span = read.span(at);
     let spelled = read.word(at);
@@ -163,7 +163,7 @@ fn use_parts(
     Ok(parts)
 }
 
-// Binds one part of a use, which is the form with this number.
+// Binds one part of a use; `arg` is the form that is passed for it.
 fn use_part(
     read: Reading,
     out: &mut Writing,
@@ -186,7 +186,7 @@ fn use_part(
     }
 }
 
-// The scope of a body with one more part.
+// Adds a part with this meaning to the scope of the body.
 fn bind_part(
     out: &mut Writing,
     parts: Parts,
@@ -208,7 +208,7 @@ fn meaning_from(operand: Operand) -> Meaning {
     }
 }
 
-// Binds a part that is a name of a kind, or keeps a row of such names.
+// Binds a part that is a name of this kind, or stores the row of such names that is passed for it.
 fn use_name(
     read: Reading,
     out: &mut Writing,
@@ -239,7 +239,7 @@ fn use_name(
     }
 }
 
-// The row of this kind that a form names, if it does.
+// The row of this kind that a form names, if it names one.
 fn row_at(
     read: Reading,
     out: &mut Writing,
@@ -263,7 +263,7 @@ fn row_at(
     }
 }
 
-// Binds a part that is a term.
+// Stores the term that is passed for a part, and returns its meaning.
 fn hand_in(
     read: Reading,
     out: &mut Writing,
@@ -395,7 +395,7 @@ pub(crate) fn use_handed(
     out.then(Task::Close(open))
 }
 
-// The scope of a term that was passed, with its names.
+// The scope of a term that was passed, with its names bound to the parts of a use of it.
 fn handed_scope(
     read: Reading,
     out: &mut Writing,
@@ -422,7 +422,7 @@ fn handed_scope(
     Ok(scope)
 }
 
-// The meaning of what is given for a name of a term that was passed: anything other than a term, also a whole row.
+// The meaning of the form that is given for a name of a passed term. It can be a whole row, but not a passed term.
 fn handed_meaning(
     read: Reading,
     out: &mut Writing,
@@ -439,7 +439,7 @@ fn handed_meaning(
     Ok(meaning_from(operand))
 }
 
-// Whether a form is a word that names something here, or an element of it.
+// Whether a form is a word that names something here, or whose bytes before a dot do.
 fn names_thing(read: Reading, out: &mut Writing, arg: usize, here: Here) -> Result<bool, Stop> {
     match read.kind(arg) {
         FormKind::Word => {}

@@ -1,4 +1,4 @@
-//! The term as far as it is written, and the rest that is planned.
+//! The part of a term that is written, and the tasks for the rest.
 
 use crate::binder::{Binder, BinderName, NameKind, WordPlace};
 use crate::reading::bytes_of;
@@ -16,7 +16,7 @@ pub(crate) const MOST_BYTES: usize = 65536;
 // The greatest number of open brackets of a term.
 const MOST_OPEN: usize = 100;
 
-// The greatest number of looks at names and of steps together.
+// The greatest amount of work: 1 for each step, binder, name that is compared, and part that is passed.
 const MOST_WORK: usize = 5_000_000;
 
 /// A `say` of a fiber: the number of the form that spells the fiber's name, and the value.
@@ -26,7 +26,7 @@ pub(crate) struct SaidBy {
     pub(crate) value: i64,
 }
 
-/// A term as far as it is written.
+/// A term that is partly written.
 #[derive(Drop)]
 pub(crate) struct Writing {
     pub(crate) text: Vec<u8>,
@@ -37,30 +37,30 @@ pub(crate) struct Writing {
     pub(crate) watched: Option<BinderName>,
     /// The two `say`s whose order is compared.
     pub(crate) said: Option<(SaidBy, SaidBy)>,
-    /// Whether each fiber says a value for its name first.
+    /// Whether each fiber but fiber 0 says a value for its name first.
     pub(crate) names: bool,
-    /// The name of the hidden ref for the order.
+    /// The name of the hidden ref that records whether the first of the two `say`s came.
     pub(crate) order: usize,
     pub(crate) spellings: Spellings,
     pub(crate) bounds: Vec<Bound>,
     pub(crate) handed: Vec<Handed>,
     pub(crate) uses: Vec<Use>,
-    /// What the present step plans, the next task first.
+    /// The tasks that the present step plans, the next one first.
     pub(crate) plan: Vec<Task>,
-    /// The rest that is planned, the next task last.
+    /// The tasks that earlier steps planned, the next one last.
     pub(crate) stack: Vec<Task>,
-    /// The values of the form under way.
+    /// The values of the form that is planned.
     pub(crate) values: Vec<Operand>,
-    /// The binders of the form under way.
+    /// The binders of the form that is planned.
     pub(crate) made: Vec<Bound>,
-    /// The number of open `let`s around the form under way.
+    /// The number of open `let`s around the form that is planned.
     pub(crate) lets: usize,
     open: usize,
     work: usize,
 }
 
 impl Writing {
-    /// A term of which nothing is written.
+    /// Makes a term without bytes.
     pub(crate) fn new(alloc: Global) -> Result<Writing, AllocError> {
         let spellings = Spellings::new(alloc)?;
         Ok(Writing {
@@ -86,7 +86,7 @@ impl Writing {
         })
     }
 
-    /// Counts this many looks at names, or steps.
+    /// Takes `count` from the work that is left, or returns [`Limit::TooMuchWork`] if less is left.
     pub(crate) fn pay(&mut self, count: usize) -> Result<(), Stop> {
         match self.work.checked_sub(count) {
             Some(left) => {
@@ -97,7 +97,7 @@ impl Writing {
         }
     }
 
-    /// Limits the work, for a definition that is tried.
+    /// Limits the work that is left to `most`, for the trial of a definition.
     pub(crate) fn limit_work(&mut self, most: usize) {
         self.work = self.work.min(most);
     }
@@ -107,7 +107,7 @@ impl Writing {
         self.work
     }
 
-    /// Moves what the step planned onto the stack.
+    /// Moves the tasks that the step planned onto the stack.
     pub(crate) fn settle(&mut self) -> Result<(), Stop> {
         let mut left = self.plan.len();
         for _ in 0..self.plan.len() {
@@ -126,13 +126,13 @@ impl Writing {
         Ok(())
     }
 
-    /// A new name.
+    /// Makes a new name with a spelling near `name`, and returns its number.
     pub(crate) fn fresh(&mut self, name: &[u8]) -> Result<usize, Stop> {
         let number = self.spellings.fresh(name)?;
         Ok(number)
     }
 
-    /// A scope with one more name.
+    /// Adds a name to a scope, and returns the new scope.
     pub(crate) fn bind(
         &mut self,
         scope: usize,
@@ -174,7 +174,7 @@ impl Writing {
         Ok(found)
     }
 
-    // Writes bytes, unless the term becomes too long.
+    // Writes bytes, or returns [`Limit::TooLong`] if the term would become too long.
     fn write(&mut self, bytes: &[u8]) -> Result<(), Stop> {
         if MOST_BYTES < self.text.len().saturating_add(bytes.len()) {
             return Err(Stop::Limit(Limit::TooLong));
@@ -191,7 +191,7 @@ impl Writing {
         self.write(b" ")
     }
 
-    /// Writes an opening bracket and its word, for a form.
+    /// Writes an opening bracket and its word, for the form with this number.
     pub(crate) fn write_open(&mut self, word: Word, form: usize) -> Result<(), Stop> {
         if MOST_OPEN <= self.open {
             return Err(Stop::Limit(Limit::TooDeep));
@@ -204,7 +204,7 @@ impl Writing {
         self.write(spelling_of(word))
     }
 
-    /// Writes closing brackets.
+    /// Writes `count` closing brackets.
     pub(crate) fn write_close(&mut self, count: usize) -> Result<(), Stop> {
         self.open = self.open.saturating_sub(count);
         for _ in 0..count {

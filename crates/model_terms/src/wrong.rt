@@ -1,4 +1,4 @@
-//! The faults of a model, before they are put into words.
+//! The faults of a model, without their messages.
 
 use crate::binder::NameKind;
 use crate::scope::View;
@@ -29,29 +29,29 @@ pub(crate) enum Wrong {
     UnknownWord,
     /// A form has a wrong number of parts: its word, the number expected and the number given.
     Parts(Span, usize, usize),
-    /// The same for a form that binds a name in the statements behind it, and is the last of its block.
+    /// A form that binds a name lacks its last part, and no statements follow it: its word, and the same numbers.
     LastBinder(Span, usize, usize),
-    /// The same for a use of a definition, which has this name.
+    /// A use has a wrong number of parts: the definition's name, the number expected and the number given.
     UseParts(Span, usize, usize),
-    /// A row lacks what follows: its word.
+    /// A row has a wrong number of parts: its word.
     RowParts(Span),
     /// A name, or a name and an index, is expected.
     NoIndex,
     /// A block is empty.
     EmptyBlock,
-    /// Nothing follows a form that binds a name for what follows: its word.
+    /// Nothing follows a form that binds a name for the statements behind it: its word.
     NothingFollows(Span),
     /// A condition is expected.
     Condition,
-    /// A term with names is expected: the part, the definition, and the forms of its names.
+    /// A term with names is expected: the part, the definition, and the first and the number of the part's names.
     Names(Span, Span, usize, usize),
     /// A name has no binder around it.
     Unbound,
     /// A name is of another kind: its sort, and the expected one.
     OtherKind(Sort, Sort),
-    /// A name is expected, and this is a number.
+    /// A name of this kind is expected, and the form is a number.
     NumberForName(NameKind),
-    /// A name is expected, and this is a bracket.
+    /// A name of this kind is expected, and the form is a bracket.
     BracketForName(NameKind),
     /// A name to bind is expected.
     NoName,
@@ -61,24 +61,24 @@ pub(crate) enum Wrong {
     NoNumber,
     /// The size of a row is expected.
     HowMany,
-    /// A row has no such number: the row's name, its size, and the number.
+    /// A row has no name with this number: the row's name, its size, and the number.
     NoSuch(Span, usize, i64),
-    /// A name isn't that of a row.
+    /// A name before a dot isn't that of a row: the name, and its sort.
     NoRow(Span, Sort),
-    /// The number in a row isn't known before the run.
+    /// The number in a row isn't known before the run: its bytes.
     UnknownIndex(Span),
-    /// A name is expected, and this is a whole row: its size.
+    /// A name is expected, and the form is a whole row: its size.
     WholeRow(usize),
-    /// A second row is passed to one definition.
+    /// A second row is passed to one use of a definition.
     SecondRow,
 }
 
-/// The limit that a term passes.
+/// The limit that a term exceeds.
 #[derive(Clone, Copy)]
 pub(crate) enum Limit {
-    /// The term has too many bytes.
+    /// The term has more than 65,536 bytes.
     TooLong,
-    /// Too many brackets of it are open.
+    /// More than 100 of its brackets are open.
     TooDeep,
     /// The translation takes too many steps.
     TooMuchWork,
@@ -89,9 +89,9 @@ pub(crate) enum Limit {
 pub(crate) enum Stop {
     /// Memory ran out.
     NoMemory,
-    /// The term passes this limit.
+    /// The term exceeds this limit.
     Limit(Limit),
-    /// This is wrong at these bytes; the view has the names that they see.
+    /// The fault at these bytes; the view has the names that they see.
     Wrong(Wrong, Span, View),
 }
 

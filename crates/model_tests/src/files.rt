@@ -23,7 +23,7 @@ const ROWS: &[Row] = &[
         line: 3,
         column: 3,
     },
-    // A bracket that is missing at the end is reported before a bad item at the beginning.
+    // A bracket that is missing at the end is reported rather than a bad item at the beginning.
     Row {
         text: b"(foo)\n(define N 1",
         fault: FileFault::Form(FormFault::Unclosed(1, 6)),
@@ -85,7 +85,7 @@ fn counts(alloc: Global, text: &[u8]) -> Result<(usize, usize), FileFault> {
     Ok((file.forms.len(), file.items.len()))
 }
 
-// Holds with every request for memory refused in turn.
+// Holds whichever request for memory is refused.
 #[test]
 fn a_file_is_read_or_memory_ran_out(rt: HostRuntime) {
     match counts(

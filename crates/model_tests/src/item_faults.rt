@@ -6,7 +6,7 @@ use reasons::position_at;
 use std::alloc::Global;
 use std::test::Fail;
 
-// A text, and its first fault. Each text is one line, so that its column is one more than its place.
+// A text, and its first fault. Each text is one line, so a column is one more than a place.
 type Row = (&'static [u8], ItemFault);
 
 const FILES: &[Row] = &[
@@ -64,7 +64,7 @@ const MODELS: &[Row] = &[
     (b"(model m (run 1) (want 1))", ItemFault::BehindRun(17)),
 ];
 
-// Each list of a statement and of a claim begins with a word, contains no text, and a word that begins like a number is
+// In statements and claims each list begins with a word, no form is a text, and a word that begins like a number is
 // one.
 const STATEMENTS: &[Row] = &[
     (b"(define (f) ())", ItemFault::EmptyList(12)),

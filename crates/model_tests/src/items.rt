@@ -75,7 +75,7 @@ fn is_so(item: &Item, wanted: &Wanted) -> bool {
     }
 }
 
-// The number of items that are as expected, before the first that isn't.
+// The number of items before the first that isn't as expected.
 fn right(items: &[Item]) -> usize {
     let mut right: usize = 0;
     for (item, wanted) in items.iter().zip(WANTED) {
@@ -112,7 +112,7 @@ fn count(alloc: Global, text: &[u8]) -> Result<usize, bool> {
     }
 }
 
-// Holds with every request for memory refused in turn.
+// Holds whichever request for memory is refused.
 #[test]
 fn items_are_read_or_memory_ran_out(rt: HostRuntime) {
     match count(rt.alloc(), FILE) {

@@ -1,4 +1,4 @@
-//! Long and deep texts, and texts for which there is no memory.
+//! Long and deep texts, and texts for which memory runs out.
 
 use model_forms::{FormFault, read_forms};
 use std::alloc::{AllocError, Global};
@@ -36,7 +36,7 @@ fn count(alloc: Global, text: &[u8]) -> Result<usize, FormFault> {
     Ok(forms.len())
 }
 
-// Holds with every request for memory refused in turn.
+// Holds whichever request for memory is refused.
 #[test]
 fn forms_are_read_or_memory_ran_out(rt: HostRuntime) {
     match count(rt.alloc(), b"(model m (want 1) (run (pure 1)))") {

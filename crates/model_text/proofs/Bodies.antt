@@ -1,4 +1,4 @@
--- The faults of statements in one list of forms are those of their row.
+-- The fault of a row of statements is that of its list of forms.
 use Rattle.std.proofs.Common.{◌≡◌, ◌≢◌, ◌<◌, ◌≤◌, ◌+◌, ◌==◌, ◌++◌, ℕ, suc, Bool, true, false, List, [], ◌∷◌, length, drop, get_or, Option, Some, None, refl, ap, sym, ◌∙◌}
 use Rattle.std.proofs.Common.{append_assoc, add-one, drop-cons, arith}
 use Rattle.std.specs.List.{slice_range}

@@ -14,7 +14,7 @@ use Rattle.model_text.specs.declared.item.Item.{Item}
 use Rattle.model_text.specs.declared.model.ClaimStep.{ClaimStep}
 use Rattle.model_text.specs.declared.model.ClaimStep.TheVariants as steps
 
--- what is said of a row is said of the rest of it
+-- `f` is the same for a row and for the row that is left of it
 pub record Rest (A : Type 0) (f : Row → A) (forms : List Form) (rest : Block) (row : Row) : Type 0 where
   pub left : Row
   pub block : IsBlock forms rest left
@@ -157,7 +157,7 @@ abbrev pub behind_items : List ItemTree → Result (List ItemTree) ItemFault →
 behind_items ts (Ok us) = Ok (ts ++ us)
 behind_items ts (Err e) = Err e
 
--- these items have been read, and the rest is this row
+-- the items `is` have been read, and `left` is the row behind them
 pub record Items (text : List ℕ) (forms : List Form) (rest : Block) (is : List Item) (row : Row) : Type 0 where
   pub trees : List ItemTree
   pub left : Row

@@ -1,4 +1,4 @@
--- The first fault of statements, as far as their forms are checked.
+-- The first fault of the forms of statements.
 use Rattle.std.specs.Prelude.{◌==◌, ◌&&◌, ◌||◌, ℕ, ℤ, Bool, true, false, List, [], ◌∷◌, Option, Some, None, slice_range, if◌then◌else◌}
 use Rattle.model_forms.specs.Rows.{Row, nothing, a_word, a_text, a_list}
 use Rattle.model_forms.specs.declared.form.Form.{Form}
@@ -24,7 +24,7 @@ or_else None o = o
 abbrev pub number_fault : List ℕ → ℕ → Option ItemFault
 number_fault bs place = if is_bad_number bs then Some (faults.NotANumber place) else None
 
--- the head of a list must be a word
+-- the fault of a list at `place`: its head must be a word
 abbrev pub list_fault : ℕ → Row → Option ItemFault
 list_fault place nothing = Some (faults.EmptyList place)
 list_fault place (a_word start end r) = None
@@ -39,7 +39,7 @@ row_fault text (a_text start end r) = Some (faults.StrayText start)
 row_fault text (a_list opening inner closing r) =
     or_else (list_fault opening inner) (or_else (row_fault text inner) (row_fault text r))
 
--- ---- the same in one list of forms
+-- ---- the same faults in the code's list of forms
 abbrev pub word_fault : List ℕ → Form → Option ItemFault
 word_fault text f = number_fault (slice_range text f.start f.end) f.start
 

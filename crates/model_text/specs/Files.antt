@@ -12,14 +12,14 @@ use Rattle.model_text.specs.declared.file.FileFault.{FileFault}
 use Rattle.model_text.specs.declared.file.FileFault.TheVariants.{Form, Item}
 use Rattle.model_text.specs.declared.file.ModelFile.{ModelFile}
 
--- a row spells the text, the file has its forms, and the items are those of the row
+-- some row spells the text, the file has the forms of this row, and its items are those of the row
 pub record IsFile (text : List ℕ) (file : ModelFile) : Type 0 where
   pub row : Row
   pub spelled : Spells text row
   pub forms_are : file.forms.items ≡ flat row
   pub items_are : AreItems file.forms.items file.items.items (items_of text row)
 
--- a row spells the text, and this is the first fault of the row's items
+-- some row spells the text, and `fault` is the first fault of the row's items
 pub record IsItemFault (text : List ℕ) (fault : ItemFault) : Type 0 where
   pub row : Row
   pub spelled : Spells text row

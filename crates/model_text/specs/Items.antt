@@ -1,4 +1,4 @@
--- The items that the forms of a model file make, or the first fault.
+-- The items of the forms of a model file, or the first fault.
 use Rattle.std.specs.Prelude.{◌&&◌, ℕ, ℤ, pos, negsuc, Bool, true, false, List, [], ◌∷◌, Option, Some, None, Result, Ok, Err, slice_range}
 use Rattle.std.specs.Prelude.{if◌then◌else◌}
 use Rattle.model_forms.specs.Rows.{Row, nothing, a_word, a_text, a_list, first_of, inside_of, behind_of}
@@ -14,7 +14,7 @@ use Rattle.model_text.specs.declared.word.Keyword.{Keyword}
 use Rattle.model_text.specs.declared.word.Keyword.TheVariants as keywords
 
 -- an item: a constant with its name and number, a definition with its name, parts and statements, bounds, or a model
--- with its name, its text, its claims and bounds up to `run`, and its statements
+-- with its name, its text, its row of claims, bounds and `run`, and its statements
 pub data ItemTree : Type 0 where
   a_constant : Form → ℤ → ItemTree
   a_definition : Form → Row → Row → ItemTree
@@ -40,11 +40,11 @@ keyword_as kinds.Word bs = keyword_of bs
 keyword_as kinds.Text bs = None
 keyword_as kinds.List bs = None
 
--- the word is a name
+-- the form is a name
 abbrev pub is_name_form : List ℕ → Form → Bool
 is_name_form text f = is_name_as f.kind (bytes_of text f)
 
--- the number of a word, if it is one
+-- the number that a form spells, if it spells one
 abbrev pub number_form : List ℕ → Form → Option ℤ
 number_form text f = number_as f.kind (bytes_of text f)
 
@@ -67,14 +67,14 @@ are_names text (a_word start end r) = is_name (slice_range text start end) && ar
 are_names text (a_text start end r) = false
 are_names text (a_list opening inner closing r) = false
 
--- the part is a term: its name, and the names that it takes
+-- the row of a part that is a term: its name, and the names that it takes
 abbrev pub is_term_part : List ℕ → Row → Bool
 is_term_part text nothing = false
 is_term_part text (a_word start end r) = are_names text (a_word start end r)
 is_term_part text (a_text start end r) = false
 is_term_part text (a_list opening inner closing r) = false
 
--- the first form is a part
+-- the first form, if there is one, is a part
 abbrev pub fits_part : List ℕ → Row → Bool
 fits_part text nothing = true
 fits_part text (a_word start end r) = is_part (slice_range text start end)
@@ -107,12 +107,12 @@ is_bound_word (Some keywords.Run) = false
 is_bound_word (Some keywords.Claim) = false
 is_bound_word None = false
 
--- a word for a bound, a number that isn't negative, and nothing else
+-- the word of a bound, a number that isn't negative, and nothing else
 unfoldable pub is_bound_list : List ℕ → Row → Bool
 is_bound_list text row = is_bound_word (head_of text row) && is_amount text (first_of (behind_of row)) &&
     is_nothing (first_of (behind_of (behind_of row)))
 
--- the first form is a bound
+-- the first form, if there is one, is a bound
 abbrev pub fits_bound : List ℕ → Row → Bool
 fits_bound text nothing = true
 fits_bound text (a_word start end r) = false
@@ -156,7 +156,7 @@ definition_from text place list inside body (Some name) =
     (row_fault text body)
     else Err (faults.NotAName name.start)
 
--- a definition: the list has the name and the parts, and the statements follow it
+-- a definition: the row `inside` is its name and its parts, and `body` its statements
 unfoldable pub definition_of : List ℕ → ℕ → Form → Row → Row → Result ItemTree ItemFault
 definition_of text place list inside body = definition_from text place list inside body (first_of inside)
 
@@ -174,7 +174,7 @@ unfoldable pub define_of : List ℕ → ℕ → Row → Result ItemTree ItemFaul
 define_of text place row = define_from text place row (first_of row)
 
 -- ---- models
--- the result of a list of a model: on to the next, the model's statements, or a fault
+-- the result of reading a list of a model: go on to the next list, the model's statements, or a fault
 pub data ClaimTree : Type 0 where
   more : ClaimTree
   done : Row → ClaimTree
@@ -201,18 +201,18 @@ claim_as (Some keywords.Defaults) text place inside rest = bad (faults.NotAClaim
 claim_as (Some keywords.Model) text place inside rest = bad (faults.NotAClaim place)
 claim_as None text place inside rest = bad (faults.NotAClaim place)
 
--- the result of a list of a model, at this place, before these forms
+-- the result of reading the list of a model at `place`, with the forms `inside` it and the forms `rest` behind it
 unfoldable pub claim_of : List ℕ → ℕ → Row → Row → ClaimTree
 claim_of text place inside rest = claim_as (head_of text inside) text place inside rest
 
--- the result of the first form of a row
+-- the result of reading the first form of a row
 abbrev pub claim_first : List ℕ → Row → ClaimTree
 claim_first text nothing = more
 claim_first text (a_word start end r) = bad (faults.NotAClaim start)
 claim_first text (a_text start end r) = bad (faults.NotAClaim start)
 claim_first text (a_list opening inner closing r) = claim_of text opening inner r
 
--- the statements of a model, from its claims on
+-- the statements of a model, from the row of its claims, bounds and `run`; `place` is that of the model's name
 unfoldable pub run_of : List ℕ → ℕ → Row → Result Row ItemFault
 run_of text place nothing = Err (faults.NoRun place)
 run_of text place (a_word start end r) = Err (faults.NotAClaim start)
@@ -263,7 +263,7 @@ item_as (Some keywords.Claim) text place row = Err (faults.NotAnItem place)
 item_as (Some keywords.Bound) text place row = Err (faults.NotAnItem place)
 item_as None text place row = Err (faults.NotAnItem place)
 
--- the item of a list at this place, with these forms inside
+-- the item of the list at `place`, with the forms `inside` it
 unfoldable pub item_of : List ℕ → ℕ → Row → Result ItemTree ItemFault
 item_of text place inside = item_as (head_of text inside) text place (behind_of inside)
 

@@ -10,7 +10,7 @@ use Rattle.model_text.specs.declared.item.Item.TheVariants as items
 use Rattle.model_text.specs.declared.model.ClaimStep.{ClaimStep}
 use Rattle.model_text.specs.declared.model.ClaimStep.TheVariants as steps
 
--- the item of the code means this item: its blocks are the item's rows
+-- the code's item means this item of the grammar: its blocks are the item's rows
 abbrev pub Stands : List Form → Item → ItemTree → Type 0
 Stands forms (items.Constant c) (a_constant name n) = (c.name ≡ name) × (c.number ≡ n)
 Stands forms (items.Definition d) (a_definition name parts body) =
@@ -20,14 +20,14 @@ Stands forms (items.Model m) (a_model name about claims body) =
     (m.name ≡ name) × (m.text ≡ about) × IsBlock forms m.claims claims × IsBlock forms m.body body
 Stands forms i t = ⊥
 
--- one item after another
+-- each of the code's items means the item of the grammar with the same index
 abbrev pub AllStand : List Form → List Item → List ItemTree → Type 0
 AllStand forms [] [] = Unit {0}
 AllStand forms (i ∷ is) (t ∷ ts) = Stands forms i t × AllStand forms is ts
 AllStand forms [] (t ∷ ts) = ⊥
 AllStand forms (i ∷ is) [] = ⊥
 
--- the code's items mean these
+-- the grammar gives items, and the code's items mean them
 abbrev pub AreItems : List Form → List Item → Result (List ItemTree) ItemFault → Type 0
 AreItems forms is (Ok ts) = AllStand forms is ts
 AreItems forms is (Err e) = ⊥

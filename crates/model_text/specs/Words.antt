@@ -22,7 +22,7 @@ abbrev pub is_name : List ℕ → Bool
 is_name [] = false
 is_name (b ∷ bs) = is_letter b && all_go_on bs
 
--- the kinds of a part that is a name of something
+-- the kinds that can follow a colon
 abbrev pub is_kind : List ℕ → Bool
 is_kind bs =
     bytes_eq bs (codes "ref") || bytes_eq bs (codes "deferred") || bytes_eq bs (codes "fiber") || bytes_eq bs (codes "poll")
@@ -31,7 +31,7 @@ abbrev pub is_part_split : List ℕ → Option ℕ → Bool
 is_part_split bs (Some i) = is_name (take i bs) && is_kind (drop (i + 1) bs)
 is_part_split bs None = is_name bs
 
--- a part of a definition: a name, for a value, or a name, a colon and a kind
+-- a part of a definition that is a word: a name, for a value, or a name, a colon and a kind
 unfoldable pub is_part : List ℕ → Bool
 is_part bs = is_part_split bs (position (λ b. b == 58) bs)
 

@@ -1,5 +1,5 @@
-//! The forms of statements, as far as they are checked: each list begins with a word, there is no text among them, and
-//! what begins like a number is one.
+//! The checks of statements: each list begins with a word, no form is a text, and a word that begins like a number is
+//! one.
 
 ghost use Rattle.std.specs.Prelude.{◌≡◌, slice_range};
 ghost use Rattle.model_forms.specs.Rows.{Row, IsBlock};
@@ -19,7 +19,7 @@ fn is_bad_number(bytes: &[u8]) -> bool
     }
 }
 
-// The fault of the first of these forms as the head of a list.
+// The fault of the first form as the head of a list, if it isn't a word.
 fn head_fault(forms: &[Form]) -> Option<ItemFault>
     ensures { result ≡ head_fault forms.now }
 {
@@ -32,7 +32,7 @@ fn head_fault(forms: &[Form]) -> Option<ItemFault>
     }
 }
 
-// The fault of a word.
+// The fault of a word that begins like a number and isn't one.
 fn word_fault(text: &[u8], word: Form) -> Option<ItemFault>
     ensures { result ≡ word_fault text.now word }
 {
@@ -43,7 +43,7 @@ fn word_fault(text: &[u8], word: Form) -> Option<ItemFault>
     }
 }
 
-// The fault of the first of these forms alone, and of its head, if it is a list.
+// The fault of the first form: a bad number, a text, an empty list, or a list whose head isn't a word.
 fn first_fault(text: &[u8], forms: &[Form]) -> Option<ItemFault>
     ensures { result ≡ first_fault text.now forms.now }
 {
@@ -63,7 +63,7 @@ fn first_fault(text: &[u8], forms: &[Form]) -> Option<ItemFault>
     }
 }
 
-// The first fault of forms in the order of their text.
+// The first fault of these forms, in the order of the text.
 #[tactic(auto, using(crate::proofs::Bodies::one_more, crate::proofs::Bodies::fault_here, crate::proofs::Bodies::no_fault))]
 fn flat_fault(text: &[u8], forms: &[Form]) -> Option<ItemFault>
     ensures { result ≡ flat_fault text.now forms.now }

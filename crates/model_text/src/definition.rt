@@ -1,4 +1,4 @@
-//! Definitions.
+//! Reads constants and definitions.
 
 ghost use Rattle.std.specs.Prelude.{◌≡◌};
 ghost use Rattle.model_forms.specs.Rows.{Row, IsBlock};
@@ -11,7 +11,7 @@ use crate::item::{Constant, Definition, Item};
 use crate::part::{bad_part, is_name_form, number_form};
 use model_forms::{Block, Form, FormKind, behind_first, first_form, inside_first};
 
-// A constant with this name; the block follows the name.
+// Reads the constant `name`; `block` follows the name.
 #[tactic(auto, unfolding(crate::specs::Items::constant_of))]
 fn constant(
     text: &[u8],
@@ -38,7 +38,7 @@ fn constant(
     }
 }
 
-// A definition, with its name and parts in a list, which its statements follow.
+// Reads a definition: `inside` is its name and its parts, and `body` its statements.
 #[tactic(auto, unfolding(crate::specs::Items::definition_of))]
 fn definition(
     text: &[u8],
@@ -70,7 +70,7 @@ fn definition(
     }
 }
 
-/// The item of a list at this place that begins with `define`, from these forms behind the word.
+/// Reads the item of the list at `place`, which begins with `define`; `block` follows this word.
 #[tactic(auto, unfolding(crate::specs::Items::define_of))]
 pub(crate) fn define(
     text: &[u8],

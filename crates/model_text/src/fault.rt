@@ -1,4 +1,4 @@
-//! Why forms aren't items.
+//! The faults of forms that aren't items.
 
 ghost use Rattle.std.specs.Prelude.{◌≡◌};
 ghost use Rattle.model_text.specs.Files.{item_code, item_place};
@@ -7,16 +7,16 @@ ghost use Rattle.model_text.specs.declared.fault.ItemFault.TheVariants.{NoMemory
 use std::alloc::{AllocError, AllocFailed};
 use thiserror::Error;
 
-/// Why forms aren't items, and where. A place is the number of bytes before the faulty form.
+/// The fault of forms that aren't items. A place is the number of bytes before the faulty form.
 #[derive(Clone, Copy, PartialEq, Eq, Debug, Error)]
 pub enum ItemFault {
-    /// There was no memory for the items.
+    /// Memory ran out.
     #[error("no memory")]
     NoMemory,
-    /// A form of the file isn't a list that begins with one of the three words.
+    /// A form of the file isn't a list that begins with `define`, `defaults` or `model`.
     #[error("`define`, `defaults` or `model` was wanted")]
     NotAnItem(usize),
-    /// A definition lacks a part, or has one too many.
+    /// A definition lacks its name, number or statements, or a form follows the number of a constant.
     #[error("`(define (name part ..) term ..)` or `(define name number)` was wanted")]
     NotADefinition(usize),
     /// A name is expected.
@@ -25,7 +25,7 @@ pub enum ItemFault {
     /// A number is expected, or the number is out of range.
     #[error("a number from -4611686018427387904 to 4611686018427387903 was wanted")]
     NotANumber(usize),
-    /// This isn't a part of a definition.
+    /// A form isn't a part of a definition.
     #[error("a part was wanted: `x`, `r:ref`, `d:deferred`, `f:fiber`, `p:poll`, or `(body x ..)`")]
     NotAPart(usize),
     /// A bound is expected.
@@ -34,7 +34,7 @@ pub enum ItemFault {
     /// A model has no name.
     #[error("`(model name claim .. (run term ..))` was wanted")]
     NotAModel(usize),
-    /// A claim or a bound is expected behind a model's name.
+    /// A claim, a bound or `run` is expected in a model.
     #[error("a claim, a bound or `run` was wanted")]
     NotAClaim(usize),
     /// A model has no `run`. The place is that of its name.
@@ -46,7 +46,7 @@ pub enum ItemFault {
     /// A word is expected behind an opening bracket.
     #[error("behind an opening bracket a word was wanted")]
     NotAWord(usize),
-    /// A text has a place only behind the name of a model.
+    /// A text isn't behind the name of a model.
     #[error("a string stands behind the name of a model alone")]
     StrayText(usize),
     /// Nothing follows `run`.

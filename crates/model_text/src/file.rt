@@ -10,7 +10,7 @@ use model_forms::{Form, FormFault, read_forms};
 use std::alloc::Global;
 use thiserror::Error;
 
-/// A model file: its forms, and its items, whose blocks are blocks of these forms.
+/// The forms and the items of a model file. The blocks of the items are blocks of these forms.
 #[derive(Drop)]
 pub struct ModelFile {
     /// All forms of the file.
@@ -22,7 +22,7 @@ pub struct ModelFile {
 /// Why the bytes of a file aren't a model file.
 #[derive(Clone, Copy, PartialEq, Eq, Debug, Error)]
 pub enum FileFault {
-    /// The bytes have no forms.
+    /// The bytes can't be read into forms.
     #[error("{0}")]
     Form(FormFault),
     /// Its forms aren't items.
@@ -74,7 +74,7 @@ fn form_code(fault: FormFault) -> &'static str
     }
 }
 
-/// The model file with these bytes, or its first fault: of its brackets and strings, or else of its items.
+/// Reads a model file from its bytes, or returns its first fault: of its brackets and strings, or else of its items.
 pub fn read_file(alloc: Global, text: &[u8]) -> Result<ModelFile, FileFault>
     ensures file { IfOk result (IsFile text.now) }
     ensures fault { IfErr result (IsFileFault text.now) }

@@ -1,4 +1,4 @@
-//! Items.
+//! The items of a model file.
 
 use effect_term::Value;
 use model_forms::{Block, Form};

@@ -2,9 +2,9 @@
 //!
 //! The crate uses `model_forms`, whose forms it reads, `term_parse` for the spelling of numbers, and `effect_term` for
 //! their values. [`read_file`] turns the bytes of a file into its forms and its items, in the order of the file, or
-//! returns the first fault with its place; [`read_items`] does so from forms. Both promise that the items are those
-//! that the grammar makes of the forms, and that the fault is the grammar's. The contents of a definition, of a claim
-//! and of `run` stay forms: an item refers to them by a [`Block`](model_forms::Block).
+//! returns the first fault with its place; [`read_items`] reads the items from the forms. Both promise that the items
+//! are those that the grammar gives for the forms, and that a fault is the grammar's. The contents of a definition, of
+//! a claim and of `run` stay forms: an item refers to them by a [`Block`](model_forms::Block).
 //!
 //! ```
 //! let text = b"(define N 2) (model m (want 42) (run (pure 42)))";

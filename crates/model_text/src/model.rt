@@ -1,4 +1,4 @@
-//! Models.
+//! Reads models.
 
 ghost use Rattle.std.specs.Prelude.{◌≡◌, Some};
 ghost use Rattle.model_forms.specs.Rows.{Row, IsBlock, first_of};
@@ -13,7 +13,7 @@ use crate::part::{head_of, is_bound_list, is_name_form};
 use crate::word::Keyword;
 use model_forms::{Block, Form, FormKind, behind_first, first_form, inside_first};
 
-/// The result of a list of a model: on to the next, the model's statements, or a fault.
+/// The result of reading a list of a model: go on to the next list, the model's statements, or a fault.
 #[derive(Clone, Copy)]
 pub(crate) enum ClaimStep {
     More,
@@ -21,7 +21,7 @@ pub(crate) enum ClaimStep {
     Bad(ItemFault),
 }
 
-// A `run` at this place, with these statements; the forms `rest` follow it.
+// Reads the `run` at `place` with the statements `body`; the forms `rest` follow it.
 fn run(text: &[u8], forms: &[Form], body: Block, rest: Block, place: usize) -> ClaimStep
     ensures { (row : Row) (after : Row) → IsBlock forms.now body row → IsBlock forms.now rest after →
         ReadsClaim forms.now result (run_with place row (first_of row) (row_fault text.now row) (first_of after)) }
@@ -38,7 +38,7 @@ fn run(text: &[u8], forms: &[Form], body: Block, rest: Block, place: usize) -> C
     }
 }
 
-// A claim; these forms follow its word.
+// Checks a claim; `block` follows its word.
 fn claim_body(text: &[u8], forms: &[Form], block: Block) -> ClaimStep
     ensures { (row : Row) → IsBlock forms.now block row →
         ReadsClaim forms.now result (claim_with (row_fault text.now row)) }
@@ -49,7 +49,7 @@ fn claim_body(text: &[u8], forms: &[Form], block: Block) -> ClaimStep
     }
 }
 
-// A list of a model at this place, with these forms inside; the forms `rest` follow it.
+// Reads the list of a model at `place`, with the forms `inside` it; the forms `rest` follow it.
 #[tactic(auto, unfolding(crate::specs::Items::claim_of))]
 fn claim(text: &[u8], forms: &[Form], inside: Block, rest: Block, place: usize) -> ClaimStep
     ensures { (row : Row) (after : Row) → IsBlock forms.now inside row → IsBlock forms.now rest after →
@@ -72,7 +72,7 @@ fn claim(text: &[u8], forms: &[Form], inside: Block, rest: Block, place: usize) 
     }
 }
 
-// The result of the first form of a block, which is `form`.
+// Reads the first form of a block of a model, which is `form`.
 fn claim_first(text: &[u8], forms: &[Form], block: Block, form: Form) -> ClaimStep
     ensures { (row : Row) → IsBlock forms.now block row → Some form ≡ first_of row →
         ReadsClaim forms.now result (claim_first text.now row) }
@@ -89,7 +89,7 @@ fn claim_first(text: &[u8], forms: &[Form], block: Block, form: Form) -> ClaimSt
     }
 }
 
-// The statements of a model, from its claims on. The place is that of the model's name.
+// Returns the statements of a model from its claims, bounds and `run`. `place` is that of the model's name.
 fn run_of(text: &[u8], forms: &[Form], block: Block, place: usize) -> Result<Block, ItemFault>
     ensures { (row : Row) → IsBlock forms.now block row →
         ReadsBlock forms.now result (run_of text.now place row) }
@@ -105,7 +105,7 @@ fn run_of(text: &[u8], forms: &[Form], block: Block, place: usize) -> Result<Blo
     Err(ItemFault::NoRun(place))
 }
 
-// A model of this name and text, from its claims on.
+// Reads the model of this name and description from its claims, bounds and `run`.
 fn claims(
     text: &[u8],
     forms: &[Form],
@@ -127,7 +127,7 @@ fn claims(
     }
 }
 
-/// The item of a list at this place that begins with `model`, from these forms behind the word.
+/// Reads the item of the list at `place`, which begins with `model`; `block` follows this word.
 #[tactic(auto, unfolding(crate::specs::Items::model_of))]
 pub(crate) fn model(
     text: &[u8],

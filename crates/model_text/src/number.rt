@@ -54,7 +54,7 @@ fn negated(value: u64) -> Value
     value
 }
 
-/// The number with these bytes, if they are one.
+/// Returns the number that these bytes spell, if they spell one.
 #[tactic(auto, unfolding(term_parse::specs::Seen::plain_value, term_parse::specs::Lexemes::number_of))]
 pub fn read_number(run: &[u8]) -> Option<Value>
     ensures { result ≡ number_of run.now }

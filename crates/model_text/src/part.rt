@@ -1,4 +1,4 @@
-//! The forms in definitions and models.
+//! Checks of the forms in definitions and models.
 
 ghost use Rattle.std.specs.Prelude.{◌≡◌, Some};
 ghost use Rattle.model_forms.specs.Rows.{Row, IsBlock, first_of};
@@ -20,7 +20,7 @@ pub(crate) fn is_name_form(text: &[u8], form: Form) -> bool
     }
 }
 
-/// The number of a form, if it is one.
+/// The number that a form spells, if it spells one.
 pub(crate) fn number_form(text: &[u8], form: Form) -> Option<Value>
     ensures { result ≡ number_form text.now form }
 {
@@ -56,7 +56,7 @@ fn are_names(text: &[u8], forms: &[Form], block: Block) -> bool
     true
 }
 
-// Whether a block is a part that is a term: one name or more.
+// Whether the forms of a block make a part that is a term: one name or more.
 fn is_term_part(text: &[u8], forms: &[Form], block: Block) -> bool
     ensures { (row : Row) → IsBlock forms.now block row → result ≡ is_term_part text.now row }
 {
@@ -74,7 +74,7 @@ fn fits_part(text: &[u8], forms: &[Form], block: Block, form: Form) -> bool
     }
 }
 
-/// The place of the first form of a block that isn't a part.
+/// The place of a block's first form that isn't a part, if there is one.
 pub(crate) fn bad_part(text: &[u8], forms: &[Form], block: Block) -> Option<usize>
     ensures { (row : Row) → IsBlock forms.now block row → result ≡ bad_part text.now row }
 {
@@ -111,7 +111,7 @@ fn is_bound_head(text: &[u8], forms: &[Form], block: Block) -> bool
     }
 }
 
-/// Whether a block is a bound: its word, a number that isn't negative, and nothing else.
+/// Whether the forms of a block make a bound: its word, a number that isn't negative, and nothing else.
 #[tactic(auto, unfolding(crate::specs::Items::is_bound_list))]
 pub(crate) fn is_bound_list(text: &[u8], forms: &[Form], block: Block) -> bool
     ensures { (row : Row) → IsBlock forms.now block row → result ≡ is_bound_list text.now row }
@@ -133,7 +133,7 @@ fn fits_bound(text: &[u8], forms: &[Form], block: Block, form: Form) -> bool
     }
 }
 
-/// The place of the first form of a block that isn't a bound.
+/// The place of a block's first form that isn't a bound, if there is one.
 pub(crate) fn bad_bound(text: &[u8], forms: &[Form], block: Block) -> Option<usize>
     ensures { (row : Row) → IsBlock forms.now block row → result ≡ bad_bound text.now row }
 {

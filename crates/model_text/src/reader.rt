@@ -15,7 +15,7 @@ use crate::word::Keyword;
 use model_forms::{Block, Form, FormKind, behind_first, block_of, first_form, inside_first};
 use std::alloc::Global;
 
-// The bounds of every model, if the block consists of bounds.
+// Reads the bounds of every model; each form of the block must be a bound.
 fn defaults(text: &[u8], forms: &[Form], block: Block) -> Result<Item, ItemFault>
     ensures { (row : Row) → IsBlock forms.now block row →
         Reads forms.now result (defaults_with row (bad_bound text.now row)) }
@@ -26,7 +26,7 @@ fn defaults(text: &[u8], forms: &[Form], block: Block) -> Result<Item, ItemFault
     }
 }
 
-// The item of a list at this place, with these forms inside.
+// Reads the item of the list at `place`, with the forms `inside` it.
 #[tactic(auto, unfolding(crate::specs::Items::item_of))]
 fn item(text: &[u8], forms: &[Form], inside: Block, place: usize) -> Result<Item, ItemFault>
     ensures { (row : Row) → IsBlock forms.now inside row → Reads forms.now result (item_of text.now place row) }
@@ -43,7 +43,7 @@ fn item(text: &[u8], forms: &[Form], inside: Block, place: usize) -> Result<Item
     }
 }
 
-// The item of the first form of a block, which is `form`.
+// Reads the item that is the first form of a block, which is `form`.
 fn item_first(text: &[u8], forms: &[Form], block: Block, form: Form) -> Result<Item, ItemFault>
     ensures { (row : Row) → IsBlock forms.now block row → Some form ≡ first_of row →
         Reads forms.now result (item_first text.now row) }
@@ -54,7 +54,7 @@ fn item_first(text: &[u8], forms: &[Form], block: Block, form: Form) -> Result<I
     }
 }
 
-/// The items of a file with this text and these forms, or the first fault.
+/// Returns the items of a file from its text and its forms, or the first fault.
 pub fn read_items(alloc: Global, text: &[u8], forms: &[Form]) -> Result<Vec<Item>, ItemFault>
     ensures items { (row : Row) → forms.now ≡ flat row →
         IfOk result (λ v. AreItems forms.now v.items (items_of text.now row)) }

@@ -22,7 +22,7 @@ pub enum Keyword {
     Bound,
 }
 
-// Whether these are the same bytes.
+// Whether `a` and `b` are the same bytes.
 #[tactic(auto, using(term_parse::proofs::Spellings::other_length, term_parse::proofs::Spellings::other_byte, term_parse::proofs::Spellings::same_bytes))]
 fn is_same(a: &[u8], b: &[u8]) -> bool
     ensures { result ≡ bytes_eq a.now b.now }
@@ -78,7 +78,7 @@ fn is_kind(bytes: &[u8]) -> bool
         || is_same(bytes, b"poll")
 }
 
-// The place of the first colon.
+// The index of the first colon, if there is one.
 fn colon_at(bytes: &[u8]) -> Option<usize>
     ensures place { result ≡ position (λ b. b == 58) bytes.now }
     ensures within { IfSome result (λ i. i < length bytes.now) }

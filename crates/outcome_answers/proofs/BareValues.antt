@@ -14,7 +14,7 @@ use Rattle.serde_json.specs.View.{items_of, items_view, view}
 use Rattle.serde_json.specs.declared.value.Value.{Value}
 use Rattle.outcome_answers.specs.OutcomesData.{AreBareData, IsBareData, IsBarePart, IsOutcomesData, bare_found, outcomes_data}
 
--- with the values of the answers from this one on behind them, they are those of all
+-- these values and the values of the answers from the index `i` on are the values of all answers
 abbrev pub IsFront : Bool → List Want → List Answer → ℕ → List Data → Type 0
 IsFront u wants all i ds =
     (behind : List Data) → IsBarePart u wants (drop i all) behind → IsBarePart u wants all (ds ++ behind)

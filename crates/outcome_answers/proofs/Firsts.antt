@@ -12,7 +12,7 @@ use Rattle.every_schedule.specs.Explored.{IsListed, ListOnce}
 use Rattle.every_outcome.specs.declared.outcomes.OutcomeAnswer.{OutcomeAnswer}
 use Rattle.outcome_answers.specs.OutcomesShown.{AreFirsts, shown_answer, shown_end}
 
--- the same of this number of answers
+-- the same for the first `n` answers
 pub record SoFar (answers : List OutcomeAnswer) (n : ℕ) (shown : List Answer) : Type 0 where
   pub covers : (i : ℕ) (a : OutcomeAnswer) → i < n → slice_get answers i ≡ Some a → IsListed shown (shown_end true a.end)
   pub among : (j : ℕ) (s : Answer) → slice_get shown j ≡ Some s →
@@ -77,7 +77,7 @@ module _ (answers : List OutcomeAnswer) (n : ℕ) (a : OutcomeAnswer) (low : n <
         | inr early ↦ before i b early.1 at
       ]
 
-  -- an answer whose end is there
+  -- an answer whose end is listed already
   pub firsts_same : (shown new : List Answer) → new ≡ shown → IsListed shown (shown_end true a.end) → SoFar answers n shown → SoFar answers (n + 1) new
   firsts_same shown new is listed far = subst (SoFar answers (n + 1)) (sym is) record {
     covers = covered shown listed far.covers;
@@ -85,7 +85,7 @@ module _ (answers : List OutcomeAnswer) (n : ℕ) (a : OutcomeAnswer) (low : n <
     once = far.once;
   }
 
-  -- an answer whose end isn't there yet
+  -- an answer whose end isn't listed yet
   pub firsts_more : (shown new : List Answer) (s : Answer) → new ≡ shown ++ s ∷ [] → s ≡ shown_answer true a → (IsListed shown s.end → ⊥) →
       SoFar answers n shown → SoFar answers (n + 1) new
   firsts_more shown new s is made other far = subst (SoFar answers (n + 1)) (sym is) record {

@@ -26,14 +26,14 @@ map_at f [] j y e = absurd (cc)
 map_at f (x ∷ xs) zero y e = (x, refl, sym (same_Some (f x) y e))
 map_at f (x ∷ xs) (suc j) y e = map_at f xs j y e
 
--- each answer that is written is one of those that were found
+-- each written answer is one of the found answers
 from_found : (only_first : Bool) (answers : List OutcomeAnswer) (shown : List Answer) → AreShown only_first answers shown → (j : ℕ) (s : Answer) →
     slice_get shown j ≡ Some s → (i : ℕ) × (a : OutcomeAnswer) × (slice_get answers i ≡ Some a) × (s ≡ shown_answer only_first a)
 from_found true answers shown are j s at = let h = are.among j s at in (h.0, h.1, h.2, h.3)
 from_found false answers shown are j s at =
     let h = map_at (shown_answer false) answers j s (subst (λ l. slice_get l j ≡ Some s) are at) in (j, h.0, h.1, h.2)
 
--- its schedule can be spelled
+-- the schedules of the written answers can be spelled
 pub spellable : (only_first : Bool) (found : OutcomeExploration) (shown : Exploration) (most : ℕ) → most ≤ 1000000 → IsShown only_first found shown →
     All (λ a. All (λ f. f < 1000) a.schedule) found.answers.items → All (λ a. length a.schedule ≤ most) found.answers.items →
     All IsSpellable shown.answers
@@ -45,7 +45,7 @@ spellable only_first found shown most bound are numbers short = all_from IsSpell
       few = omega arith;
     })
 
--- the answer, where the wants are those of the order
+-- the answer, with the wants of the order
 pub answered : (json only_first : Bool) (t : Term) (limits : Limits) (bounds : Bounds) (timed : Bool) (wants ws : List Want) (note answer : List ℕ)
     (status : Status) (found : OutcomeExploration) (shown : Exploration) → ws ≡ wants → IsOutcomesOf (code_of (source_of t)) limits bounds timed found →
     IsShown only_first found shown → Shows json ws shown answer → status ≡ exploration_status ws shown → note ≡ missing_of_exploration ws shown →

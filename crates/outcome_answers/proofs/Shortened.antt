@@ -28,7 +28,7 @@ module _ {A : Type 0} (p : A → Bool) where
   kept_from true x xs (suc j) y is rest e = let h = rest j e in (suc h.0, h.1, h.2)
   kept_from false x xs j y is rest e = let h = rest j e in (suc h.0, h.1, h.2)
 
-  -- what is kept was there, and passes
+  -- an element that is kept is in the list, and passes
   pub filter_at : (xs : List A) (j : ℕ) (y : A) → slice_get (filter p xs) j ≡ Some y → (k : ℕ) × (slice_get xs k ≡ Some y) × (p y ≡ true)
   filter_at [] j y e = absurd (cc)
   filter_at (x ∷ xs) j y e = kept_from (p x) x xs j y refl (λ i. filter_at xs i y) e
@@ -46,7 +46,7 @@ module _ {A : Type 0} (p : A → Bool) where
   whole_step true x xs rest many = ap (λ l. x ∷ l) (rest (omega arith))
   whole_step false x xs rest many = absurd (let low = filter_shorter xs in omega arith)
 
-  -- as many as before are all
+  -- if as many elements are kept as there were, all are kept
   pub filter_whole : (xs : List A) → length (filter p xs) ≡ length xs → filter p xs ≡ xs
   filter_whole [] many = refl
   filter_whole (x ∷ xs) many = whole_step (p x) x xs (filter_whole xs) many
@@ -57,12 +57,12 @@ module _ {A : Type 0} (p : A → Bool) where
   lost_step true x xs is rest fewer = let h = rest (λ same. fewer (ap suc same)) in (suc h.0, h.1, h.2, h.3)
   lost_step false x xs is rest fewer = (0, x, refl, is)
 
-  -- where there are fewer, one doesn't pass
+  -- if fewer elements are kept, one doesn't pass
   pub filter_lost : (xs : List A) → length (filter p xs) ≢ length xs → (i : ℕ) × (y : A) × (slice_get xs i ≡ Some y) × (p y ≡ false)
   filter_lost [] fewer = absurd (fewer refl)
   filter_lost (x ∷ xs) fewer = lost_step (p x) x xs refl (filter_lost xs) fewer
 
--- ---- answers of which none is there twice
+-- ---- answers without repetition
 once_behind : (x : OutcomeAnswer) (xs : List OutcomeAnswer) → ListOnce (x ∷ xs) → ListOnce xs
 once_behind x xs once = λ i j a b low at bt. once (suc i) (suc j) a b (omega arith) at bt
 
@@ -85,7 +85,7 @@ module _ (p : OutcomeAnswer → Bool) where
   filter_once [] once = once
   filter_once (x ∷ xs) once = once_step (p x) x xs once (filter_once xs (once_behind x xs once))
 
--- two places of answers with one end are one
+-- two places of answers with the same end are the same place
 one_place : (xs : List OutcomeAnswer) → ListOnce xs → (i j : ℕ) (a b : OutcomeAnswer) → slice_get xs i ≡ Some a → slice_get xs j ≡ Some b →
     a.end ≡ b.end → i ≡ j
 one_place xs once i j a b at bt same =
@@ -113,14 +113,14 @@ module _ (code : Tree) (limits : Limits) (bounds : Bounds) (found kept : Outcome
     (answers_are : kept.answers.items ≡ filter (is_short bounds.entries) found.answers.items)
     (complete_is : kept.complete ≡ (found.complete && (length kept.answers.items == length found.answers.items)))
   where
-    -- where it is complete, all are kept
+    -- if the exploration is complete, all answers are kept
     whole : kept.complete ≡ true → (found.complete ≡ true) × (found.answers.items ≡ kept.answers.items)
     whole complete =
         let h = both_true found.complete _ (sym complete_is ∙ complete) in
         let many = eqb-true (length kept.answers.items) (length found.answers.items) h.1 in
         (h.0, sym (answers_are ∙ filter_whole (is_short bounds.entries) found.answers.items (sym (ap length answers_are) ∙ many)))
 
-    -- one that is left out isn't among the others
+    -- the end of an answer that is left out isn't among the others
     left_out : All (IsReached code limits) found.answers.items → ListOnce found.answers.items →
         length kept.answers.items ≢ length found.answers.items → IsPastEntries code limits bounds.entries kept.answers.items
     left_out each once fewer =
@@ -165,6 +165,6 @@ module _ (code : Tree) (limits : Limits) (bounds : Bounds) (found kept : Outcome
           leb-true _ _ (filter_passes (is_short bounds.entries) found.answers.items k d low));
     }
 
-    -- what holds of each schedule holds of those that are kept
+    -- a property of all found answers holds for all kept ones
     pub kept_all : (P : OutcomeAnswer → Type 0) → All P found.answers.items → All P kept.answers.items
     kept_all P h = subst (All P) (sym answers_are) (All-filter (is_short bounds.entries) P found.answers.items h)

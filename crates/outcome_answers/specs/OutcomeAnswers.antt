@@ -1,4 +1,4 @@
--- What is answered to a program whose outcomes are explored.
+-- The answer to a program whose outcomes are explored.
 use Rattle.std.specs.Prelude.{◌≡◌, ℕ, Bool, true, false, List}
 use Rattle.cell_registry.specs.declared.limits.Limits.{Limits}
 use Rattle.derived_ops.specs.Expansion.{code_of}
@@ -22,8 +22,9 @@ abbrev pub Shows : Bool → List Want → Exploration → List ℕ → Type 0
 Shows false wants shown answer = IsExplorationText wants shown answer
 Shows true wants shown answer = (d : Data) × IsOutcomesData wants shown d × (answer ≡ line_of_data d)
 
--- the answer and the status of the outcomes of the program within the bounds, of all fibers or of fiber 0 alone; the
--- time of the search was limited or wasn't, and the note has the lines of the wanted outcomes to which no answer comes
+-- the answer and the status of the outcomes of the program within the bounds, of all fibers or of fiber 0 alone;
+-- `timed` is whether the time of the search was limited, and the note has the lines of the wanted outcomes to which no
+-- answer leads
 pub record IsOutcomesAnswer (json only_first : Bool) (t : Term) (limits : Limits) (bounds : Bounds) (timed : Bool)
     (wants : List Want) (note answer : List ℕ) (status : Status) : Type 0
   where

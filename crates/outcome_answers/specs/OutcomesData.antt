@@ -19,7 +19,7 @@ abbrev pub bare_fiber : ℕ → Option Outcome → Data
 bare_fiber n outcome =
     object (member (codes "fiber") (count n) (member (codes "outcome") (outcome_data outcome) no_members))
 
--- fibers whose numbers go up from this one
+-- fibers with ascending numbers from `n`
 abbrev pub bare_items : ℕ → List FiberReport → Items
 bare_items n [] = no_items
 bare_items n (f ∷ fibers) = item (bare_fiber n f.outcome) (bare_items (n + 1) fibers)
@@ -36,24 +36,24 @@ bare_found schedule wanted (Ok r) = object (member (codes "report") (bare_report
 bare_found schedule wanted (Err e) = object (member (codes "fault") (fault_data e)
     (member (codes "schedule") (string schedule) (member (codes "wanted") (boolean wanted) no_members)))
 
--- an answer, which is listed as not wanted, or among the others
+-- an answer that is listed as not wanted, or among the others
 pub record IsBareData (unwanted : Bool) (a : Answer) (d : Data) : Type 0 where
   pub schedule : List ℕ
   pub spelled : SpellsEntries schedule a.schedule
   pub data_is : d ≡ bare_found schedule (not unwanted) a.end
 
--- answers, one behind the other
+-- answers, one after another
 abbrev pub AreBareData : Bool → List Answer → List Data → Type 0
 AreBareData unwanted [] ds = ds ≡ []
 AreBareData unwanted (a ∷ answers) ds = (d : Data) × (behind : List Data) × (ds ≡ d ∷ behind) ×
     IsBareData unwanted a d × AreBareData unwanted answers behind
 
--- those that are listed as not wanted, or the others
+-- the answers that are listed as not wanted, or the other answers
 abbrev pub IsBarePart : Bool → List Want → List Answer → List Data → Type 0
 IsBarePart unwanted wants answers ds = AreBareData unwanted (filter (λ a. is_listed_so unwanted wants a) answers) ds
 
--- answers, whether they are all, that they have no marks, and how many worlds were found; if there can be more, how
--- many bytes were counted, and whether the time was over, too
+-- answers, whether they are all, that they have no marks, and the number of worlds found; if there can be more answers:
+-- the number of bytes counted, and whether the time was over
 abbrev pub outcomes_data : Items → (complete halted : Bool) → (worlds bytes : ℕ) → Data
 outcomes_data answers true halted worlds bytes = object (member (codes "answer") (string (codes "exploration"))
     (member (codes "answers") (array answers) (member (codes "complete") (boolean true)

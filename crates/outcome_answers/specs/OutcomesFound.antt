@@ -11,18 +11,18 @@ use Rattle.every_outcome.specs.declared.outcomes.OutcomeAnswer.{OutcomeAnswer}
 use Rattle.every_outcome.specs.declared.outcomes.OutcomeExploration.{OutcomeExploration}
 use Rattle.every_outcome.specs.Outcomes.{IsCovered, IsListed, IsReached, ListOnce, counted, outcomes}
 
--- a schedule of more entries than this leads to outcomes that stay, or to a band whose numbers are used up, which isn't
--- among the answers
+-- a schedule of more than `entries` entries leads to outcomes that stay, or to a band whose numbers are used up, and
+-- these are not among the answers
 pub record IsPastEntries (code : Tree) (limits : Limits) (entries : ℕ) (answers : List OutcomeAnswer) : Type 0 where
   pub answer : OutcomeAnswer
   pub reached : IsReached code limits answer
   pub long : entries < length answer.schedule
   pub unlisted : IsListed answers answer.end → ⊥
 
--- An exploration of the outcomes of code under these limits, within these bounds, whose time was limited or wasn't.
--- If it is complete, the outcomes of every settled world are listed, and so are outcomes that no entry changes, under
--- whatever count. If not, a bound was met, or its time was over, which it says. Each answer is what its schedule leads
--- to, and no two answers are the same.
+-- An exploration of the outcomes of code within these limits and bounds; `timed` is whether its time was limited. If
+-- the exploration is complete, it lists the outcomes of every settled world, and the outcomes that no entry changes,
+-- for every limit on changes. If it isn't complete, it met a bound, or it is halted because its time was over. Each
+-- answer is what its schedule leads to, and no two answers have the same end.
 pub record IsOutcomesOf (code : Tree) (limits : Limits) (bounds : Bounds) (timed : Bool) (e : OutcomeExploration)
     : Type 0
   where

@@ -1,4 +1,4 @@
-//! The outcomes of a program, with schedules that are no longer than the bounds allow.
+//! The outcomes of a program, with schedules within the bounds.
 ghost use Rattle.std.specs.Prelude.{◌≡◌, ◌<◌, ◌==◌, ◌&&◌, IfOk, length, nat_le};
 ghost use Rattle.std.specs.List.{All, filter};
 ghost use Rattle.derived_ops.specs.Expansion.{code_of};
@@ -30,7 +30,7 @@ pub fn find_outcomes<V: Watcher>(
     Ok(shortened(found, order.bounds.entries))
 }
 
-// The same exploration, without the answers whose schedules have more entries than this.
+// The same exploration, without the answers whose schedules have more than `entries` entries.
 fn shortened(found: OutcomeExploration, entries: usize) -> OutcomeExploration
     ensures answers { result.answers.items ≡
         filter (λ a. nat_le (length a.schedule) entries) found.answers.items }

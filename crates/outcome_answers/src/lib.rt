@@ -1,9 +1,9 @@
-//! From a text that spells a program to the outcomes that its fibers can have under every schedule, in words or JSON.
+//! The outcomes that the fibers of a text's program can have under every schedule, in words or as JSON.
 //!
 //! The crate uses the search of outcomes (`every_outcome`), and explorations and their answers (`exploration_text`,
-//! `json_answers`, `outcome_trace`). The crate promises that what is written is exactly the text of the outcomes that
-//! such a search of the program finds, of all fibers or of fiber 0 alone, each below a schedule that leads to it, with
-//! the status of an exploration of these answers, or the refusal of a text that spells no program.
+//! `json_answers`, `outcome_trace`). The crate promises that the answer is exactly the text of the outcomes that the
+//! search finds, of all fibers or of fiber 0 alone, each below a schedule that leads to it. The status is that of an
+//! exploration with these answers. A text that spells no program is answered by its refusal.
 #![tactic(auto)]
 
 mod finding;

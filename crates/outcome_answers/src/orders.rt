@@ -1,4 +1,4 @@
-//! Orders to explore the outcomes of the program of a text, whatever its marks.
+//! Orders to explore the outcomes of a text's program, without marks.
 ghost use Rattle.std.specs.Prelude.{true, false};
 ghost use Rattle.outcome_answers.specs.OutcomeAnswers.{IsOutcomesAnswer};
 
@@ -15,12 +15,12 @@ use json_answers::{InJson, value_answer};
 use outcome_trace::{Answer, InWords};
 use std::alloc::{AllocError, Global};
 
-/// Answers the outcomes that the fibers of a program can have under every schedule ([`find_outcomes`]), in the form of
-/// an exploration ([`shown_exploration`]) and with its status. A text that is refused is answered by the line of its
+/// Answers with the outcomes that the fibers of a program can have under every schedule ([`find_outcomes`]), in the
+/// form of an exploration ([`shown_exploration`]) and with its status. A refused text is answered by the line of its
 /// refusal, with `Status::Refused`.
 #[derive(Drop)]
 pub struct OutcomesOrder {
-    /// What is explored, how far, and what is wanted.
+    /// The limits, the bounds and the wanted outcomes.
     pub order: ExploreOrder,
     /// Whether answers are compared and written by the outcome of fiber 0 alone.
     pub only_first: bool,
@@ -54,7 +54,7 @@ impl WatchedOrder for OutcomesOrder {
 /// Answers in JSON as [`OutcomesOrder`] does in words, with the same status.
 #[derive(Drop)]
 pub struct OutcomesJson {
-    /// What is explored, how far, and what is wanted.
+    /// The limits, the bounds and the wanted outcomes.
     pub order: ExploreOrder,
     /// Whether answers are compared and written by the outcome of fiber 0 alone.
     pub only_first: bool,

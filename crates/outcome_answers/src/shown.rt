@@ -1,4 +1,4 @@
-//! Outcomes as they are written: as an exploration whose reports have no marks.
+//! Outcomes as they are written: an exploration whose reports have no marks.
 ghost use Rattle.std.specs.Prelude.{◌≡◌, IfOk, false, map, true};
 ghost use Rattle.every_schedule.specs.Explored.{IsListed};
 ghost use Rattle.outcome_answers.specs.OutcomesShown.{AreFirsts, AreShown, IsShown, bare, shown_answer};
@@ -11,8 +11,8 @@ use every_schedule::{Answer, Answers, Exploration, Schedule};
 use outcome_trace::{FiberReport, FiberReports, Marks, Report, same_end};
 use std::alloc::{AllocError, Global};
 
-/// The outcomes of an exploration as they are written: each answer as a report without marks, of all fibers or of fiber
-/// 0 alone. Of answers that are then the same, only the first is kept. `AllocError` if memory ran out.
+/// The outcomes of an exploration as they are written: each answer is a report without marks, of all fibers or of fiber
+/// 0 alone. For fiber 0 alone, only the first of equal answers is kept. `AllocError` if memory ran out.
 pub fn shown_exploration(
     alloc: Global,
     found: &OutcomeExploration,
@@ -57,7 +57,7 @@ fn all_answers(alloc: Global, answers: &[OutcomeAnswer]) -> Result<Vec<Answer>, 
     Ok(shown)
 }
 
-// Of answers with the same outcome of fiber 0, or with the same fault, the first one, with the outcome of fiber 0.
+// For each outcome of fiber 0, and for each fault, the first answer that has it, with the outcome of fiber 0 alone.
 fn first_answers(alloc: Global, answers: &[OutcomeAnswer]) -> Result<Vec<Answer>, AllocError>
     ensures { IfOk result (λ shown. AreFirsts answers.now shown.items) }
 {
@@ -100,7 +100,7 @@ fn shown_answer(
     })
 }
 
-// Outcomes as a report, or the same fault.
+// Outcomes as a report, or the fault.
 fn shown_end(
     alloc: Global,
     end: &Result<Outcomes, RunError>,

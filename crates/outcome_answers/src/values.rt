@@ -16,10 +16,10 @@ use outcome_trace::{FiberReport, Report, schedule_text};
 use serde_json::{Value, json};
 use std::alloc::{AllocError, Global};
 
-/// An exploration as JSON, as `exploration_json` of `json_answers` writes it, but without marks: the reports have none,
-/// and the value says so.
+/// An exploration as JSON, as `exploration_json` of `json_answers` writes it, but without marks. The value says that
+/// reports have none.
 ///
-/// The entries of each schedule are at most 999, and it has at most 1,000,000. `AllocError` if memory ran out.
+/// Each schedule has at most 1,000,000 entries, each at most 999. `AllocError` if memory ran out.
 pub fn outcomes_json(
     alloc: Global,
     exploration: &Exploration,
@@ -42,8 +42,8 @@ pub fn outcomes_json(
     )
 }
 
-// Answers, whether they are all, and how many worlds were found; if there can be more, how many bytes were counted, and
-// whether the time was over, too.
+// Answers, whether they are all, and the number of worlds found. If there can be more answers: the number of bytes
+// counted, and whether the time was over.
 fn outcomes_value(
     alloc: Global,
     answers: Vec<Value>,
@@ -67,7 +67,7 @@ fn outcomes_value(
     }
 }
 
-// The answers that are listed as not wanted, or the others.
+// The answers that are listed as not wanted, or the other answers.
 fn part_values(
     alloc: Global,
     answers: &[Answer],
@@ -87,7 +87,7 @@ fn part_values(
     Ok(values)
 }
 
-// An answer, which is listed as not wanted, or among the others.
+// An answer that is listed as not wanted, or among the others.
 fn answer_value(alloc: Global, answer: &Answer, unwanted: bool) -> Result<Value, AllocError>
     requires { IsSpellable answer.now }
     ensures { IfOk result (λ value. IsBareData unwanted answer.now (view value)) }
@@ -117,7 +117,7 @@ fn found_value(
     }
 }
 
-// A report: of each fiber its number and its outcome.
+// A report: the number and the outcome of each fiber.
 fn report_value(alloc: Global, report: &Report) -> Result<Value, AllocError>
     ensures { IfOk result (λ value. view value ≡ bare_report report.now.fibers) }
 {
@@ -146,7 +146,7 @@ fn fiber_value(alloc: Global, number: usize, outcome: Option<Outcome>) -> Result
     json!(in alloc; {"fiber": number, "outcome": outcome})
 }
 
-// How a fiber ended, or that it didn't.
+// How a fiber ended, or that it hasn't ended.
 fn outcome_value(alloc: Global, outcome: Option<Outcome>) -> Result<Value, AllocError>
     ensures { IfOk result (λ value. view value ≡ outcome_data outcome) }
 {

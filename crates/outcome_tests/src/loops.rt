@@ -10,7 +10,7 @@ use std::test::Fail;
 // A program with an endless loop.
 struct Endless<'a> {
     program: &'a str,
-    // How many answers it has.
+    // The number of its answers.
     answers: usize,
 }
 
@@ -27,19 +27,19 @@ const ENDLESS: &[Endless<'static>] = &[
         program: "(forever (bracket x (pure 1) (cede) (say x)))",
         answers: 1,
     },
-    // The worker is cut outside its mask, so it has run its body as often as it has entered it.
+    // The worker is cut outside its mask, after it has run the whole body each time that it entered the mask.
     Endless {
         program: "(ref r 0 (start f (forever (uncancelable p (seq (set r 1) (set r 0)))) (seq (cancel f) (get r))))",
         answers: 1,
     },
-    // A spin lock that the worker holds and gives back in each turn; fiber 0 reads it.
+    // A spin lock that the worker holds and gives back in each round; fiber 0 reads it.
     Endless {
         program: "(ref lock 0 (start f (forever (bracket x (set lock 1) (cede) (set lock 0))) (get lock)))",
         answers: 2,
     },
 ];
 
-// The limits of small programs. The count plays no part, though each of these loops changes its cell more than once.
+// Limits for small programs. `count` plays no part: the loops with masks change their cell more than once.
 fn limits() -> Limits
     ensures { AreLimits result }
 {
@@ -52,7 +52,7 @@ fn limits() -> Limits
 }
 
 #[test]
-fn loops_with_masks_close(rt: HostRuntime) -> Result<(), Fail> {
+fn explorations_of_loops_with_masks_are_complete(rt: HostRuntime) -> Result<(), Fail> {
     let alloc = rt.alloc();
     let bounds = Bounds {
         worlds: 5_000,

@@ -1,4 +1,4 @@
-//! Programs that always end, whose outcomes are those of the exploration that keeps all marks.
+//! Programs that always end: their outcomes are those of the exploration that keeps all marks.
 
 ghost use Rattle.cell_registry.specs.Cells.{AreLimits};
 
@@ -30,7 +30,7 @@ const PROGRAMS: &[&'static str] = &[
     "(uncancelable p (start f (poll p (seq (canceled) (pure 3))) (join f x (pure x) y (raise y) (pure 9))))",
 ];
 
-// The limits of small programs.
+// Limits for small programs.
 fn limits() -> Limits
     ensures { AreLimits result }
 {
@@ -55,7 +55,7 @@ fn has_outcomes(fibers: &[FiberReport], outcomes: &[Option<Outcome>]) -> bool {
     true
 }
 
-// Whether an answer with marks ends as one without.
+// Whether an answer with marks and one without end alike.
 fn is_alike(one: &Answer, other: &OutcomeAnswer) -> bool {
     match (&one.end, &other.end) {
         (Ok(report), Ok(outcomes)) => {
@@ -66,7 +66,7 @@ fn is_alike(one: &Answer, other: &OutcomeAnswer) -> bool {
     }
 }
 
-// Whether an answer with marks ends as one of these.
+// Whether an answer with marks ends like one of those without.
 fn is_among(one: &Answer, others: &[OutcomeAnswer]) -> bool {
     for other in others {
         if is_alike(one, other) {
@@ -76,7 +76,7 @@ fn is_among(one: &Answer, others: &[OutcomeAnswer]) -> bool {
     false
 }
 
-// Whether one of these ends as an answer without marks.
+// Whether an answer without marks ends like one of those with marks.
 fn has_alike(ones: &[Answer], other: &OutcomeAnswer) -> bool {
     for one in ones {
         if is_alike(one, other) {
@@ -86,7 +86,7 @@ fn has_alike(ones: &[Answer], other: &OutcomeAnswer) -> bool {
     false
 }
 
-// Whether each answer with marks has one without, and the other way round.
+// Whether each answer with marks ends like one without, and the other way round.
 fn are_alike(ones: &[Answer], others: &[OutcomeAnswer]) -> bool {
     for one in ones {
         if !is_among(one, others) {

@@ -1,5 +1,5 @@
-//! A semaphore of two permits: a search that makes each move as an entry of its own keeps hundreds of thousands of
-//! worlds, and one with own moves at once some thousands.
+//! A semaphore of two permits. A search in which each move is an entry keeps hundreds of thousands of worlds, and a
+//! search that makes own moves at once some thousands.
 
 ghost use Rattle.cell_registry.specs.Cells.{AreLimits};
 
@@ -10,7 +10,7 @@ use outcome_trace::read_program;
 use std::test::Fail;
 
 // Three workers take a permit each, and one of them is canceled. Worker 3 sets `bad` if it finds two others inside.
-// Fiber 0 reads it when all workers have ended.
+// Fiber 0 reads `bad` when all workers have ended.
 const SEMAPHORE: &'static str = "
 (ref s 2 (ref in 0 (ref bad 0 (deferred g
   (start w1 (let n (modify s -1) (seq (if0 n (await g) (pure 0)) (modify in 1) (cede) (modify in -1)

@@ -40,7 +40,7 @@ impl Read for Broken {
     }
 }
 
-// What is written to the last device if another device fails, and the status.
+// What is written to the last device if the output fails after `room` bytes, and the status.
 fn told_of(alloc: Global, room: usize) -> (Vec<u8>, Status) {
     let mut err = Vec::new(alloc);
     let status = obey_explained(
@@ -55,14 +55,14 @@ fn told_of(alloc: Global, room: usize) -> (Vec<u8>, Status) {
 }
 
 #[test]
-fn a_failed_write_is_told_alone(rt: HostRuntime) {
+fn a_failed_write_is_reported_without_reasons(rt: HostRuntime) {
     let (told, status) = told_of(rt.alloc(), 5);
     assert_eq!(rt; told.as_slice(), b"fault 24 WriteFault 5\n" as &[u8]);
     assert_eq!(rt; status, Status::Fault);
 }
 
 #[test]
-fn a_failed_read_is_told_alone(rt: HostRuntime) {
+fn a_failed_read_is_reported_without_reasons(rt: HostRuntime) {
     let mut out = Vec::new(rt.alloc());
     let mut err = Vec::new(rt.alloc());
     let status = obey_explained(

@@ -43,7 +43,7 @@ fn sampled(alloc: Global, program: &str, seed: u64, times: u32) -> Result<Answer
 }
 
 #[test]
-fn samples_are_told_in_json(rt: HostRuntime) -> Result<(), Fail> {
+fn samples_have_the_expected_json(rt: HostRuntime) -> Result<(), Fail> {
     for (program, seed, times, want, status) in SAMPLED {
         let answer = sampled(rt.alloc(), *program, *seed, *times)?;
         assert_eq!(rt; str::from_utf8(answer.text.as_slice()), Ok(*want));
@@ -62,9 +62,9 @@ fn replayed(alloc: Global, program: &str) -> Result<Answer, AllocError> {
     order.answer(alloc, program.as_bytes())
 }
 
-// Holds with every request for memory refused in turn: an answer is whole.
+// Holds with every request for memory refused in turn: the answer is whole if there is one.
 #[test]
-fn json_is_told_whole_or_memory_ran_out(rt: HostRuntime) {
+fn json_is_whole_or_memory_ran_out(rt: HostRuntime) {
     if let Ok(answer) = replayed(rt.alloc(), "(seq (say 1) (pure 2))") {
         assert_eq!(rt;
             answer.text.as_slice(),

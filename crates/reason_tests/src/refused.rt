@@ -1,4 +1,4 @@
-//! The reasons of refused texts with bytes that no line of a file shows.
+//! The reasons of refused texts with bytes that a line of a golden file can't have.
 
 use reasons::{Reasons, TextReasons};
 use std::alloc::{AllocError, Global};
@@ -37,7 +37,7 @@ fn told(alloc: Global, text: &[u8]) -> Result<Vec<u8>, AllocError> {
 }
 
 #[test]
-fn reasons_are_told(rt: HostRuntime) -> Result<(), Fail> {
+fn refused_texts_have_the_expected_reasons(rt: HostRuntime) -> Result<(), Fail> {
     for it in REFUSED {
         let told = told(rt.alloc(), it.text)?;
         assert_eq!(rt; str::from_utf8(told.as_slice()), Ok(it.told));
@@ -45,7 +45,7 @@ fn reasons_are_told(rt: HostRuntime) -> Result<(), Fail> {
     Ok(())
 }
 
-// Holds with every request for memory refused in turn: reasons are whole.
+// Holds with every request for memory refused in turn: the reasons are whole if there are any.
 #[test]
 fn reasons_are_whole_or_memory_ran_out(rt: HostRuntime) {
     let text = b"(let total (pure 5) (start f (cede) (say totl)))";

@@ -1,4 +1,4 @@
--- What is known of fibers that wait, and of the lines that tell it.
+-- Why fibers haven't ended, and the lines that report it.
 use Rattle.std.proofs.Common.{◌≡◌, ◌≢◌, ◌⊎◌, inl, inr, ℕ, Result, Ok, Err, IfOk, OnOk, Vec, Global, ◌+◌, ◌<◌, ◌≤◌, Bool}
 use Rattle.std.proofs.Common.{List, [], ◌∷◌, ◌++◌, length, drop, get_or, refl, sym, ap, ◌∙◌, subst, append_assoc}
 use Rattle.std.proofs.Common.{append-nil, add-one, suc}
@@ -15,7 +15,7 @@ use Rattle.scheduled_core.specs.Whys.{IsWhy}
 use Rattle.scheduled_core.specs.declared.why.Why.{Why}
 use Rattle.reasons.specs.Whys.{AreWhyLines, IsUnendedText, fault, why_line}
 
--- with the lines of the fibers from this one on behind them, they are those of all
+-- these lines, followed by those of the fibers from number i on, are the lines of all fibers
 abbrev pub AreFront : Bool → Cells → List Fiber → ℕ → List ℕ → Type 0
 AreFront last s all i told =
     (behind : List ℕ) → AreWhyLines last s i (drop i all) behind → AreWhyLines last s 0 all (told ++ behind)

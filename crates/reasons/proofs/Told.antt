@@ -1,4 +1,4 @@
--- What is told of a text that is refused.
+-- The reasons of a refused text.
 use Rattle.std.proofs.Common.{◌≡◌, ◌≢◌, inl, inr, ℕ, List, ◌++◌, Some, None, Result, Ok, Err, IfOk, OnOk, Vec, Global, take, sym, subst}
 use Rattle.effect_term.specs.declared.refusal.TermError.{TermError}
 use Rattle.effect_term.specs.declared.refusal.TermError.TheVariants as term

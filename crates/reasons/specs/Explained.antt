@@ -7,8 +7,8 @@ use Rattle.text_io.specs.Exchange.{IsAnswered, IsRead}
 use Rattle.text_io.specs.FaultLines.{fault_line}
 use Rattle.text_io.specs.Telling.{Told, status_of}
 
--- Some of the possible reasons were written, or as much of their beginning as the device took before it failed; or
--- nothing was written.
+-- Possible reasons were written, all of them or the beginning that the device took before it failed; or nothing was
+-- written.
 abbrev pub TellsReasons : (List ℕ → Type 0) → Writer → Writer → Type 0
 TellsReasons Tells before after = ((told : List ℕ) × Tells told × Told told before after) ⊎ (after ≡ before)
 
@@ -19,7 +19,7 @@ TellsResult Tells (Ok s) input left before after =
     (text : List ℕ) × IsRead input left text × TellsReasons (Tells text) before after
 TellsResult Tells (Err fault) input left before after = Told (fault_line fault) before after
 
--- The text is answered as it is without reasons, and these are written, or there is a fault, and only the fault is
+-- The text is answered as without reasons, and its reasons are written; or there is a fault, and only the fault is
 -- written.
 pub record Explained (Answers : List ℕ → List ℕ → Status → Type 0) (Tells : List ℕ → List ℕ → Type 0)
     (before after : Devices) (status : Status) : Type 0 where

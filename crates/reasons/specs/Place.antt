@@ -2,7 +2,7 @@
 use Rattle.std.specs.Prelude.{◌==◌, ◌+◌, ℕ, List, [], ◌∷◌, if◌then◌else◌}
 use Rattle.reasons.specs.declared.place.Position.{Position}
 
--- the position behind these bytes, the first of which is at this line and column
+-- the position behind these bytes, where the first byte is at this line and column
 abbrev pub position_behind : ℕ → ℕ → List ℕ → Position
 position_behind line column [] = record { line = line; column = column }
 position_behind line column (b ∷ bs) =

@@ -30,7 +30,7 @@ place_of (parse.Trailing p) = Some p
 abbrev pub place_heading : Position → List ℕ
 place_heading at = codes "line " ++ (decimal at.line ++ (codes ", column " ++ (decimal at.column ++ codes ": ")))
 
--- the reasons of a term that passes a limit
+-- the reasons of a term that exceeds a limit
 abbrev pub limit_text : TermError → List ℕ
 limit_text term.NoMemory = []
 limit_text (term.Unbound slot) = []
@@ -39,7 +39,7 @@ limit_text (term.DeepMasks n) =
     codes "the program has " ++ (decimal n ++ (codes " masks below one another, and may have 250" ++ 10 ∷ []))
 limit_text term.Large = codes "the program's expansion has more than 1000000 words and marks" ++ 10 ∷ []
 
--- The reasons of a text: where its first fault is, or the limit that its term passes; the text of a program has none.
+-- The reasons of a text: where its first fault is, or the limit that its term exceeds. The text of a program has none.
 pub data IsTextReasons : List ℕ → List ℕ → Type 0 where
   at_fault : (text : List ℕ) (e : ParseError) (p : ℕ) (rest : List ℕ) → reading text ≡ Err e → place_of e ≡ Some p →
       IsTextReasons text (place_heading (position_of (take p text)) ++ rest)

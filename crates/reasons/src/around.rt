@@ -1,4 +1,4 @@
-//! The forms that are open at a place of a text, and the binders around it.
+//! The forms that are open at a place of a text, and the binders around the place.
 
 use crate::language::is_under;
 use effect_term::Kind;
@@ -12,7 +12,7 @@ pub(crate) struct Binder {
     pub start: usize,
     /// The place behind the name.
     pub end: usize,
-    /// Its kind.
+    /// The kind of the name.
     pub kind: Kind,
 }
 
@@ -23,17 +23,17 @@ pub(crate) struct OpenForm {
     pub word: Option<Word>,
     /// The number of its parts that have been read.
     pub next: usize,
-    /// The number of binders before its own.
+    /// The number of binders before the form's own.
     pub first: usize,
 }
 
 impl OpenForm {
-    /// The part that is wanted next.
+    /// The part that is expected next.
     pub fn part(&self) -> Option<Part> {
         parts_of(self.word?).get(self.next).copied()
     }
 
-    // Counts one more part. `More` remains the wanted part.
+    // Counts one more part. `More` remains the expected part.
     fn count(&mut self) {
         match self.part() {
             Some(Part::More) => {}
@@ -51,7 +51,7 @@ pub(crate) struct Around {
     pub binders: Vec<Binder>,
 }
 
-/// The surroundings of the end of a text that has no fault up to there.
+/// The open forms and the binders at the end of `front`, the beginning of a text, which has no fault.
 pub(crate) fn around_end(alloc: Global, front: &[u8]) -> Result<Around, AllocError> {
     let mut around = Around {
         forms: Vec::new(alloc),
@@ -70,7 +70,7 @@ pub(crate) fn around_end(alloc: Global, front: &[u8]) -> Result<Around, AllocErr
     Ok(around)
 }
 
-// The place of a token that begins with this byte, if it is neither a bracket nor space.
+// `at`, if this byte begins a name or a number.
 fn start_at(byte: u8, at: usize) -> Option<usize> {
     if is_name_byte(byte) || byte == b'-' {
         Some(at)
@@ -164,7 +164,7 @@ impl Around {
         Ok(seen)
     }
 
-    // Adds those of a form's binders that are around this part of it.
+    // Adds the form's binders whose scope contains this part.
     fn add_those(
         &self,
         seen: &mut Vec<Binder>,

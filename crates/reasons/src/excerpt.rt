@@ -3,14 +3,14 @@
 use crate::shown::push_shown;
 use std::alloc::{AllocError, Global};
 
-// The number of bytes of a line that are shown on either side of the place.
+// The most bytes of a line that are shown on each side of the place.
 const SIDE: usize = 48;
 
 // Replaces bytes of a line that are left out.
 const CUT: &[u8] = b"...";
 
-/// The line of a text that contains a place, indented by two, and a mark under the place. A long line is cut to the
-/// bytes near the place.
+/// Appends the line of a text that contains a place, indented by two, and a line with a mark under the place. A long
+/// line is cut to the bytes near the place.
 pub(crate) fn push_excerpt(
     alloc: Global,
     told: &mut Vec<u8>,

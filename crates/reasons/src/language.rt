@@ -1,4 +1,4 @@
-//! The words of the language and their parts, in the words of the reasons.
+//! How the reasons name the words of the language and their parts.
 
 use effect_term::Kind;
 use term_parse::{Part, Word};
@@ -65,7 +65,7 @@ pub(crate) fn wanted(part: Part) -> &'static str {
     }
 }
 
-/// A kind of name.
+/// The kind of a name, in words.
 pub(crate) fn kind_word(kind: Kind) -> &'static str {
     match kind {
         Kind::Value => "a value",
@@ -76,7 +76,7 @@ pub(crate) fn kind_word(kind: Kind) -> &'static str {
     }
 }
 
-/// Whether a term in this part is in the scope of the form's binder of this number.
+/// Whether a term in this part is in the scope of the form's binder with this number, from 0.
 pub(crate) fn is_under(part: Part, binder: usize) -> bool {
     match part {
         Part::Under(one) => one == binder,

@@ -8,11 +8,11 @@ ghost use Rattle.reasons.specs.Place.{position_of};
 pub struct Position {
     /// The number of its line, from 1.
     pub line: usize,
-    /// The number of bytes of the line before it, plus 1.
+    /// The number of bytes before it in its line, plus 1.
     pub column: usize,
 }
 
-/// The position of the byte behind the first `place` bytes, or of the text's end if it has no more.
+/// The position of the byte behind the first `place` bytes, or of the text's end if it has no more bytes.
 pub fn position_at(text: &[u8], place: usize) -> Position
     ensures { result ≡ position_of (take place text.now) }
 {

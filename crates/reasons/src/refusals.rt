@@ -41,8 +41,8 @@ pub(crate) fn place_heading(alloc: Global, at: Position) -> Result<Vec<u8>, Allo
     Ok(heading.into_bytes())
 }
 
-/// Why a term is refused that a text spells: the limit that it passes. Returns `AllocError` if memory ran out, also if
-/// that is the reason.
+/// Why a term is refused: the line about the limit that it exceeds. Returns `AllocError` if memory ran out here, or if
+/// `error` reports it.
 pub(crate) fn limit_reasons(alloc: Global, error: TermError) -> Result<Vec<u8>, AllocError>
     ensures told { IfOk result (λ told. told.items ≡ limit_text error) }
     ensures memory { OnOk result (error ≢ TermError.NoMemory) }
@@ -63,7 +63,7 @@ pub(crate) fn limit_reasons(alloc: Global, error: TermError) -> Result<Vec<u8>, 
     }
 }
 
-// What is wrong at the place, and all further lines.
+// What is wrong at the place, the line with a mark, and what the grammar expected.
 fn fault_text(
     alloc: Global,
     text: &[u8],
@@ -81,7 +81,7 @@ fn fault_text(
     Ok(told)
 }
 
-// What is wrong at the place.
+// Appends what is wrong at the place.
 fn push_fault(told: &mut Vec<u8>, error: ParseError, spelled: &[u8]) -> Result<(), AllocError> {
     match error {
         ParseError::UnknownWord(_)
@@ -107,7 +107,7 @@ fn push_fault(told: &mut Vec<u8>, error: ParseError, spelled: &[u8]) -> Result<(
     told.extend_from_slice(words)
 }
 
-// What the grammar expected at the place.
+// Appends what the grammar expected at the place.
 fn push_grammar(
     alloc: Global,
     told: &mut Vec<u8>,
@@ -170,7 +170,7 @@ fn is_word_wanted(around: &Around) -> bool {
     }
 }
 
-// The number of open brackets.
+// Appends the number of open brackets.
 fn push_open(told: &mut Vec<u8>, open: usize) -> Result<(), AllocError> {
     let mut digits = Buffer::new();
     told.extend_from_slice(b"brackets that are open: ")?;
@@ -179,7 +179,7 @@ fn push_open(told: &mut Vec<u8>, open: usize) -> Result<(), AllocError> {
     Ok(())
 }
 
-// The names around the place.
+// Appends the names around the place.
 fn push_names(
     alloc: Global,
     told: &mut Vec<u8>,
@@ -190,7 +190,7 @@ fn push_names(
     push_binders(told, text, binders.as_slice())
 }
 
-// The name that was possibly meant.
+// Appends the name that was possibly meant.
 fn push_near(
     alloc: Global,
     told: &mut Vec<u8>,

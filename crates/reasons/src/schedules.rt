@@ -12,8 +12,8 @@ use std::alloc::{AllocError, Global};
 use text_io::{ScheduleError, Status, TextOut, refuse_schedule, write_text};
 
 /// Reports that a schedule's text is bad, or that there was no memory for its entries, as [`refuse_schedule`] does.
-/// Behind the line of a bad text it writes the line and the column of the first bad item, the schedule with a mark
-/// under it, and what is wrong with it. If memory runs out for that, it is left out.
+/// After the line about a bad text, writes the line and the column of the first bad item, the schedule with a mark
+/// under the item, and what is wrong with the item. If memory runs out for these reasons, they are left out.
 pub fn explain_schedule<E: TextOut>(
     alloc: Global,
     schedule: &str,
@@ -61,7 +61,8 @@ fn item_text(alloc: Global, schedule: &[u8], place: usize) -> Result<Vec<u8>, Al
     Ok(told)
 }
 
-// Says that this can't be the next item. Before the end of the text, or before a second space, there is no item.
+// Appends that this can't be the next item, or that an item is missing: at the end of the text, or before a second
+// space.
 fn push_item(told: &mut Vec<u8>, item: &[u8]) -> Result<(), AllocError> {
     if item.is_empty() {
         return told.extend_from_slice(b"an item is missing\n");

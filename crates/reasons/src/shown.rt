@@ -5,8 +5,8 @@ ghost use Rattle.reasons.specs.Shown.{digit, shown, shown_byte};
 
 use std::alloc::AllocError;
 
-/// A byte as it is shown: itself if it is printable ASCII, a space for a tab or a carriage return, otherwise `\x` with
-/// its two hexadecimal digits.
+/// Appends a byte as it is shown: itself if it is printable ASCII, a space for a tab or a carriage return, otherwise
+/// `\x` with its two hexadecimal digits.
 pub(crate) fn push_byte(told: &mut Vec<u8>, byte: u8) -> Result<(), AllocError>
     ensures { OnOk result (told.new.items ≡ told.old.items ++ shown_byte byte) }
 {
@@ -21,7 +21,7 @@ pub(crate) fn push_byte(told: &mut Vec<u8>, byte: u8) -> Result<(), AllocError>
     }
 }
 
-/// Bytes as they are shown.
+/// Appends bytes as they are shown.
 pub(crate) fn push_shown(told: &mut Vec<u8>, bytes: &[u8]) -> Result<(), AllocError>
     ensures { OnOk result (told.new.items ≡ told.old.items ++ shown bytes.now) }
 {

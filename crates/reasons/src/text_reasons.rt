@@ -16,8 +16,8 @@ use std::alloc::{AllocError, Global};
 use term_parse::ParseError;
 
 /// Why a text is refused: the line and the column of its first fault, what is wrong there, the line of the text with a
-/// mark under the place, what the grammar expected there, the names around it, and one that was possibly meant; or the
-/// limit that its term passes. The text of a program has no reasons.
+/// mark under the place, what the grammar expected there, the names around the place, and one that was possibly meant;
+/// or the limit that its term exceeds. The text of a program has no reasons.
 #[derive(Clone, Copy)]
 pub struct TextReasons;
 
@@ -33,8 +33,8 @@ impl Reasons for TextReasons {
 }
 
 /// Why a text is refused, as [`TextReasons`] has it. For the text of a program, why each fiber hasn't ended under the
-/// schedule: what it waits for, or that it could still go on. If the schedule ends in a fault, its line reports it, and
-/// there are no reasons.
+/// schedule: what it waits for, or that it could still go on. If the schedule ends in a fault, there are no reasons,
+/// since the fault's line reports it.
 #[derive(Clone, Copy)]
 pub struct ReplayReasons<'a> {
     /// The fiber that moves next, from the first entry on.

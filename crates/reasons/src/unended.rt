@@ -15,7 +15,7 @@ use itoa::Buffer;
 use outcome_trace::{Why, enter_all, first_fibers, is_done, why_of};
 use std::alloc::{AllocError, Global};
 
-/// A line for each fiber of a program that hasn't ended under a schedule, with the reason. Empty if the schedule ends
+/// For each fiber of a program that hasn't ended under a schedule, a line with the reason. Empty if the schedule ends
 /// in a fault.
 pub(crate) fn unended_reasons(
     alloc: Global,

@@ -6,7 +6,7 @@ use crate::names::push_quoted;
 use std::alloc::AllocError;
 use term_parse::{Part, Word};
 
-/// A line that says what the innermost form expected next.
+/// Appends a line that says what the grammar expected next.
 pub(crate) fn push_wanted(told: &mut Vec<u8>, around: &Around) -> Result<(), AllocError> {
     let Some(form) = around.innermost() else {
         return told.extend_from_slice(b"a program is one term, as `(pure 1)`\n");
@@ -17,7 +17,7 @@ pub(crate) fn push_wanted(told: &mut Vec<u8>, around: &Around) -> Result<(), All
     push_part(told, word, form)
 }
 
-// The part of a form that was expected.
+// Appends the part of a form that was expected.
 fn push_part(told: &mut Vec<u8>, word: Word, form: OpenForm) -> Result<(), AllocError> {
     let Some(part) = form.part() else {
         return Ok(());

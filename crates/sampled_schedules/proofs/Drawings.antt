@@ -39,7 +39,7 @@ unended_so : (v : World) (end : Result Report RunError) → end ≡ reported (Ok
 unended_so v end is h =
     subst IsUnended (sym is) (h.0, fiber_report h.1, slice_get-map fiber_report v.fibers h.0 ∙ ap (option_map fiber_report) h.2, h.3)
 
--- what a walk from the first world comes to was drawn
+-- the end of a walk from the first world is a drawing
 pub drawn_of : (code : Tree) (k : Limits) (most : ℕ) (w v : World) (walked : Result Bool RunError) (s : List ℕ) (end : Result Report RunError) →
     w ≡ first_world code k → IsWalkOr walked k w [] v s most → walked ≢ Err run.NoMemory → IfOk walked (λ cut. cut ≡ false → IsFinal v) →
     IfOk walked (λ cut. cut ≡ true → (length s ≡ most) × HasUnendedFiber v.fibers) → end ≡ reported (came walked v) →
@@ -92,7 +92,7 @@ drawn_of code k most w v (Err e) s end first walked lacks final long is = elim w
       }
 ]
 
--- one more of them
+-- a property of all elements, with one more element at the front
 head_or : {A : Type 0} (P : A → Type 0) (x : A) (xs : List A) → P x → All P xs → (i : ℕ) (y : A) → slice_get (x ∷ xs) i ≡ Some y → P y
 head_or P x xs p h zero y e = subst P (same_Some x y e) p
 head_or P x xs p h (suc i) y e = all_at P xs i y e h

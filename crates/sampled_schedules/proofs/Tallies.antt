@@ -1,4 +1,4 @@
--- What is told of the schedules that were drawn, where one more is.
+-- The tally of the schedules that were drawn, after one more.
 use Rattle.std.proofs.Common.{◌≡◌, ◌≢◌, ◌⊎◌, inl, inr, ℕ, zero, suc, ◌+◌, ◌<◌, ◌≤◌, List, [], ◌∷◌, ◌++◌, length, set}
 use Rattle.std.proofs.Common.{get_or, Bool, true, false, Result, refl, sym, ap, ◌∙◌, subst, arith}
 use Rattle.std.specs.Prelude.{Some, ◌&&◌}
@@ -18,7 +18,7 @@ use Rattle.sampled_schedules.specs.declared.comings.Drawn.{Drawn}
 use Rattle.sampled_schedules.specs.Sampled.{AllCut, EndSo, IsFirst, IsTally, IsTold, SomeUncut, another, none, one_more}
 use Rattle.sampled_schedules.specs.Private.Noting.{Again, First, IsNoted, came_in_all, coming_of, raised}
 
--- ---- how many there are
+-- ---- the number of schedules
 raises : (cs : List Coming) (i : ℕ) (c : Coming) (cut : Bool) → slice_get cs i ≡ Some c → came_in_all (set cs i (raised c cut)) ≡ came_in_all cs + 1
 raises cs i c cut at =
     let times : Coming → ℕ = λ (x : Coming). x.times in
@@ -37,7 +37,7 @@ one_of cs i c at =
     let times : Coming → ℕ = λ (x : Coming). x.times in
     subst (λ (x : Coming). x.times ≤ came_in_all cs) (get_or_from_slice_get cs i c c at) (get_or-le-sum_by times cs i c (slice_get_within cs i c at))
 
--- ---- a coming behind one more answer is one of those before, or the new one
+-- ---- a coming after one more answer is one of those before, or the new one
 alone : {A : Type 0} (x y : A) (j : ℕ) → slice_get (x ∷ []) j ≡ Some y → x ≡ y
 alone x y zero e = same_Some x y e
 alone x y (suc j) e = absurd (cc)
@@ -55,7 +55,7 @@ sooner [] ys i x e = absurd (cc)
 sooner (y ∷ xs) ys zero x e = e
 sooner (y ∷ xs) ys (suc i) x e = sooner xs ys i x e
 
--- what holds of the answers
+-- a property of the answers
 pub all_noted : (P : Answer → Type 0) (cs : List Coming) (a : Drawn) (ds : List Coming) → IsNoted cs a ds → All (λ (c : Coming). P c.answer) cs →
     P a.answer → All (λ (c : Coming). P c.answer) ds
 all_noted P cs a ds (Again i c at same is) h p = all_from (λ (c : Coming). P c.answer) ds (λ j b e.
@@ -78,7 +78,7 @@ further : (drawn : List Drawn) (a : Drawn) (b : Answer) (place i : ℕ) (x : Dra
 further drawn a b place zero x earlier low e = absurd (omega arith)
 further drawn a b place (suc i) x earlier low e = earlier i x (omega arith) e
 
--- what was first stays so
+-- the first schedule with an end stays the first
 first_yet : (drawn : List Drawn) (a : Drawn) (b : Answer) → IsFirst drawn b → IsFirst (a ∷ drawn) b
 first_yet drawn a b f = record {
   place = suc f.place;
@@ -88,7 +88,7 @@ first_yet drawn a b f = record {
   earlier = λ i x low e. further drawn a b f.place i x f.earlier low e;
 }
 
--- no schedule that was drawn ends as this one does
+-- no schedule that was drawn has the same end as `a`
 abbrev NoneSo : List Drawn → Drawn → Type 0
 NoneSo drawn a = (i : ℕ) (x : Drawn) → slice_get drawn i ≡ Some x → x.answer.end ≢ a.answer.end
 
@@ -97,24 +97,24 @@ past : (drawn : List Drawn) (a : Drawn) → NoneSo drawn a → (i : ℕ) (x : Dr
 past drawn a others zero x low e = absurd (omega arith)
 past drawn a others (suc i) x low e = others i x e
 
--- the last one is the first that ends so where nothing told does
+-- the last schedule is the first with its end, if no earlier one has this end
 first_now : (drawn : List Drawn) (a : Drawn) → NoneSo drawn a → IsFirst (a ∷ drawn) a.answer
 first_now drawn a others = record { place = 0; one = a; here = refl; answer = refl; earlier = λ i x low e. past drawn a others i x low e }
 
--- none of these ends so
+-- none of these schedules has this end
 none_so : (end : Result Report RunError) (drawn : List Drawn) → ((i : ℕ) (x : Drawn) → slice_get drawn i ≡ Some x → x.answer.end ≢ end) →
     EndSo end drawn 0
 none_so end [] h = none
 none_so end (x ∷ drawn) h = another x drawn 0 (h 0 x refl) (none_so end drawn (λ i y e. h (suc i) y e))
 
--- each of these is told, and so is the last one
+-- the ends of these schedules and of the last one are in the tally
 told_all : (drawn : List Drawn) (a : Drawn) (ds : List Coming) → ((i : ℕ) (x : Drawn) → slice_get drawn i ≡ Some x → IsTold ds x.answer.end) →
     IsTold ds a.answer.end → (i : ℕ) (x : Drawn) → slice_get (a ∷ drawn) i ≡ Some x → IsTold ds x.answer.end
 told_all drawn a ds before now zero x e = subst (λ (y : Drawn). IsTold ds y.answer.end) (same_Some a x e) now
 told_all drawn a ds before now (suc i) x e = before i x e
 
--- ---- whether all were cut short
--- all that end so were, and the last one was, if it ends so
+-- ---- whether all schedules with an end were cut short
+-- all schedules with this end were, and the last one was if it has this end
 cut_yet : (drawn : List Drawn) (a : Drawn) (end : Result Report RunError) → AllCut drawn end → (a.answer.end ≡ end → a.cut ≡ true) →
     (i : ℕ) (x : Drawn) → slice_get (a ∷ drawn) i ≡ Some x → x.answer.end ≡ end → x.cut ≡ true
 cut_yet drawn a end before now zero x e q =
@@ -147,13 +147,13 @@ module _ (drawn : List Drawn) (cs : List Coming) (a : Drawn) (tally : IsTally dr
   here : slice_get now i ≡ Some more
   here = slice_get-set_same cs i c more at
 
-  -- it is the one that was raised, or another of those before
+  -- a coming is the one that was raised, or another of those before
   which : (j : ℕ) (b : Coming) → slice_get now j ≡ Some b → ((i ≡ j) × (more ≡ b)) ⊎ ((i ≢ j) × (slice_get cs j ≡ Some b))
   which j b e = dite (ℕ_discrete i j)
       (λ it. inl (it, same_Some more b (sym here ∙ subst (λ n. slice_get now n ≡ Some b) (sym it) e)))
       (λ apart. inr (apart, sym (slice_get-set_other cs i j more apart) ∙ e))
 
-  -- one of those before has its answer
+  -- one of the comings before has the answer of this coming
   before : (j : ℕ) (b : Coming) → slice_get now j ≡ Some b → (d : Coming) × (slice_get cs j ≡ Some d) × (d.answer ≡ b.answer)
   before j b e = elim (which j b e) [
     | inl it ↦ (c, subst (λ n. slice_get cs n ≡ Some c) it.0 at, ap (λ (x : Coming). x.answer) it.1)
@@ -215,14 +215,14 @@ module _ (drawn : List Drawn) (cs : List Coming) (a : Drawn) (tally : IsTally dr
   abbrev longer : List Coming
   longer = cs ++ one ∷ []
 
-  -- it is one of those before, or the new one
+  -- a coming is one of those before, or the new one
   whose : (j : ℕ) (b : Coming) → slice_get longer j ≡ Some b → (slice_get cs j ≡ Some b) ⊎ ((j ≡ length cs) × (one ≡ b))
   whose j b e = elim (parted cs (one ∷ []) j b e) [
     | inl h ↦ inl h
     | inr h ↦ inr (let zero_is = alone_at one b h.0 h.2 in let is = h.1 in omega arith, alone one b h.0 h.2)
   ]
 
-  -- no answer that was drawn ends so
+  -- no answer that was drawn has this end
   others : (i : ℕ) (x : Drawn) → slice_get drawn i ≡ Some x → x.answer.end ≢ a.answer.end
   others i x e = λ q. let h = tally.all i x e in new h.0 h.1 h.2 (h.3 ∙ q)
 

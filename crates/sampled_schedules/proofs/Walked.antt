@@ -38,7 +38,7 @@ entry_walked k w v (Err e) before after f is low goes stops = elim stops [
   | inr q ↦ inr (one_walked k w (Err e) before after f is low q)
 ]
 
--- entries behind those that led so far
+-- further entries after those so far
 on : (k : Limits) (w v : World) (x : Result World RunError) (a b c : List ℕ) (m n most : ℕ) → IsWalk k w a (Ok v) b m → IsWalk k v b x c n →
     m + n ≤ most → IsWalk k w a x c most
 on k w v x a b c m n most first next room = record {
@@ -47,7 +47,7 @@ on k w v x a b c m n most first next room = record {
   short = let one = first.short in let other = next.short in omega arith;
 }
 
--- or memory ran out
+-- memory ran out, or the entries are a walk
 abbrev pub IsWalkOr : {A : Type 0} → Result A RunError → Limits → World → List ℕ → World → List ℕ → ℕ → Type 0
 IsWalkOr r k w before x after most = (r ≡ Err run.NoMemory) ⊎ IsWalk k w before (came r x) after most
 
@@ -58,7 +58,7 @@ further r k l w v x a b c m n most same first next room = elim next [
   | inr goes ↦ inr (on k w v (came r x) a b c m n most first (subst (λ (l : Limits). IsWalk l v b (came r x) c n) same goes) room)
 ]
 
--- what ends with an error ends so whatever it gives else
+-- an error stays the same with another type of values
 error_of : {A : Type 0} → Result A RunError → RunError
 error_of (Ok a) = run.NoMemory
 error_of (Err e) = e
@@ -69,19 +69,19 @@ unfolding error_of
 erred e k w x a c n (inl lacks) = inl (ap Err (ap error_of lacks))
 erred e k w x a c n (inr goes) = inr goes
 
--- where it went well, memory didn't run out
+-- without an error, memory didn't run out
 pub went : {A : Type 0} (d : A) (k : Limits) (w x : World) (a c : List ℕ) (n : ℕ) → IsWalkOr (Ok d) k w a x c n → IsWalk k w a (Ok x) c n
 went d k w x a c n h = elim h [ inl lacks ↦ absurd (cc) | inr goes ↦ goes ]
 
 pub started : (k : Limits) (w : World) (a : List ℕ) (most : ℕ) → IsWalk k w a (Ok w) a most
 started k w a most = record { leads = λ code h. h; numbers = λ h. h; short = omega arith }
 
--- so many more at most, if the list is no longer
+-- a walk makes at most `most` entries, if its list is at most this much longer
 pub within : (k : Limits) (w : World) (x : Result World RunError) (a c : List ℕ) (n most : ℕ) → IsWalk k w a x c n → length c ≤ length a + most →
     IsWalk k w a x c most
 within k w x a c n most walk room = record { leads = walk.leads; numbers = walk.numbers; short = room }
 
--- whatever entries follow, the report stays
+-- no further entries change the report
 abbrev pub Stays : Limits → World → Type 0
 Stays k w = (s : List ℕ) → reported (fold (entered k) (Ok w) s) ≡ reported (Ok w)
 

@@ -40,7 +40,7 @@ impl Model for Comings {
 }
 
 impl Comings {
-    /// These.
+    /// Returns the list of these ends.
     pub fn new(comings: Vec<Coming>) -> Comings
         ensures { result ≡ comings.items }
     {

@@ -32,8 +32,8 @@ impl Draws {
         self.generator.next_u32() % bound
     }
 
-    /// The number of entries that one fiber has in a row. Half of these are 1, and some are large, so that sometimes
-    /// one fiber goes far while another doesn't move.
+    /// The number of entries that one fiber makes in a row. More than half of these are 1, and some are large, so that
+    /// sometimes one fiber goes far while another doesn't move.
     pub(crate) fn row(&mut self) -> u32
         ensures { 1 ≤ result }
     {

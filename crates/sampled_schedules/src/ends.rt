@@ -21,7 +21,7 @@ pub(crate) fn same_end(one: &Result<Report, RunError>, other: &Result<Report, Ru
     }
 }
 
-// Whether the fibers are equally many, with equal reports.
+// Whether both lists have the same number of fibers, with equal reports.
 fn same_reports(one: &[FiberReport], other: &[FiberReport]) -> bool
     ensures same { result ≡ true → one.now ≡ other.now }
     ensures other { result ≡ false → one.now ≢ other.now }

@@ -28,15 +28,15 @@ use fiber_frames::Config;
 use scheduled_core::{Report, first_fibers, report_of_fibers};
 use std::alloc::{AllocError, Global};
 
-/// Draws random schedules of a program from a seed, and returns their ends: the different reports and faults, the
-/// number of schedules with each, and the first of these, as `replay` takes it.
+/// Draws random schedules of a program from a seed, and returns their ends: the different reports and faults, each with
+/// the number of its schedules and the first of these, in the form that `replay` takes.
 ///
-/// Each entry is of a fiber that can go on, chosen among all of these. The chosen fiber has a number of entries in a
+/// Each entry is of a fiber that can go on, chosen among all of these. The chosen fiber makes a number of entries in a
 /// row, usually few and sometimes many. A schedule ends if every fiber has ended or rests, if a call is refused, or if
 /// it has the greatest number of entries. So no further entry changes the report of a shorter schedule, and a complete
-/// exploration lists this report. A report is marked as cut short if each of its schedules was, since more entries can
-/// still change it. The same seed gives the same sample on every machine. The limits are in their ranges ([`Limits`]).
-/// [`RunError::NoMemory`] is the only error.
+/// exploration lists this report. A report is marked as cut short if each of its schedules was, since further entries
+/// can still change it. The same seed gives the same sample on every machine. The limits are in their ranges
+/// ([`Limits`]). [`RunError::NoMemory`] is the only error.
 pub fn sample(
     alloc: Global,
     program: &Program,
@@ -64,8 +64,8 @@ pub fn sample(
     sample_watched(alloc, program, limits, seed, times, entries, &mut Unwatched)
 }
 
-/// The same ([`sample`]), while it is watched: the watcher hears before each schedule how many were drawn, and can end
-/// the sample then, which has those that were drawn. A watcher that can't end it leaves all of them.
+/// Samples as [`sample`] does. Before each schedule the watcher gets the number of schedules that were drawn, and can
+/// end the sample, which then has these schedules. A watcher that can't end the sample leaves all of them.
 pub fn sample_watched<V: Watcher>(
     alloc: Global,
     program: &Program,
@@ -201,7 +201,7 @@ fn note(comings: &mut Vec<Coming>, drawn: Drawn) -> Result<(), AllocError>
     Ok(())
 }
 
-// Counts one more schedule with this end, which was cut short or wasn't.
+// Counts one more schedule with this end; `cut` is whether it was cut short.
 fn raise(coming: &mut Coming, cut: bool)
     requires { coming.old.times + 1 < 2 ^ 32 }
     ensures { coming.new ≡ raised coming.old cut }

@@ -12,8 +12,8 @@ use fiber_frames::Config;
 use scheduled_core::{enter, is_done};
 use std::alloc::AllocError;
 
-/// Draws entries until no fiber can go on, or there are as many as there can be. Returns whether they were cut short:
-/// there are as many as there can be, and a fiber could still go on.
+/// Draws entries until no fiber can go on, or the schedule has `most` entries. Returns whether it was cut short: it has
+/// `most` entries, and a fiber could still go on.
 pub(crate) fn walk(
     fibers: &mut Vec<Config>,
     registry: &mut PlainRegistry,
@@ -75,7 +75,7 @@ fn pick(fibers: &[Config], registry: &PlainRegistry, draws: &mut Draws) -> Optio
     picked
 }
 
-// Makes entries of one fiber in a row: `many`, or as many as it can make, and at least one.
+// Makes entries of one fiber in a row: at most `many`, until the fiber can't go on, and at least one.
 fn make_row(
     fibers: &mut Vec<Config>,
     registry: &mut PlainRegistry,

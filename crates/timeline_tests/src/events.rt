@@ -9,7 +9,7 @@ use outcome_trace::{read_program, read_schedule};
 use std::alloc::Global;
 use std::test::Fail;
 
-// The result of a program under a schedule, with its events, with this number of fibers.
+// The events of a program under a schedule, with this number of fibers, and how the replay ended.
 fn told(alloc: Global, program: &str, schedule: &str, fibers: u16) -> Result<Told, Fail> {
     let Ok(program) = read_program(alloc, program.as_bytes()) else {
         return Err(Fail::new("no program"));
@@ -40,7 +40,7 @@ fn own(entry: usize, deed: Deed, mark: Option<Mark>) -> Event {
 
 // The events are looks, a request, a cut and an end, with their replies.
 #[test]
-fn a_request_is_told_with_its_replies(rt: HostRuntime) -> Result<(), Fail> {
+fn events_of_a_request_have_its_replies(rt: HostRuntime) -> Result<(), Fail> {
     let told = told(rt.alloc(), "(canceled)", "0*6", 16)?;
     let asked = Reply::Cancel(CancelReply::Asked);
     let wanted = [
@@ -56,9 +56,10 @@ fn a_request_is_told_with_its_replies(rt: HostRuntime) -> Result<(), Fail> {
     Ok(())
 }
 
-// The events are moves of the fiber's own, and a wait for nothing; an entry that moves no fiber has no event.
+// The events are a look, a mask, moves that make no call, and a wait without end; an entry that moves no fiber has
+// none.
 #[test]
-fn own_moves_are_told(rt: HostRuntime) -> Result<(), Fail> {
+fn own_moves_have_events(rt: HostRuntime) -> Result<(), Fail> {
     let told = told(
         rt.alloc(),
         "(uncancelable p (seq (say 0) (never)))",
@@ -78,7 +79,7 @@ fn own_moves_are_told(rt: HostRuntime) -> Result<(), Fail> {
     Ok(())
 }
 
-// A refused entry has no event, and those behind it have none.
+// A refused entry has no event, and no entry after it has one.
 #[test]
 fn events_end_before_a_fault(rt: HostRuntime) -> Result<(), Fail> {
     let told = told(rt.alloc(), "(start f (pure 1) (pure 2))", "0*5", 1)?;

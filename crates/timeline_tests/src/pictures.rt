@@ -6,7 +6,7 @@ use std::alloc::Global;
 use std::str;
 use std::test::Fail;
 
-// A program under a schedule, and the shapes of its picture, with their numbers. The legend has one of each.
+// A program under a schedule, and how often each shape is in its picture, the legend included.
 struct Shown<'a> {
     // The rule that it shows.
     rule: &'a str,
@@ -108,7 +108,7 @@ const SHOWN: &[Shown<'static>] = &[
     },
 ];
 
-// A small picture behind its style, whole.
+// The whole text of a small picture behind its style.
 const SMALL: &str = " width=\"100%\" height=\"100%\"/>\n\
     <text class=\"faint\" x=\"16\" y=\"20\">entry</text>\n\
     <text class=\"faint small\" x=\"84\" y=\"20\">0</text>\n\
@@ -169,7 +169,7 @@ fn is_shown(alloc: Global, it: &Shown<'_>) -> Result<bool, Fail> {
 }
 
 #[test]
-fn pictures_have_shapes(rt: HostRuntime) -> Result<(), Fail> {
+fn pictures_have_the_expected_shapes(rt: HostRuntime) -> Result<(), Fail> {
     for it in SHOWN {
         assert!(rt; is_shown(rt.alloc(), it)?, "{}", it.rule);
     }
@@ -195,7 +195,7 @@ fn a_small_picture_is_drawn_whole(rt: HostRuntime) -> Result<(), Fail> {
     Ok(())
 }
 
-// The sign of a finalizer's mark follows the bar of the finalizers in the text, and so is drawn over it.
+// In the text, the sign of a finalizer's mark follows the bar of the finalizers, so the sign is drawn over the bar.
 #[test]
 fn signs_are_drawn_over_their_bars(rt: HostRuntime) -> Result<(), Fail> {
     let program = "(oncancel (seq (canceled) (say 1)) (say 2))";

@@ -10,7 +10,7 @@ use Rattle.scheduled_core.specs.declared.report.Report.{Report}
 use Rattle.outcome_trace.specs.ReplayAnswers.{IsRunAnswer, reports, faults, replayed}
 use Rattle.timelines.specs.TimelineAnswers.{IsToldAnswer, end_status, end_text}
 
--- what a run came to is what is answered without a timeline
+-- the end of a run gives the answer without a timeline
 runs : (t : Term) (s : List ℕ) (k : Limits) (end : Result Report RunError) → replayed t k s ≡ end → IsRunAnswer t s k (end_text end) (end_status end)
 runs t s k (Ok r) e = reports r e
 runs t s k (Err x) e = faults x e

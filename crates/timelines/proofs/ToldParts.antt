@@ -9,7 +9,7 @@ use Rattle.exploration_text.specs.ExplorationText.{is_listed_so}
 use Rattle.exploration_text.proofs.Parts.{from_here}
 use Rattle.timelines.specs.ExploreTimelines.{AreToldTexts, IsToldPart, IsToldText}
 
--- with the text of the answers from this one on behind it, it is that of all
+-- this text and the text of the answers from the index `i` on are the text of all answers
 abbrev pub IsFront : Bool → List Want → List Answer → ℕ → List ℕ → Type 0
 IsFront u wants all i text =
     (behind : List ℕ) → IsToldPart u wants (drop i all) behind → IsToldPart u wants all (text ++ behind)

@@ -1,4 +1,4 @@
--- The answers to a text whose program is explored, with a timeline behind each answer.
+-- The answers to a text whose program is explored, with a timeline after each answer.
 use Rattle.std.specs.Prelude.{◌≡◌, ℕ, Bool, true, false, List, [], ◌∷◌, ◌++◌, Ok}
 use Rattle.std.specs.List.{filter}
 use Rattle.cell_registry.specs.declared.limits.Limits.{Limits}
@@ -22,13 +22,13 @@ pub record IsToldText (unwanted : Bool) (a : Answer) (text : List ℕ) : Type 0 
   pub text_is : text ≡ front ++ 10 ∷ timeline
   pub answer_is : IsAnswerText unwanted a front
 
--- such texts of answers, one after another
+-- the texts of answers with timelines, one after another
 abbrev pub AreToldTexts : Bool → List Answer → List ℕ → Type 0
 AreToldTexts unwanted [] text = text ≡ []
 AreToldTexts unwanted (a ∷ answers) text = (front : List ℕ) × (behind : List ℕ) × (text ≡ front ++ behind) ×
     IsToldText unwanted a front × AreToldTexts unwanted answers behind
 
--- the texts of the answers that are listed as unwanted, or of the others
+-- the texts of the answers that are listed as unwanted, or of the other answers
 abbrev pub IsToldPart : Bool → List Want → List Answer → List ℕ → Type 0
 IsToldPart unwanted wants answers text =
     AreToldTexts unwanted (filter (λ a. is_listed_so unwanted wants a) answers) text
@@ -41,8 +41,8 @@ pub record IsToldExploration (wants : List Want) (e : Exploration) (text : List 
   pub unwanted_is : IsToldPart true wants e.answers unwanted
   pub others_are : IsToldPart false wants e.answers others
 
--- the text of an exploration of the program, with timelines, and the status of the exploration, whose time was limited
--- or wasn't
+-- the text of an exploration of the program, with timelines, and the status of the exploration; `timed` is whether its
+-- time was limited
 pub record IsToldExplored (t : Term) (limits : Limits) (bounds : Bounds) (timed : Bool) (wants : List Want)
     (answer : List ℕ) (status : Status) : Type 0
   where
@@ -51,15 +51,14 @@ pub record IsToldExplored (t : Term) (limits : Limits) (bounds : Bounds) (timed 
     pub text_is : IsToldExploration wants exploration answer
     pub status_is : status ≡ exploration_status wants exploration
 
--- such a text and status, beside the lines of the wanted outcomes to which no answer comes
+-- the same text and status; the note has the lines of the wanted outcomes to which no answer leads
 pub record IsNotedTold (t : Term) (limits : Limits) (bounds : Bounds) (timed : Bool) (wants : List Want)
     (note answer : List ℕ) (status : Status) : Type 0
   where
     pub told : IsToldExplored t limits bounds timed wants answer status
     pub note_is : note ≡ missing_of_exploration wants told.exploration
 
--- the answer to a text under limits, with its status: a refusal, or the exploration of the program that the text
--- spells, with timelines
+-- the answer to a text under limits, with its status: a refusal, or the exploration of its program, with timelines
 abbrev pub IsExploreTimeline : Limits → Bounds → (timed : Bool) → List Want → List ℕ → List ℕ → Status → Type 0
 IsExploreTimeline limits bounds timed wants =
     IsProgramAnswer IsRefusalAnswer (λ t. IsToldExplored t limits bounds timed wants)

@@ -10,14 +10,14 @@ use Rattle.outcome_trace.specs.Answers.{IsProgramAnswer, IsRefusalAnswer}
 use Rattle.outcome_trace.specs.Lines.{run_line}
 use Rattle.outcome_trace.specs.ReplayAnswers.{replayed, report_status}
 
--- the answer to a program under a schedule and limits, with its status: a picture if the core has a report, or the
--- fault of the core
+-- the answer to a program under a schedule and limits, with its status: a picture if the core has a report, or the line
+-- of the core's fault
 pub data IsPicturedAnswer (t : Term) (schedule : List ℕ) (limits : Limits) : List ℕ → Status → Type 0 where
   pictures : (r : Report) (picture : List ℕ) → replayed t limits schedule ≡ Ok r →
       IsPicturedAnswer t schedule limits picture (report_status r.fibers)
   faults : (e : RunError) → replayed t limits schedule ≡ Err e →
       IsPicturedAnswer t schedule limits (run_line e) ends.Fault
 
--- the answer to a text: a refusal, or the answer to the program that it spells
+-- the answer to a text: a refusal, or the answer to its program
 abbrev pub IsPictureAnswer : List ℕ → Limits → List ℕ → List ℕ → Status → Type 0
 IsPictureAnswer schedule limits = IsProgramAnswer IsRefusalAnswer (λ t. IsPicturedAnswer t schedule limits)

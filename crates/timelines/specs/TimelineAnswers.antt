@@ -11,7 +11,7 @@ use Rattle.outcome_trace.specs.Lines.{run_line}
 use Rattle.outcome_trace.specs.ReplayAnswers.{IsRunAnswer, report_status}
 use Rattle.outcome_trace.specs.ReportText.{text_of_fibers}
 
--- the text of the end of a run, and its status: of a report, or of a fault
+-- the text of the end of a run, and its status: those of a report, or of a fault
 abbrev pub end_text : Result Report RunError → List ℕ
 end_text (Ok r) = text_of_fibers r.fibers
 end_text (Err e) = run_line e
@@ -29,6 +29,6 @@ pub record IsToldAnswer (t : Term) (schedule : List ℕ) (limits : Limits) (answ
     pub text_is : answer ≡ front ++ 10 ∷ timeline
     pub runs : IsRunAnswer t schedule limits front status
 
--- the answer to a text: a refusal, or the answer to the program that it spells, with a timeline
+-- the answer to a text: a refusal, or the answer to its program, with a timeline
 abbrev pub IsTimelineAnswer : List ℕ → Limits → List ℕ → List ℕ → Status → Type 0
 IsTimelineAnswer schedule limits = IsProgramAnswer IsRefusalAnswer (λ t. IsToldAnswer t schedule limits)

@@ -1,4 +1,4 @@
-//! The arrows of a picture: which fiber starts, cancels or wakes which.
+//! The arrows of a picture: a fiber starts, cancels or wakes another one.
 
 use crate::scale::{BAR, Scale};
 use crate::shapes::{Place, push_line};
@@ -29,7 +29,7 @@ struct Wakes {
     waits: Vec<bool>,
 }
 
-/// The arrows, over all lanes.
+/// Draws the arrows, over all lanes.
 pub(crate) fn push_arrows(
     alloc: Global,
     text: &mut String,
@@ -50,7 +50,7 @@ pub(crate) fn push_arrows(
     Ok(())
 }
 
-// The arrow of a start or a request.
+// Draws the arrow of a start or of a request.
 fn push_down(
     text: &mut String,
     scale: Scale,
@@ -76,7 +76,7 @@ fn push_down(
     }
 }
 
-// An arrow from one lane to another, if both are drawn.
+// Draws an arrow from one lane to another, if both fibers have lanes.
 fn push_arrow(
     text: &mut String,
     class: &str,
@@ -107,7 +107,7 @@ fn edge(scale: Scale, fiber: usize, lower: bool) -> usize {
 }
 
 impl Wakes {
-    // Before the first entry.
+    // The state before the first entry.
     fn new(alloc: Global, born: usize) -> Result<Wakes, AllocError> {
         Ok(Wakes {
             ended: vec![in alloc; None; born]?,
@@ -140,7 +140,7 @@ impl Wakes {
         }
     }
 
-    // The moment that the fiber of an event has waited for.
+    // The moment for which the fiber of an event has waited.
     fn waker(&self, event: &Event) -> Option<Moment> {
         match event.deed {
             Deed::Called(Call::Join(fiber), Reply::Join(JoinReply::Ended(_))) => {

@@ -8,7 +8,7 @@ use std::alloc::{AllocError, Global};
 // The greatest width of a line in a table with a column for each fiber.
 const WIDEST: usize = 120;
 
-// The least width of a fiber's column, with the spaces behind it.
+// The least width of a fiber's column, with the spaces after it.
 const NARROWEST: usize = 20;
 
 // The least width of the column of the entries: that of its heading.
@@ -19,9 +19,9 @@ const ENTRY: usize = 6;
 pub(crate) struct Columns {
     /// The width of the column of the entries.
     pub(crate) entry: usize,
-    /// The width of each fiber's column, with two spaces behind it.
+    /// The width of each fiber's column, with two spaces after it.
     pub(crate) fibers: Vec<usize>,
-    // The width of the last fiber's name or widest row, which no spaces follow.
+    // The width of the last fiber's name or of its widest row. No spaces follow it.
     last: usize,
 }
 
@@ -50,7 +50,7 @@ impl Columns {
         })
     }
 
-    /// Whether all fibers have room side by side: the widest line has at most 120 bytes.
+    /// Whether the columns of all fibers fit side by side: the widest line has at most 120 bytes.
     pub(crate) fn fit(&self) -> bool {
         let mut width = self.entry.saturating_add(2);
         for fiber in self.fibers.iter().take(self.fibers.len().saturating_sub(1)) {
@@ -66,7 +66,7 @@ fn name_width(fiber: usize) -> usize {
     digits.format(fiber).len().saturating_add(6)
 }
 
-// Makes a column at least this wide.
+// Widens a column to at least `wide`.
 fn widen(widths: &mut [usize], place: usize, wide: usize) {
     if let Some(width) = widths.get_mut(place) {
         *width = wide.max(*width);

@@ -10,14 +10,14 @@ use crate::wording::{Numbered, Wording};
 use fiber_events::{Event, Told};
 use std::alloc::{AllocError, Global};
 
-// The greatest width of a letter of a name, apart from a few letters.
+// The width of most letters of a name, at most.
 const LETTER: usize = 7;
 
 /// The picture of a replay: one SVG document, without scripts.
 ///
 /// Each fiber, up to the 100th, has a lane from its birth to its end. Time goes to the right by entries: 14 points for
-/// each of up to 120 entries, and 1680 points in all for more. Signs at the same point are drawn once, so the number of
-/// lanes bounds the size. Returns `AllocError` if memory runs out.
+/// each of up to 120 entries, and 1680 points in all for more. A plain tick is left out if its fiber already has a sign
+/// at the same point. Returns `AllocError` if memory runs out.
 pub fn picture(alloc: Global, told: &Told) -> Result<String, AllocError> {
     let events = told.events.as_slice();
     let scale = Scale {
@@ -32,8 +32,8 @@ pub fn picture(alloc: Global, told: &Told) -> Result<String, AllocError> {
     Ok(text)
 }
 
-/// The picture of these events, which are those of `entries` entries, as [`picture`] draws it, with this wording. The
-/// page has the style ([`STYLE`]) once, inside an `svg`. Returns `AllocError` if memory runs out.
+/// The picture of the events of `entries` entries, drawn as [`picture`] draws it, with the words of `wording`. The page
+/// has the style ([`STYLE`]) once, inside an `svg`. Returns `AllocError` if memory runs out.
 pub fn drawn<W: Wording>(
     alloc: Global,
     events: &[Event],
@@ -52,7 +52,7 @@ pub fn drawn<W: Wording>(
     Ok(text)
 }
 
-// How far from the left the names of the fibers end, and the first entry is.
+// The distance from the left at which the names of the fibers end and time begins.
 fn names_end<W: Wording>(alloc: Global, born: usize, wording: &W) -> Result<usize, AllocError> {
     let mut widest = LEFT;
     let mut name = String::new(alloc);
@@ -64,7 +64,7 @@ fn names_end<W: Wording>(alloc: Global, born: usize, wording: &W) -> Result<usiz
     Ok(widest)
 }
 
-// All shapes, and the end of the picture.
+// Draws all shapes, and ends the picture.
 fn push_shapes<W: Wording>(
     alloc: Global,
     text: &mut String,

@@ -1,4 +1,4 @@
-//! The answers to a text under every schedule, each with its timeline.
+//! The exploration of a text's program, with a timeline for each answer.
 
 ghost use Rattle.std.specs.Prelude.{IfOk, false};
 ghost use Rattle.std.specs.List.{All};
@@ -20,11 +20,10 @@ use fiber_events::replay_events;
 use outcome_trace::{InWords, ProgramOrder};
 use std::alloc::{AllocError, Global};
 
-/// Answers a text with all that its program can come to under every schedule, and how: the answer of `ExploreOrder` of
-/// `exploration_text`, in which a blank line and a timeline ([`timeline`]) follow each report and each line of a fault.
-/// The timeline is that of the replay under the answer's schedule. The first line, the headings, the order of the
-/// answers and the status are the same. A refused text is answered only by the line of its refusal, with
-/// `Status::Refused`.
+/// Answers a text's program with its exploration and timelines: the answer of `ExploreOrder` of `exploration_text`, in
+/// which a blank line and a timeline ([`timeline`]) follow each report and each line of a fault. The timeline is that
+/// of the replay under the answer's schedule. The first line, the headings, the order of the answers and the status are
+/// the same. A refused text is answered only by the line of its refusal, with `Status::Refused`.
 #[derive(Drop)]
 pub struct ExploreTimelineOrder {
     /// The limits, the bounds and the wanted reports of the exploration.
@@ -97,7 +96,7 @@ fn told_exploration(
     Ok(text)
 }
 
-// The text of the answers that are listed as unwanted, or of the others, with timelines.
+// The text of the answers that are listed as unwanted, or of the other answers, with timelines.
 fn told_part(
     alloc: Global,
     program: &Program,

@@ -14,7 +14,7 @@ use std::alloc::{AllocError, Global};
 #[derive(Drop)]
 pub(crate) struct Lane {
     fiber: usize,
-    // Where the present shade began.
+    // Where the present shade begins.
     from: usize,
     // The number of active masks.
     masks: usize,
@@ -22,9 +22,9 @@ pub(crate) struct Lane {
     polls: usize,
     // Whether the fiber was cut.
     cut: bool,
-    // Where it began to wait, if it waits.
+    // Where the fiber began to wait, if it waits.
     waits: Option<usize>,
-    // Where the brackets acquired that haven't released, the innermost last.
+    // Where each bracket acquired that hasn't released, the innermost last.
     spans: Vec<usize>,
     // The signs and words so far, which are drawn over the bars.
     signs: String,
@@ -89,7 +89,7 @@ impl Lane {
         self.note_end(text, scale, x, event, words)
     }
 
-    // Draws a wait up to here, if there was one.
+    // Draws a wait up to `x`, if the fiber waited.
     fn end_wait(&mut self, text: &mut String, scale: Scale, x: usize) -> Result<(), AllocError> {
         if let Some(from) = self.waits {
             self.end_shade(text, scale, x)?;
@@ -105,7 +105,7 @@ impl Lane {
         Ok(())
     }
 
-    // Draws the shade up to here.
+    // Draws the shade up to `x`.
     fn end_shade(&mut self, text: &mut String, scale: Scale, x: usize) -> Result<(), AllocError> {
         if x > self.from {
             let at = Place {
@@ -156,7 +156,7 @@ impl Lane {
         }
     }
 
-    // Draws the innermost bracket up to here.
+    // Draws the innermost bracket up to `x`.
     fn end_span(
         &mut self,
         text: &mut String,
@@ -178,7 +178,7 @@ impl Lane {
         Ok(())
     }
 
-    // Records the end of the fiber, if this is it.
+    // Records the end of the fiber if the event ends it, and draws the sign of the event.
     fn note_end(
         &mut self,
         text: &mut String,
@@ -199,7 +199,7 @@ impl Lane {
         self.push_sign(place, event, words)
     }
 
-    // Draws the sign of an event, unless there is one at its place already.
+    // Draws the sign of an event. A tick is left out if there is a sign at its place already.
     fn push_sign(&mut self, place: Place, event: &Event, words: &str) -> Result<(), AllocError> {
         let sign = sign_of(event);
         if place.x == self.signed && sign.class == "tick" {
@@ -215,7 +215,7 @@ impl Lane {
         text.push_str(self.signs.as_str())
     }
 
-    /// Draws all that is still open up to here.
+    /// Draws all that is still open up to `x`.
     pub(crate) fn close(
         &mut self,
         text: &mut String,

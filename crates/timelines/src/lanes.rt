@@ -10,7 +10,7 @@ use effect_term::{Outcome, Reply};
 use fiber_events::{Deed, Event};
 use std::alloc::{AllocError, Global};
 
-/// The lanes, one below the other.
+/// Draws the lanes, one below the other.
 pub(crate) fn push_lanes<W: Wording>(
     alloc: Global,
     text: &mut String,
@@ -25,7 +25,7 @@ pub(crate) fn push_lanes<W: Wording>(
     Ok(())
 }
 
-// The name of a fiber, before its lane.
+// Draws the name of a fiber, before its lane.
 fn push_name<W: Wording>(
     alloc: Global,
     text: &mut String,
@@ -42,7 +42,7 @@ fn push_name<W: Wording>(
     push_words(text, "name", at, name.as_str())
 }
 
-// The lane of a fiber, and its outcome.
+// Draws the lane of a fiber, and its outcome.
 fn push_lane<W: Wording>(
     alloc: Global,
     text: &mut String,
@@ -67,7 +67,7 @@ fn push_lane<W: Wording>(
     push_end(alloc, text, scale, fiber, lane.outcome)
 }
 
-// The outcome of a fiber, behind its lane.
+// Draws the outcome of a fiber, after its lane.
 fn push_end(
     alloc: Global,
     text: &mut String,

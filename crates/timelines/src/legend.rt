@@ -38,7 +38,7 @@ const ARROWS: &[(&str, &str)] = &[
     ("wakes", "wakes"),
 ];
 
-/// The numbers of the entries over the lanes, with lines through them.
+/// Draws the numbers of the entries over the lanes, with lines through the lanes.
 pub(crate) fn push_axis(text: &mut String, scale: Scale) -> Result<(), AllocError> {
     push_words(text, "faint", Place { x: 16, y: 20 }, "entry")?;
     let step = step(scale.entries);
@@ -67,8 +67,8 @@ pub(crate) fn push_axis(text: &mut String, scale: Scale) -> Result<(), AllocErro
     Ok(())
 }
 
-// The number of entries from one label to the next: 1 if all have one digit, which have room side by side; otherwise 1,
-// 2 or 5 times a power of ten, so that there are at most 20 labels.
+// The number of entries from one label to the next: 1 for fewer than 10 entries, since labels of one digit have room
+// side by side; otherwise 1, 2 or 5 times a power of ten, so that there are at most 21 labels, with that of 0.
 fn step(entries: usize) -> usize {
     if entries < 10 {
         return 1;
@@ -84,14 +84,14 @@ fn step(entries: usize) -> usize {
     step
 }
 
-/// The legend, from this height on.
+/// Draws the legend, from the height `top` on.
 pub(crate) fn push_legend(text: &mut String, top: usize) -> Result<(), AllocError> {
     push_shades(text, top)?;
     push_signs(text, top.saturating_add(34))?;
     push_arrows(text, top.saturating_add(68))
 }
 
-// The words behind a sample.
+// Draws the words after a sample.
 fn push_meaning(text: &mut String, at: Place, words: &str) -> Result<(), AllocError> {
     let behind = Place {
         x: at.x.saturating_add(30),
@@ -100,7 +100,7 @@ fn push_meaning(text: &mut String, at: Place, words: &str) -> Result<(), AllocEr
     push_words(text, "faint", behind, words)
 }
 
-// The shades, the hatching of a wait, and the bars of brackets.
+// Draws the shades, the hatching of a wait, and the bars of brackets.
 fn push_shades(text: &mut String, top: usize) -> Result<(), AllocError> {
     let mut at = Place { x: 16, y: top };
     for (class, words) in SHADES {
@@ -120,7 +120,7 @@ fn push_shades(text: &mut String, top: usize) -> Result<(), AllocError> {
     push_meaning(text, at, "acquired to released")
 }
 
-// The signs.
+// Draws the signs.
 fn push_signs(text: &mut String, top: usize) -> Result<(), AllocError> {
     let mut at = Place { x: 16, y: top };
     for (class, drawing, words) in SIGNS {
@@ -131,7 +131,7 @@ fn push_signs(text: &mut String, top: usize) -> Result<(), AllocError> {
     Ok(())
 }
 
-// The arrows.
+// Draws the arrows.
 fn push_arrows(text: &mut String, top: usize) -> Result<(), AllocError> {
     let mut at = Place { x: 16, y: top };
     for (class, words) in ARROWS {
@@ -150,7 +150,7 @@ fn push_arrows(text: &mut String, top: usize) -> Result<(), AllocError> {
     Ok(())
 }
 
-/// The words about fibers without a lane, under the lanes.
+/// Draws the words about fibers without a lane, under the lanes.
 pub(crate) fn push_missing(text: &mut String, scale: Scale) -> Result<(), AllocError> {
     let missing = scale.born.saturating_sub(scale.lanes());
     if missing == 0 {

@@ -2,7 +2,7 @@
 
 use fiber_events::Event;
 
-/// The least distance of the first entry from the left.
+/// The least distance from the left at which time begins.
 pub(crate) const LEFT: usize = 84;
 
 /// The distance of the first lane from the top.
@@ -17,10 +17,10 @@ pub(crate) const BAR: usize = 18;
 /// The greatest number of lanes.
 pub(crate) const MOST_LANES: usize = 100;
 
-// The width of an entry if all have room.
+// The width of an entry, for at most `ROOMY` entries.
 const STEP: usize = 14;
 
-// The greatest number of entries at that width. More entries are closer together.
+// The greatest number of entries of that width. More entries are closer together.
 const ROOMY: usize = 120;
 
 /// The distance between entries, and the places of lanes.
@@ -30,7 +30,7 @@ pub(crate) struct Scale {
     pub(crate) entries: usize,
     /// The number of fibers that were started.
     pub(crate) born: usize,
-    /// The distance of the first entry from the left, behind the names of the fibers.
+    /// The distance from the left at which time begins, after the names of the fibers.
     pub(crate) left: usize,
 }
 
@@ -40,7 +40,7 @@ impl Scale {
         self.born.min(MOST_LANES)
     }
 
-    /// Whether the distance between entries is enough for a short word.
+    /// Whether there is room for a short word between two entries.
     pub(crate) fn is_roomy(self) -> bool {
         self.entries <= ROOMY
     }

@@ -19,7 +19,7 @@ pub(crate) struct Place {
     pub(crate) y: usize,
 }
 
-/// A bar of a class, from its upper left corner.
+/// Appends a bar of a class, from its upper left corner.
 pub(crate) fn push_bar(
     text: &mut String,
     class: &str,
@@ -36,7 +36,7 @@ pub(crate) fn push_bar(
     text.push_str("\"/>\n")
 }
 
-/// A line of a class.
+/// Appends a line of a class.
 pub(crate) fn push_line(
     text: &mut String,
     class: &str,
@@ -52,7 +52,7 @@ pub(crate) fn push_line(
     text.push_str("\"/>\n")
 }
 
-/// Words of a class, which begin or are centred at a place. The words contain no markup.
+/// Appends words of a class, which begin or are centred at a place. The words contain no markup.
 pub(crate) fn push_words(
     text: &mut String,
     class: &str,
@@ -68,7 +68,7 @@ pub(crate) fn push_words(
     text.push_str("</text>\n")
 }
 
-/// A word and a number, as words.
+/// Appends a word and a number, as words.
 pub(crate) fn push_counted(
     text: &mut String,
     class: &str,
@@ -85,7 +85,7 @@ pub(crate) fn push_counted(
     text.push_str("</text>\n")
 }
 
-/// A sign of a class: a drawing that begins at a place.
+/// Appends a sign of a class: a drawing that begins at a place.
 pub(crate) fn push_sign(
     text: &mut String,
     class: &str,
@@ -96,7 +96,7 @@ pub(crate) fn push_sign(
     text.push_str("/>\n")
 }
 
-/// The end of the sign of an entry's event, with the words that it shows when the pointer is on it.
+/// Appends the end of the sign of an entry's event, with the words that it shows if the pointer is on it.
 pub(crate) fn push_title(text: &mut String, entry: usize, words: &str) -> Result<(), AllocError> {
     push_number(text, "><title>", entry)?;
     text.push_str(": ")?;
@@ -104,7 +104,7 @@ pub(crate) fn push_title(text: &mut String, entry: usize, words: &str) -> Result
     text.push_str("</title></path>\n")
 }
 
-/// A sign up to the end of its opening tag.
+/// Appends a sign, up to the end of its opening tag.
 pub(crate) fn begin_sign(
     text: &mut String,
     class: &str,

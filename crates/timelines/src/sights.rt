@@ -55,7 +55,7 @@ pub(crate) fn born(events: &[Event]) -> usize {
 }
 
 /// The events with a visible effect, in their order, and only the first event of each wait. Returns `AllocError` if
-/// memory is refused.
+/// memory runs out.
 pub(crate) fn seen(alloc: Global, events: &[Event]) -> Result<Vec<Event>, AllocError> {
     let mut waits = vec![in alloc; Topic::Nothing; born(events)]?;
     let mut rows = Vec::new(alloc);

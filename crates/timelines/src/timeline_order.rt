@@ -16,7 +16,7 @@ use std::alloc::{AllocError, Global};
 /// `Status::Refused`.
 #[derive(Clone, Copy, Debug)]
 pub struct TimelineOrder<'a> {
-    /// The fiber that moves next, from the first entry on.
+    /// The number of the fiber that moves, for each entry.
     pub schedule: &'a [u16],
     /// The numbers of fibers, refs and deferreds (each 1 to 1000), and how often a fiber can change its own cell (1 to
     /// 1,099,511,627,775).

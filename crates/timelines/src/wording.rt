@@ -1,17 +1,17 @@
-//! What a picture calls fibers, and says of events.
+//! The names of fibers and the words for events in a picture.
 
 use crate::words;
 use fiber_events::Event;
 use itoa::Buffer;
 use std::alloc::AllocError;
 
-/// The names of fibers and the words for events in a picture. They are text of an XML document, in which characters of
-/// markup are escaped.
+/// The names of fibers and the words for events in a picture. They are text of an XML document: characters of markup
+/// are escaped.
 pub trait Wording {
-    /// Appends the name of a fiber to a text. Returns `AllocError` if memory is refused.
+    /// Appends the name of a fiber to a text. Returns `AllocError` if memory runs out.
     fn push_fiber(&self, text: &mut String, fiber: usize) -> Result<(), AllocError>;
 
-    /// Appends the words for an event to a text. Returns `AllocError` if memory is refused.
+    /// Appends the words for an event to a text. Returns `AllocError` if memory runs out.
     fn push_event(&self, text: &mut String, event: &Event) -> Result<(), AllocError>;
 }
 

@@ -26,8 +26,8 @@ fn push_about<I: Integer, J: Integer>(
     push_number(text, between, about)
 }
 
-/// Appends the words for an event to a text: the mark that it added, as a report spells it, or else what the move did.
-/// A move that changed only its fiber has no words. Returns `AllocError` if memory is refused.
+/// Appends the words for an event to a text: the mark that the event added, as a report spells it, or else what the
+/// move did. A move that changed only its fiber has no words. Returns `AllocError` if memory runs out.
 pub(crate) fn push_event(text: &mut String, event: &Event) -> Result<(), AllocError> {
     if let Some(mark) = event.mark {
         return push_mark(text, mark);
@@ -93,7 +93,7 @@ fn value_in(reply: Reply) -> i64 {
     }
 }
 
-// A sum, with the ref's values before and after.
+// A `modify`, with the ref's values before and after.
 fn push_modify(text: &mut String, number: u16, added: i64, old: i64) -> Result<(), AllocError> {
     push_about(text, "modify ref ", number, ": ", old)?;
     push_number(text, " -> ", sum(old, added))
@@ -154,7 +154,7 @@ fn push_join(text: &mut String, fiber: u16, reply: Reply) -> Result<(), AllocErr
     }
 }
 
-/// Appends the outcome of a fiber to a text, as a report spells it. Returns `AllocError` if memory is refused.
+/// Appends the outcome of a fiber to a text, as a report spells it. Returns `AllocError` if memory runs out.
 pub(crate) fn push_outcome(text: &mut String, outcome: Outcome) -> Result<(), AllocError> {
     match outcome {
         Outcome::Succeeded(value) => push_number(text, "succeeded ", value.get()),

@@ -44,7 +44,7 @@ pub adds_fault : (s : Shape) (old new : List Answer) (k : ℕ) (n : Noted) → A
 adds_fault s old new k n listed h at =
     adds_listed s old new n.node (to.Fault n.fault) h listed (inr (record { number = k; noted = n; at = at; end = h.ends; path = h.path }))
 
--- the worlds that answers name are among the nodes
+-- each world that an answer names has a node
 pub listed_within : (s : Shape) (answers : List Answer) → AreListed s answers → (k : ℕ) (a : Answer) (j : ℕ) → slice_get answers k ≡ Some a →
     a.end ≡ to.World j → j < length s.nodes
 listed_within s answers listed k a j at is = elim (listed k a at) [
@@ -56,8 +56,8 @@ listed_within s answers listed k a j at is = elim (listed k a at) [
   | inr h ↦ let apart : to.Fault h.noted.fault ≡ to.World j = sym h.end ∙ is in absurd (cc)
 ]
 
--- ---- told once
--- an answer is added that tells what none told before
+-- ---- listed once
+-- an answer is added whose end no earlier answer has
 pub adds_once : {W R : Type 0} (report : W → R) (ws : List W) (nodes : List Node) (last : Node) (end : Landing) (old new : List Answer) →
     Adds nodes last end old new → TellOnce report ws old → ((k : ℕ) (a : Answer) → slice_get old k ≡ Some a → AreApart report ws a.end end) →
     TellOnce report ws new
@@ -138,7 +138,7 @@ fault_apart : {W R : Type 0} (report : W → R) (ws : List W) (l : Landing) (n :
 fault_apart report ws (to.World m) n h = tt
 fault_apart report ws (to.Fault m) n h = h m refl
 
--- worlds told once, and behind them faults told once
+-- worlds that are listed once, and after them faults that are listed once
 pub faults_once : {W R : Type 0} (report : W → R) (ws : List W) (old new : List Answer) → TellOnce report ws old → HaveNoFault old → IsMore old new →
     AddsFaults old new → TellOnce report ws new
 faults_once report ws old new once none more adds i j a b less ati atj =
@@ -154,7 +154,7 @@ module _ {W E R : Type 0} (step : W → ℕ → Result W E) (report : W → R) (
   pub answered_more : (old new : List Answer) (y : Result W E) → IsMore old new → IsAnswered step report ws es old y → IsAnswered step report ws es new y
   answered_more old new y m h = (h.0, more_in old new h.0 m h.1, h.2)
 
-  -- an end that is named tells its own world
+  -- an answer that names a world has the report of this world
   pub named_answered : (answers : List Answer) (j : ℕ) (w : W) → IsNamed answers (to.World j) → slice_get ws j ≡ Some w →
       IsAnswered step report ws es answers (Ok w)
   named_answered answers j w h at =

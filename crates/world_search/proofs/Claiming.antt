@@ -1,4 +1,4 @@
--- What the claims that are listed say, from what is known of the worlds.
+-- What the listed claims say, from the graph of the search.
 use Rattle.std.proofs.Common.{◌≡◌, ℕ, ◌+◌, ◌<◌, ◌≤◌, Bool, true, false, List, [], ◌∷◌, ◌++◌, length, Some, Result, Ok, Err, sym, ap, ◌∙◌, subst, arith}
 use Rattle.std.specs.List.{slice_get, All}
 use Rattle.std.proofs.lemmas.Option.{same_Some, slice_get_within}
@@ -21,7 +21,7 @@ found_more i old new more h = (h.0, more_in old new h.0 more h.1, h.2)
 
 module _ {W C : Type 0} (meets : W → C → Bool) (ws : List W) (nodes : List Node) (claims : List C) (number : ℕ) (old new : List Met)
     (adds : AddsMet meets ws nodes claims number old new) where
-  -- one claim more
+  -- one more claim
   pub listed_next : AreListedMet meets ws nodes claims old → AreListedMet meets ws nodes claims new
   listed_next h k m at = elim adds [
     | inl none ↦ h k m (subst (λ (l : List Met). slice_get l k ≡ Some m) none.0 at)

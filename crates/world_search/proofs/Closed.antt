@@ -1,5 +1,4 @@
--- A closed set of worlds and faults has all that any schedule leads to; a closed set in which no move changes the report
--- is settled; and what shows that a report can still change.
+-- Each schedule from a closed set of worlds and faults leads into the set. A closed set in which no move changes the report is settled.
 use Rattle.std.proofs.Common.{◌≡◌, ℕ, List, [], ◌∷◌, ◌++◌, Result, Ok, Err, refl, sym, ap, ◌∙◌, subst}
 use Rattle.world_search.specs.Systems.{entered, run, reported, IsSettled}
 
@@ -8,7 +7,7 @@ module _ {W E : Type 0} (step : W → ℕ → Result W E) where
   run-append x [] t = refl
   run-append x (f ∷ s) t = run-append (entered step x f) s t
 
-  -- a world of this set, or a fault of that one
+  -- a world of S, or a fault of T
   abbrev pub IsOf : (W → Type 0) → (E → Type 0) → Result W E → Type 0
   IsOf S T (Ok w) = S w
   IsOf S T (Err e) = T e
@@ -21,7 +20,7 @@ module _ {W E : Type 0} (step : W → ℕ → Result W E) where
   closed_run S T closed (Err e) h (f ∷ s) = closed_run S T closed (Err e) h s
 
   module _ {R : Type 0} (report : W → R) where
-    -- where a move leads that leaves the report as it is, and stays in the set
+    -- a move keeps the report and stays in the set
     abbrev pub StaysIn : (W → Type 0) → W → Result W E → Type 0
     StaysIn S w (Ok x) = S x × (report x ≡ report w)
     StaysIn S w (Err e) = ⊥
@@ -32,11 +31,11 @@ module _ {W E : Type 0} (step : W → ℕ → Result W E) where
     settled_from S each v (Ok w) h (f ∷ s) = settled_from S each w (step w f) (each w h.0 f) s ∙ ap Ok h.1
     settled_from S each v (Err e) h s = absurd h
 
-    -- a set of worlds that no move leaves or changes the report of is settled
+    -- a set of worlds is settled if each move keeps the report and stays in the set
     pub settled : (S : W → Type 0) → ((w : W) → S w → (f : ℕ) → StaysIn S w (step w f)) → (w : W) → S w → IsSettled step report w
     settled S each w h s = settled_from S each w (Ok w) (h, refl) s
 
-    -- what is settled stays so, with its report
+    -- an entry at a settled world leads to a settled world of the same report
     pub settled_next : (w x : W) (f : ℕ) → step w f ≡ Ok x → IsSettled step report w → IsSettled step report x × (report x ≡ report w)
     settled_next w x f e h =
         let same : report x ≡ report w =

@@ -37,7 +37,7 @@ module _ {W E R : Type 0} (step : W → ℕ → Result W E) (report : W → R) (
         (λ is. subst (λ m. Stays step report most longest vs ds t i w (step w m)) (sym is) last)
         (λ isnt. grow_stays step report most longest ws vs es ds s t g i w (step w f) (h f (omega arith)))
 
-    -- one entry more
+    -- one more entry
     pub came_next : (a b : Came) → CameSo step report most longest ws es s i w a n → ComesTo step report most longest vs ds t i w b (step w n) →
         CameSo step report most longest vs ds t i w (worse_of a b) (n + 1)
     came_next came.Lost b h k = tt
@@ -74,7 +74,7 @@ module _ {W E R : Type 0} (step : W → ℕ → Result W E) (report : W → R) (
       leaves = λ yes w at. (h w at).1;
     }
 
-  -- one world more
+  -- one more world
   pub done_next : (ws vs : List W) (es ds : List E) (s t : Shape) (n : ℕ) → Grows ws vs es ds s t → length s.nodes ≤ length ws →
       length s.unsettled ≡ length s.nodes → n < length s.nodes → SameFlags n s.unsettled t.unsettled
       → ((i : ℕ) → i < n → IsDone step report most longest ws es s i) → IsDone step report most longest vs ds t n → (i : ℕ) → i < n + 1 →

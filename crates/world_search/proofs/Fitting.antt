@@ -1,4 +1,4 @@
--- What is known of the worlds and entries of a search stays where they go on.
+-- What is known of the worlds and entries of a search still holds where more are added.
 use Rattle.std.proofs.Common.{◌≡◌, ℕ, ◌+◌, ◌<◌, true, false, List, [], ◌∷◌, ◌++◌, length, Some, Result, Ok, Err, sym}
 use Rattle.std.proofs.Common.{◌∙◌, ap, subst, arith, inl, inr, length-append, length-set}
 use Rattle.std.specs.List.{slice_get}

@@ -1,4 +1,4 @@
--- Flags that go back along edges.
+-- Flags that spread back along edges.
 use Rattle.std.proofs.Common.{◌≡◌, ℕ, zero, suc, ◌<◌, Bool, true, false, List, [], ◌∷◌, set, Some, refl, sym, ◌∙◌, subst, arith}
 use Rattle.std.specs.List.{slice_get}
 use Rattle.std.proofs.lemmas.Option.{same_Some, slice_get_within}
@@ -47,7 +47,7 @@ flagged_flagged edges a b c h k i e =
     let before = h there.0 there.2 in
     (before.0, leads_leads edges i there.0 before.0 there.1 before.1, before.2)
 
--- one edge more, from the last to the first
+-- one more edge, from the last to the first
 pub back_more : (edges : List Edge) (flags : List Bool) (n m : ℕ) (e : Edge) → n ≡ suc m → slice_get edges m ≡ Some e →
     (slice_get flags e.to ≡ Some true → slice_get flags e.from ≡ Some true)
     → AreBack edges flags n → AreBack edges flags m

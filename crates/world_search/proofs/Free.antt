@@ -1,5 +1,5 @@
--- What a search of a reduced system tells of the full one: where each entry has some free moves behind it, the same
--- faults come, and the same reports stay.
+-- What a search of a reduced system shows of the full one: if each entry has some free moves after it, both systems have the same faults and the same settled
+-- reports.
 use Rattle.std.proofs.Common.{◌≡◌, ℕ, zero, suc, ◌<◌, ◌≤◌, List, [], ◌∷◌, ◌++◌, length, Result, Ok, Err, refl, sym, ap, ◌∙◌, subst, arith, inl, inr}
 use mathlib.Core.Logic.{◌⊎◌, dite}
 use native.Mathlib.Decide.{ℕ_discrete}
@@ -17,7 +17,7 @@ pub run_fault : {W E : Type 0} (step : W → ℕ → Result W E) (e : E) (s : Li
 run_fault step e [] = refl
 run_fault step e (f ∷ s) = run_fault step e s
 
--- two systems tell the same of a world
+-- two systems report the same of a world
 reported_same : {W E R : Type 0} (one other : W → ℕ → Result W E) (report : W → R) (x : Result W E) → reported one report x ≡ reported other report x
 reported_same one other report (Ok w) = refl
 reported_same one other report (Err e) = refl
@@ -27,7 +27,7 @@ module _ {W E R : Type 0} (step : W → ℕ → Result W E) (report : W → R) w
   reported_ok (Ok x) r h = (x, refl, (let q : reported step report (Ok x) ≡ Ok r = h in cc))
   reported_ok (Err e) r h = absurd (cc)
 
-  -- what is settled stays so, with its report
+  -- a schedule leads from a settled world to a settled world of the same report
   settled_run : (w x : W) (s : List ℕ) → run step (Ok w) s ≡ Ok x → IsSettled step report w → IsSettled step report x × (report x ≡ report w)
   settled_run w x s q h =
       let here : reported step report (Ok x) ≡ Ok (report w) = ap (reported step report) (sym q) ∙ h s in
@@ -58,7 +58,7 @@ module _ {W E R : Type 0} (step : W → ℕ → Result W E) (report : W → R) w
     grown (f ∷ s) w x r = grown_from s w x f (step w f) refl (λ v. grown s v x) r
 
 module _ {W E : Type 0} (step : W → ℕ → Result W E) where
-  -- what came of some entries comes of other ones from this world, no more of them, where some follow the first ones
+  -- some entries after y lead to where at most n entries lead from x
   abbrev Comes : W → Result W E → ℕ → Type 0
   Comes x y n = (t : List ℕ) × (more : List ℕ) × (length t ≤ n) × (run step y more ≡ run step (Ok x) t)
 
@@ -70,14 +70,14 @@ module _ {W E : Type 0} (step : W → ℕ → Result W E) where
         (g ∷ i.0, i.1, omega (arith, i.2), i.3 ∙ ap (λ z. run step z i.0) (sym h.3))
     ahead_from s x f g (Err e) rest h = (g ∷ s, [], omega arith, ap (λ z. run step z s) (sym h))
 
-    -- a free move one earlier
+    -- one free move made earlier
     ahead : (s : List ℕ) (w x : W) (f : ℕ) → Free w f → step w f ≡ Ok x → Comes x (run step (Ok w) s) (length s)
     ahead [] w x f h q = ([], f ∷ [], omega arith, q)
     ahead (g ∷ s) w x f h q = dite (ℕ_discrete g f)
         (λ is. (s, [], omega arith, ap (λ y. run step y s) (subst (λ n. step w n ≡ Ok x) (sym is) q)))
         (λ isnt. ahead_from s x f g (step w g) (λ y z. ahead s y z f) (free.commutes w f x h q g isnt))
 
-    -- several free moves earlier
+    -- several free moves made earlier
     ahead_led : (w v : W) → Leads step Free w v → (s : List ℕ) → Comes v (run step (Ok w) s) (length s)
     ahead_led w v (Here a b same) s = (s, [], omega arith, ap (λ x. run step (Ok x) s) same)
     ahead_led w v (On a f x b h q on) s =
@@ -94,7 +94,7 @@ module _ {W E : Type 0} (step : W → ℕ → Result W E) where
     leads_run w v (On a f x b h q on) = let rest = leads_run x b on in (f ∷ rest.0, ap (λ y. run step y rest.0) q ∙ rest.1)
 
     module _ (leap : W → ℕ → Result W E) (leaps : (w : W) (f : ℕ) → Leaps step Free (step w f) (leap w f)) where
-      -- Behind some more entries, what came of a schedule comes of one of the reduced system
+      -- some entries after y lead to where a schedule of the reduced system leads from w
       abbrev Overtakes : W → Result W E → Type 0
       Overtakes w y = (t : List ℕ) × (more : List ℕ) × (run step y more ≡ run leap (Ok w) t)
 
@@ -155,7 +155,7 @@ module _ {W E : Type 0} (step : W → ℕ → Result W E) where
               let no : reported leap report (Err e) ≡ Ok (report w) = ap (reported leap report) (sym fault) ∙ same in
               absurd (cc)
 
-          -- what is settled in the reduced system is settled in the full one
+          -- a world that is settled in the reduced system is settled in the full one
           pub settled_up : (w : W) → IsSettled leap report w → IsSettled step report w
           settled_up w h s = let o = overtakes w s in up_at w s o.1 o.0 (run step (Ok w) s) refl o.2 (h o.0)
 
@@ -193,7 +193,7 @@ module _ {W E : Type 0} (step : W → ℕ → Result W E) where
                   let told : IsCovered leap report ws es answers (Err e) = subst (IsCovered leap report ws es answers) fault h in
                   answered_fault e told
 
-              -- what comes of all schedules of the reduced system is all that comes of those of the full one
+              -- answers that cover all schedules of the reduced system cover those of the full one
               pub covers : (first : W) → ((t : List ℕ) → IsCovered leap report ws es answers (run leap (Ok first) t)) → (s : List ℕ) →
                   IsCovered step report ws es answers (run step (Ok first) s)
               covers first h s = let o = overtakes first s in covered_at (run step (Ok first) s) (run leap (Ok first) o.0) o.1 o.2 (h o.0)
@@ -202,7 +202,7 @@ module _ {W E : Type 0} (step : W → ℕ → Result W E) where
               ends_up (Ok w) h = (settled_up w h.0, answered_up w w refl h.1)
               ends_up (Err e) h = answered_fault e h
 
-              -- and where some entries lead from each world of it to an answer, they do from each world of the full one
+              -- if some entries lead from each world of the reduced system to an answer, some do from each world of the full one
               pub goes_onward : (first : W) → ((t : List ℕ) → (more : List ℕ) × IsEnd leap report ws es answers (run leap (Ok first) (t ++ more))) →
                   (s : List ℕ) → (more : List ℕ) × IsEnd step report ws es answers (run step (Ok first) (s ++ more))
               goes_onward first h s =

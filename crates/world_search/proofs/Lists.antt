@@ -1,4 +1,4 @@
--- Elements of lists that go on, or of which one is set.
+-- Elements of lists that are extended, or in which one element is set.
 use Rattle.std.proofs.Common.{◌≡◌, ◌≢◌, ℕ, zero, suc, ◌+◌, ◌<◌, ◌≤◌, List, [], ◌∷◌, ◌++◌, length, set, Some, refl, sym, ap}
 use Rattle.std.proofs.Common.{◌∙◌, subst, arith, append_assoc, append-nil, length-append, inl, inr, get_or}
 use Rattle.std.specs.Prelude.{◌*◌, IfOk, Result, Ok, Err}
@@ -32,7 +32,7 @@ pub get_last : {A : Type 0} (xs : List A) (x : A) → slice_get (xs ++ (x ∷ []
 get_last [] x = refl
 get_last (y ∷ xs) x = get_last xs x
 
--- an element of a list with one more at its end is one of the list, or that one
+-- an element of a list with one more at its end is an element of the list, or the last one
 pub get_end : {A : Type 0} (xs : List A) (x y : A) (i : ℕ) → slice_get (xs ++ (x ∷ [])) i ≡ Some y → (slice_get xs i ≡ Some y) ⊎ ((i ≡ length xs) × (x ≡ y))
 get_end [] x y zero e = inr (refl, same_Some x y e)
 get_end [] x y (suc i) e = absurd (cc)

@@ -1,4 +1,4 @@
--- One entry of a search: what it adds, and what comes of it.
+-- One entry of a search: what it adds, and where it leads.
 use Rattle.std.proofs.Common.{◌≡◌, ℕ, ◌<◌, List, length, Some, Result, Ok, Err, refl, sym, subst, arith, inl, inr}
 use Rattle.std.specs.List.{slice_get}
 use Rattle.std.proofs.lemmas.Option.{slice_get_within}
@@ -13,7 +13,7 @@ use Rattle.world_search.proofs.Lists.{get_last, get_low}
 use Rattle.world_search.proofs.Fitting.{grows_same, grows_node, fits_node, fits_edge, fits_noted}
 
 module _ {W E R : Type 0} (step : W → ℕ → Result W E) (report : W → R) (most longest : ℕ) (ws : List W) (es : List E) where
-  -- where the entry of this node is said to lead
+  -- the entry of this node leads to world number j
   abbrev pub Lands : Node → ℕ → Type 0
   Lands n j = (w : W) → slice_get ws n.from ≡ Some w → LandsAt ws es (to.World j) (step w n.fiber)
 

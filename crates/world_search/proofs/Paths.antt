@@ -1,4 +1,4 @@
--- Schedules that are read back lead where they are said to.
+-- A schedule that is read back from a node leads to the world or fault of this node.
 use Rattle.std.proofs.Common.{◌≡◌, ℕ, zero, suc, ◌<◌, ◌≤◌, List, [], ◌∷◌, ◌++◌, length, Some, Result, Ok, Err, sym, ap, ◌∙◌, subst, arith, length-append}
 use Rattle.std.specs.List.{slice_get}
 use Rattle.std.proofs.lemmas.Option.{same_Some}
@@ -52,7 +52,7 @@ module _ {W E R : Type 0} (step : W → ℕ → Result W E) (report : W → R) (
     | inr entry ↦ entry.how.short
   ]
 
-  -- the node from which an entry comes was reached
+  -- the world at which an entry was made was reached
   above_reached : (n parent : Node) (y : Result W E) → IsEntry step report most longest ws es s.nodes n y → slice_get s.nodes n.from ≡ Some parent →
       (w : W) × (step w n.fiber ≡ y) × IsReached step report most longest ws es s.nodes parent (Ok w)
   above_reached n parent y entry above = (entry.world, entry.leads, h.nodes n.from parent entry.world above entry.at)

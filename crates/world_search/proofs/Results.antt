@@ -1,4 +1,4 @@
--- What the answers of a search say, from what is known of the worlds.
+-- What the answers of a search say, from its graph.
 use Rattle.std.proofs.Common.{◌≡◌, ◌≢◌, ℕ, zero, suc, ◌+◌, ◌<◌, ◌≤◌, Bool, true, false, List, [], ◌∷◌, ◌++◌, length, Some, Result}
 use Rattle.std.proofs.Common.{Ok, Err, refl, sym, ap, ◌∙◌, subst, arith}
 use Rattle.std.specs.List.{slice_get, All}
@@ -23,7 +23,7 @@ use Rattle.world_search.proofs.Answering.{named_fault}
 use Rattle.world_search.proofs.Free.{grown}
 use Rattle.world_search.specs.Free.{AreGrowing}
 
--- the sizes of all worlds together
+-- the sum of the sizes of all worlds
 abbrev total : {W : Type 0} → (W → ℕ) → List W → ℕ
 total size [] = 0
 total size (w ∷ ws) = size w + total size ws
@@ -33,7 +33,7 @@ part_total size [] i w at = absurd (cc)
 part_total size (v ∷ ws) zero w at = let same = ap size (same_Some v w at) in omega arith
 part_total size (v ∷ ws) (suc i) w at = let rest = part_total size ws i w at in omega arith
 
--- with other flags
+-- the shape with other flags
 abbrev pub flagged : Shape → List Bool → Shape
 flagged s flags = record { nodes = s.nodes; edges = s.edges; noted = s.noted; unsettled = flags }
 
@@ -44,7 +44,7 @@ module _ {W E R : Type 0} (step : W → ℕ → Result W E) (report : W → R) (
 
   module _ (flags : List Bool) (long : length flags ≡ length s.unsettled) (keeps : KeepsFlags s.unsettled flags) (back : AreBack s.edges flags 0)
       (marks : AreFlagged s.edges s.unsettled flags) where
-    -- what isn't flagged now wasn't flagged before
+    -- a world that isn't flagged now wasn't flagged before
     unflagged : (i : ℕ) → slice_get flags i ≡ Some false → slice_get s.unsettled i ≡ Some false
     unflagged i bare = let low = slice_get_within flags i false bare in let b = get_low s.unsettled i (omega arith) in by b.0 b.1
       where
@@ -150,7 +150,7 @@ module _ {W E R : Type 0} (step : W → ℕ → Result W E) (report : W → R) (
             (edge.fiber ∷ rest.0, rest.1, rest.2, ap (λ x. run step x rest.0) leads ∙ rest.3)
 
         module _ (size : R → ℕ) (growing : AreGrowing step report size) where
-          -- a fault, or a world of a larger report
+          -- a fault, or a world with a larger report
           abbrev Rises : W → Result W E → Type 0
           Rises w (Ok x) = size (report w) < size (report x)
           Rises w (Err e) = Unit {0}
@@ -166,7 +166,7 @@ module _ {W E R : Type 0} (step : W → ℕ → Result W E) (report : W → R) (
           rises_at w v f (Ok x) leads before leaves = rises_over w v x before (growing v f x leads) leaves
           rises_at w v f (Err e) leads before leaves = tt
 
-          -- where a world is flagged, some entries lead from it to a fault or to a larger report
+          -- some entries lead from a flagged world to a fault or to a larger report
           rises : (i : ℕ) (w : W) → slice_get flags i ≡ Some true → slice_get ws i ≡ Some w → (more : List ℕ) × Rises w (run step (Ok w) more)
           rises i w marked at =
               let led = marks i marked in
@@ -180,11 +180,11 @@ module _ {W E R : Type 0} (step : W → ℕ → Result W E) (report : W → R) (
                 subst (Rises w) (sym last) (rises_at w on.1 leaves.0 (step on.1 leaves.0) refl (grown step report size growing on.0 w on.1 on.3) leaves.1),
               )
 
-          -- some entries more lead to an answer
+          -- some further entries lead to an answer
           abbrev Ends : Result W E → Type 0
           Ends y = (more : List ℕ) × IsEnd step report ws es answers (run step y more)
 
-          -- a report can become larger n times at most
+          -- the report can still become larger at most n times
           abbrev Room : ℕ → Result W E → Type 0
           Room n (Ok w) = total (λ v. size (report v)) ws ≤ size (report w) + n
           Room n (Err e) = Unit {0}
@@ -222,7 +222,7 @@ module _ {W E R : Type 0} (step : W → ℕ → Result W E) (report : W → R) (
           end_of (Ok w) m = ends_at (total (λ v. size (report v)) ws) w m (omega arith)
           end_of (Err e) m = ([], told_fault e m)
 
-          -- where reports grow, some entries lead to an answer from wherever a schedule has led
+          -- if reports grow, some further entries lead to an answer after each schedule
           pub all_onward : (first : W) → slice_get ws 0 ≡ Some first → (schedule : List ℕ) → (more : List ℕ) ×
               IsEnd step report ws es answers (run step (Ok first) (schedule ++ more))
           all_onward first there schedule =

@@ -1,4 +1,4 @@
--- That each world of a store was met, and none is deeper than its number.
+-- Each world of a store was met, and no node is deeper than its number.
 use Rattle.std.proofs.Common.{◌≡◌, ℕ, ◌+◌, ◌<◌, ◌≤◌, List, [], ◌∷◌, ◌++◌, length, refl, sym, subst}
 use Rattle.std.proofs.Common.{arith, length-append, inl, inr}
 use Rattle.std.proofs.lemmas.Option.{slice_get_within}
@@ -29,7 +29,7 @@ module _ (most longest : ℕ) (s t : Shape) (n : Node) (j many room : ℕ) (how 
   next_long : length (s.nodes ++ (n ∷ [])) ≡ length s.nodes + 1
   next_long = length-append s.nodes (n ∷ [])
 
-  -- where the world of this number is among those that were met now
+  -- if the world of this number is now among those that were met
   pub kept_snug : j < length t.nodes → IsSnug many t
   kept_snug kept = elim keeps [
     | inl same ↦
@@ -49,7 +49,7 @@ module _ (most longest : ℕ) (s t : Shape) (n : Node) (j many room : ℕ) (how 
         (record { even = even; shallow = shallow_next most longest s.nodes n near.0 how })
   ]
 
-  -- where it isn't, since there may be no more
+  -- if it isn't, there are at least `room` worlds
   pub lost_snug : (room ≤ j) ⊎ (length s.nodes < j) → IsSnug many t × (room ≤ many)
   lost_snug refused =
       let even : length s.nodes ≡ many = elim near.1 [
@@ -68,22 +68,22 @@ module _ (most longest : ℕ) (s t : Shape) (n : Node) (j many room : ℕ) (how 
         full,
       )
 
--- an edge changes nothing of that
+-- an edge keeps a graph snug
 pub edge_snug : (s : Shape) (e : Edge) (many : ℕ) → IsSnug many s → IsSnug many (with_edge s e)
 edge_snug s e many h = record { even = h.even; shallow = h.shallow }
 
--- nor does what is known of a world's report
+-- so does a world that becomes quiet
 pub quiet_snug : (s : Shape) (i many : ℕ) → IsSnug many s → IsSnug many (with_quiet s i)
 quiet_snug s i many h = record { even = h.even; shallow = h.shallow }
 
--- nor does a fault that is noted
+-- so does a fault that is noted
 pub noted_snug : (s t : Shape) (fault : ℕ) (n : Node) (many : ℕ) → Notes s t fault n → IsSnug many s → IsSnug many t
 noted_snug s t fault n many notes h = elim notes [
   | inl same ↦ subst (IsSnug many) (sym same.1) h
   | inr next ↦ subst (IsSnug many) (sym next.1) (record { even = h.even; shallow = h.shallow })
 ]
 
--- what came is lost only where one part of it is
+-- the result of two is `Lost` only if one of them is
 pub worse_lost : (one other : Came) → worse_of one other ≡ came.Lost → (one ≡ came.Lost) ⊎ (other ≡ came.Lost)
 worse_lost came.Lost other e = inl refl
 worse_lost came.Leaves came.Lost e = inr refl
@@ -91,7 +91,7 @@ worse_lost came.Leaves came.Leaves e = absurd (cc)
 worse_lost came.Leaves came.Stays e = absurd (cc)
 worse_lost came.Stays other e = inr e
 
--- what has stopped stays so
+-- a search that has stopped at a limit is still at it with more worlds
 pub stopped_on : (worlds entries before after : ℕ) → before ≤ after → IsStopped worlds entries before →
     IsStopped worlds entries after
 stopped_on worlds entries before after more h = elim h [

@@ -1,5 +1,5 @@
--- What a reduced search tells of each world: where free moves keep what is looked at, each world to which a schedule
--- leads looks as one to which the reduced system leads.
+-- What a reduced search shows of each world: if free moves keep a property of worlds, each world that a schedule leads to has the property of a world of the
+-- reduced system.
 use Rattle.std.proofs.Common.{◌≡◌, ℕ, zero, suc, ◌<◌, ◌≤◌, Bool, false, List, [], ◌∷◌, length, Result, Ok, Err, refl, sym, ap, ◌∙◌, subst, arith}
 use mathlib.Core.Logic.{dite}
 use native.Mathlib.Decide.{ℕ_discrete}
@@ -13,13 +13,13 @@ module _ {W E : Type 0} (step : W → ℕ → Result W E) (Free : W → ℕ → 
   leads_on a b c (Here x y same) on = subst (λ z. Leads step Free z c) (sym same) on
   leads_on a b c (On x f y z h q first) on = On x f y c h q (leads_on y z c first on)
 
-  -- what free moves keep is the same where several of them lead
+  -- several free moves keep what each free move keeps
   pub leads_keep : {A : Type 0} (look : W → A) → ((w : W) (f : ℕ) (x : W) → Free w f → step w f ≡ Ok x → look x ≡ look w) → (w v : W) →
       Leads step Free w v → look v ≡ look w
   leads_keep look keeps w v (Here a b same) = ap look (sym same)
   leads_keep look keeps w v (On a f x b h q on) = leads_keep look keeps x b on ∙ keeps a f x h q
 
-  -- other entries lead from the one world to where free moves lead from the other, and there are no more of them
+  -- at most n entries lead from x to where free moves lead from v
   abbrev Joins : W → W → ℕ → Type 0
   Joins x v n = (t : List ℕ) × (u : W) × (length t ≤ n) × (run step (Ok x) t ≡ Ok u) × Leads step Free v u
 
@@ -32,7 +32,7 @@ module _ {W E : Type 0} (step : W → ℕ → Result W E) (Free : W → ℕ → 
         (g ∷ i.0, i.1, omega (arith, i.2), ap (λ z. run step z i.0) h.3 ∙ i.3, i.4)
     joined_from s x f g (Err e) rest h v led = let stuck : run step (Err e) s ≡ Err e = run_fault step e s in absurd (cc)
 
-    -- a free move one earlier
+    -- one free move made earlier
     joined : (s : List ℕ) (w x : W) (f : ℕ) → Free w f → step w f ≡ Ok x → (v : W) → run step (Ok w) s ≡ Ok v → Joins x v (length s)
     joined [] w x f h q v led =
         let same : w ≡ v = cc in
@@ -41,7 +41,7 @@ module _ {W E : Type 0} (step : W → ℕ → Result W E) (Free : W → ℕ → 
         (λ is. (s, v, omega arith, ap (λ y. run step y s) (sym (subst (λ n. step w n ≡ Ok x) (sym is) q)) ∙ led, Here v v refl))
         (λ isnt. joined_from s x f g (step w g) (λ y z. joined s y z f) (free.commutes w f x h q g isnt) v led)
 
-    -- several free moves earlier
+    -- several free moves made earlier
     joined_led : (w v : W) → Leads step Free w v → (s : List ℕ) (u : W) → run step (Ok w) s ≡ Ok u → Joins v u (length s)
     joined_led w v (Here a b same) s u led = (s, u, omega arith, ap (λ x. run step (Ok x) s) (sym same) ∙ led, Here u u refl)
     joined_led w v (On a f x b h q on) s u led =
@@ -50,7 +50,7 @@ module _ {W E : Type 0} (step : W → ℕ → Result W E) (Free : W → ℕ → 
         (rest.0, rest.1, omega (arith, one.2, rest.2), rest.3, leads_on u one.1 rest.1 one.4 rest.4)
 
     module _ (leap : W → ℕ → Result W E) (leaps : (w : W) (f : ℕ) → Leaps step Free (step w f) (leap w f)) where
-      -- the reduced system leads from the one world to where free moves lead from the other
+      -- the reduced system leads from w to where free moves lead from u
       abbrev Catches : W → W → Type 0
       Catches w u = (t : List ℕ) × (x : W) × (run leap (Ok w) t ≡ Ok x) × Leads step Free u x
 
@@ -68,7 +68,7 @@ module _ {W E : Type 0} (step : W → ℕ → Result W E) (Free : W → ℕ → 
       caught zero w (f ∷ s) long u led = absurd (omega arith)
       caught (suc n) w (f ∷ s) long u led = caught_next n w f s (omega arith) (caught n) (step w f) (leaps w f) u led
 
-      -- what no world of the reduced system looks like, no world of the full one does
+      -- a property that no world of the reduced system has, no world of the full one has
       pub unmet_up : (look : W → Bool) → ((w : W) (f : ℕ) (x : W) → Free w f → step w f ≡ Ok x → look x ≡ look w) → (first : W) →
           ((t : List ℕ) (w : W) → run leap (Ok first) t ≡ Ok w → look w ≡ false) → (s : List ℕ) (w : W) → run step (Ok first) s ≡ Ok w → look w ≡ false
       unmet_up look keeps first none s w led =

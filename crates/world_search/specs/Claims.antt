@@ -1,4 +1,4 @@
--- What a search says of claims of worlds.
+-- What a search reports of claims of worlds.
 use Rattle.std.specs.Prelude.{◌≡◌, ℕ, ◌<◌, ◌≤◌, Bool, true, List, length, Some, Result, Ok}
 use Rattle.std.specs.List.{slice_get, All}
 use Rattle.world_search.specs.declared.claims.Met.{Met}
@@ -9,15 +9,15 @@ use Rattle.world_search.specs.Systems.{run}
 abbrev pub IsFound : ℕ → List Met → Type 0
 IsFound i met = (m : Met) × IsIn m met × (m.claim ≡ i)
 
--- the schedule is of numbers below this one
+-- each entry of the schedule is below `most`
 abbrev pub IsFew : ℕ → Met → Type 0
 IsFew most m = All (λ f. f < most) m.schedule.items
 
--- the schedule is no longer than so many entries
+-- the schedule has at most `entries` entries
 abbrev pub IsBrief : ℕ → Met → Type 0
 IsBrief entries m = length m.schedule.items ≤ entries
 
--- the schedule leads from this world to one that meets the claim of this number
+-- the schedule leads from `first` to a world that meets the claim of this number
 abbrev pub IsMetBy : {W E C : Type 0} → (W → ℕ → Result W E) → (W → C → Bool) → W → List C → Met → Type 0
 IsMetBy step meets first claims m =
     (c : _) × (slice_get claims m.claim ≡ Some c) ×

@@ -1,16 +1,15 @@
--- Moves that may be made at once: a system in which some moves commute with those of all other fibers, and one that
--- makes such moves behind each entry.
+-- Free moves: a system in which some moves commute with those of all other fibers, and a reduced system that makes such
+-- moves directly after each entry.
 use Rattle.std.specs.Prelude.{◌≡◌, ◌≢◌, ◌⊎◌, ℕ, ◌<◌, Result, Ok, Err}
 
 module _ {W E : Type 0} (step : W → ℕ → Result W E) where
-  -- where the entry of another fiber leads, and that the free move of fiber f, which leads to x, leads on from there as
-  -- that entry does from x
+  -- the free move of fiber f, which leads to x, commutes with the entry of fiber g: both orders lead to the same world,
+  -- and f's move is still free after g's entry; if this entry ends in a fault, it ends in the same fault from x
   abbrev pub Commutes : (W → ℕ → Type 0) → ℕ → W → ℕ → Result W E → Type 0
   Commutes Free f x g (Ok y) = Free y f × (z : W) × (step y f ≡ Ok z) × (step x g ≡ Ok z)
   Commutes Free f x g (Err e) = step x g ≡ Err e
 
-  -- Free moves: they can be made, and whatever another fiber does, they are as free before it as behind it, and the
-  -- other fiber does the same before them and behind them
+  -- Free moves: each of them leads to a world, and commutes with each entry of another fiber
   pub record AreFree (Free : W → ℕ → Type 0) : Type 0 where
     pub goes : (w : W) (f : ℕ) → Free w f → (x : W) × (step w f ≡ Ok x)
     pub commutes : (w : W) (f : ℕ) (x : W) → Free w f → step w f ≡ Ok x → (g : ℕ) → g ≢ f →
@@ -21,18 +20,18 @@ module _ {W E : Type 0} (step : W → ℕ → Result W E) where
     Here : (w x : W) → w ≡ x → Leads Free w x
     On : (w : W) (f : ℕ) (x y : W) → Free w f → step w f ≡ Ok x → Leads Free x y → Leads Free w y
 
-  -- where an entry leads, and behind it some free moves
+  -- the second result is the first with some free moves after it; a fault stays
   abbrev pub Leaps : (W → ℕ → Type 0) → Result W E → Result W E → Type 0
   Leaps Free (Ok x) y = (v : W) × Leads Free x v × (y ≡ Ok v)
   Leaps Free (Err e) y = y ≡ Err e
 
-  -- Each entry of the reduced system is one of the full system with some free moves behind it
+  -- Each entry of the reduced system is one of the full system with some free moves after it
   pub record IsReduced (leap : W → ℕ → Result W E) : Type 1 where
     pub Free : W → ℕ → Type 0
     pub free : AreFree Free
     pub leaps : (w : W) (f : ℕ) → Leaps Free (step w f) (leap w f)
 
-  -- each entry leaves the report as it is, or makes it larger
+  -- each entry keeps the report or makes it larger
   abbrev pub AreGrowing : {R : Type 0} → (W → R) → (R → ℕ) → Type 0
   AreGrowing report size = (w : W) (f : ℕ) (x : W) → step w f ≡ Ok x →
       (report x ≡ report w) ⊎ (size (report w) < size (report x))

@@ -1,45 +1,45 @@
-//! What a search is asked for, and what it finds.
+//! The bounds of a search, and its result.
 
 use crate::landings::Landing;
 
-/// How far a search goes.
+/// The bounds of a search.
 #[derive(Clone, Copy)]
 pub struct Bounds {
-    /// The most worlds that are kept; the first is kept in any case. More than 2^32 - 1 are as many as that.
+    /// The greatest number of worlds that are kept; 0 counts as 1, and a number above 2^32 - 1 as 2^32 - 1.
     pub worlds: usize,
-    /// The most entries of a schedule. More than 2^32 - 1 are as many as that.
+    /// The greatest number of entries of a schedule. A number above 2^32 - 1 counts as 2^32 - 1.
     pub entries: usize,
-    /// The bytes of memory at which the search stops, as it counts them ([`Found::bytes`]). They are counted before the
-    /// entries at each world, so that as much more may be kept as comes of the entries at one.
+    /// The number of bytes at which the search stops, counted as in [`Found::bytes`]. The search checks it before the
+    /// entries at each world, so the entries at one world can exceed it.
     pub memory: usize,
 }
 
-/// An answer: a schedule, and where it leads.
+/// An answer: a schedule, and the settled world or fault that it leads to.
 #[derive(Drop)]
 pub struct Answer {
-    /// The fibers whose entries are made, in turn.
+    /// The fibers that make the entries, in order.
     pub schedule: Vec<u16>,
-    /// A settled world, whose report no entry changes any more, or a fault.
+    /// A settled world, whose report no further entry changes, or a fault.
     pub end: Landing,
 }
 
-/// What a search found.
+/// The result of a search.
 #[derive(Drop)]
 pub struct Found {
-    /// The settled worlds, one of each report, and behind them the faults. Where the search isn't complete, these are
-    /// the ones that are certain. Worlds are met breadth first, so the schedules are short; no contract says so.
+    /// One settled world for each report, then the faults. If the search isn't complete, these are only the certain
+    /// ones. Worlds are met breadth first, so the schedules are short; no contract promises this.
     pub answers: Vec<Answer>,
-    /// Every schedule was searched: no other leads to a fault that isn't listed, or to a settled world of another
-    /// report. It is so where all worlds are kept, each of them is met by fewer entries than the most, fewer bytes are
-    /// counted than the bound, and the watcher hasn't ended the search.
+    /// Whether every schedule was searched: then each schedule that leads to a fault or to a settled world leads to a
+    /// listed fault or report. This holds if all worlds are kept, each is met by fewer entries than their bound, fewer
+    /// bytes are counted than their bound, and the watcher didn't end the search.
     pub complete: bool,
-    /// The watcher has ended the search.
+    /// Whether the watcher ended the search.
     pub halted: bool,
-    /// How many worlds the store has.
+    /// The number of worlds in the store.
     pub worlds: usize,
-    /// How many entries were met that lead from one world to another.
+    /// The number of entries that lead from one world to another one.
     pub edges: usize,
-    /// How many bytes are counted for what is kept: 13 for each world, 8 for each of these entries, and what the store
-    /// counts ([`Worlds::bytes`](crate::Worlds::bytes)). It is an estimate of the memory that is taken.
+    /// The number of bytes that are counted: 13 for each world, 8 for each of `edges`, and those of the store
+    /// ([`Worlds::bytes`](crate::Worlds::bytes)). It is an estimate of the memory in use.
     pub bytes: usize,
 }

@@ -1,4 +1,4 @@
-//! Claims of worlds, which are looked at in each world that was met.
+//! Claims of worlds, checked in each world that was met.
 
 ghost use Rattle.std.specs.Prelude.{◌≡◌, ℕ, ◌<◌, ◌≤◌, List, Bool, length, true, false, max, Ok as GoesWell};
 ghost use Rattle.std.specs.Prelude.{IfNone, IfOk, IfSome, OnOk, Some};
@@ -21,7 +21,7 @@ use std::alloc::{AllocError, Global};
 
 /// A store of worlds that may meet claims.
 pub trait Claims: Worlds {
-    /// What is claimed of a world.
+    /// A claim of a world.
     type Claim;
 
     // Whether a world meets a claim.
@@ -39,29 +39,30 @@ pub trait Claims: Worlds {
 pub struct Met {
     /// The number of the claim.
     pub claim: usize,
-    /// The fibers whose entries are made, in turn.
+    /// The fibers that make the entries, in order.
     pub schedule: Vec<u16>,
 }
 
-/// What a search found of claims.
+/// The result of a search for worlds that meet claims.
 #[derive(Drop)]
 pub struct Claimed {
-    /// The claims that some world meets, in their order, each with the schedule to the first such world that was found.
+    /// The claims that some world meets, in their order, each with a schedule to the first world found that meets the
+    /// claim.
     pub met: Vec<Met>,
-    /// Every schedule was searched: no schedule leads to a world that meets another of the claims.
+    /// Whether every schedule was searched: then no schedule leads to a world that meets another of the claims.
     pub complete: bool,
-    /// The watcher has ended the search.
+    /// Whether the watcher ended the search.
     pub halted: bool,
-    /// How many worlds the store has.
+    /// The number of worlds in the store.
     pub worlds: usize,
-    /// How many bytes are counted for what is kept, as in [`Found`](crate::Found).
+    /// The number of bytes that are counted, as in [`Found`](crate::Found).
     pub bytes: usize,
 }
 
 /// Searches every schedule from the first world of a store for worlds that meet claims.
 ///
-/// The worlds are those that [`search`](crate::search) meets; each claim is looked at in each of them, until one meets
-/// it. The watcher is asked, and memory is bounded, as there.
+/// The search meets the same worlds as [`search`](crate::search), and checks each claim in one world after another
+/// until a world meets the claim. The watcher and the bound on memory have the same effects as there.
 pub fn search_claims<W: Claims, V: Watcher>(
     alloc: Global,
     worlds: &mut W,
@@ -101,7 +102,7 @@ pub fn search_claims<W: Claims, V: Watcher>(
     })
 }
 
-// The claims that worlds of these nodes meet.
+// Lists the claims that worlds of these nodes meet.
 fn list_met<W: Claims>(
     alloc: Global,
     worlds: &W,
@@ -150,7 +151,7 @@ fn look_for<W: Claims>(
     }
 }
 
-// The first of so many worlds that meets a claim.
+// The first of the worlds below number `many` that meets a claim.
 fn first_meeting<W: Claims>(
     worlds: &W,
     many: usize,

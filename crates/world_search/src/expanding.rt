@@ -1,4 +1,4 @@
-//! The entries at each world that was met, in turn.
+//! Makes the entries at each world that was met.
 
 ghost use Rattle.std.specs.Prelude.{◌≡◌, ◌≢◌, ◌⊎◌, ℕ, ◌+◌, ◌*◌, ◌<◌, ◌≤◌, length, true, false, max, IfOk, OnOk, Some};
 ghost use Rattle.std.specs.List.{slice_get};
@@ -16,44 +16,44 @@ use crate::store::Worlds;
 use crate::watching::Watcher;
 use std::alloc::AllocError;
 
-// The watcher is asked at one of this number of worlds.
+// The watcher is asked once for this number of worlds.
 const ASKED_EACH: usize = 100;
 
-/// How far the entries go.
+/// The limits of a search.
 #[derive(Clone, Copy)]
 pub struct Limits {
-    /// The most worlds.
+    /// The greatest number of worlds.
     pub worlds: u32,
-    /// The most entries that lead to one.
+    /// The greatest number of entries that lead to a world.
     pub entries: u32,
-    /// The bytes at which no more entries are made.
+    /// The number of bytes at which no more entries are made.
     pub memory: usize,
 }
 
-/// What came of entries at a world.
+/// The result of entries at a world.
 #[derive(Clone, Copy)]
 pub enum Came {
-    /// Each of them changes nothing, or leads to a world of the same report.
+    /// Each entry changes nothing, or leads to a world of the same report.
     Stays,
-    /// One of them changes the report or ends in a fault. What comes of them is all among what was met.
+    /// One entry changes the report or ends in a fault. Each entry leads to a world or a fault that was met.
     Leaves,
-    /// What comes of one of them isn't kept.
+    /// One entry leads to a world that isn't kept.
     Lost,
 }
 
-/// How the making of entries ended.
+/// How a search ended.
 #[derive(Clone, Copy)]
 pub enum Closing {
-    /// All that comes of the entries was met.
+    /// Each entry was made, and leads to a world or a fault that was met.
     Whole,
     /// A limit was met.
     Bounded,
-    /// The watcher has ended it.
+    /// The watcher ended the search.
     Halted,
 }
 
 impl Closing {
-    /// Whether all that comes of the entries was met.
+    /// Whether each entry was made, and leads to a world or a fault that was met.
     pub fn is_whole(self) -> bool
         ensures yes { result ≡ true → self ≡ Closing.Whole }
         ensures no { result ≡ false → self ≢ Closing.Whole }
@@ -61,7 +61,7 @@ impl Closing {
         matches!(self, Closing::Whole)
     }
 
-    /// Whether the watcher has ended it.
+    /// Whether the watcher ended the search.
     pub fn is_halted(self) -> bool
         ensures yes { result ≡ true → self ≡ Closing.Halted }
         ensures no { result ≡ false → self ≢ Closing.Halted }
@@ -70,7 +70,8 @@ impl Closing {
     }
 }
 
-/// Makes the entries at all worlds that are met, as far as the limits go and the watcher lets it. How that ended.
+/// Makes the entries at all worlds that are met, within the limits and until the watcher ends the search. Returns how
+/// the search ended.
 pub fn explore<W: Worlds, V: Watcher>(
     worlds: &mut W,
     graph: &mut Graph,
@@ -118,7 +119,7 @@ pub fn explore<W: Worlds, V: Watcher>(
     }
 }
 
-/// How many bytes are counted for the worlds and for what is known of them.
+/// The number of bytes that are counted for the worlds and the graph.
 pub fn bytes_of<W: Worlds>(worlds: &W, graph: &Graph) -> usize
     ensures { result ≡ bytes_of (length (W.worlds worlds.now)) (length graph.now.edges.items) (W.bytes worlds.now) }
 {
@@ -127,7 +128,7 @@ pub fn bytes_of<W: Worlds>(worlds: &W, graph: &Graph) -> usize
     nodes.saturating_add(edges).saturating_add(worlds.bytes())
 }
 
-// Whether the entries at the world of this number are within the limits of worlds and of memory.
+// Whether the limits of worlds and of memory allow the entries at the world of this number.
 fn has_room<W: Worlds>(worlds: &W, graph: &Graph, index: usize, limits: Limits) -> bool
     ensures few { result ≡ true → index < limits.worlds }
     ensures room { result ≡ true → bytes_of (length (W.worlds worlds.now)) (length graph.now.edges.items)
@@ -138,8 +139,8 @@ fn has_room<W: Worlds>(worlds: &W, graph: &Graph, index: usize, limits: Limits) 
     index < limits.worlds as usize && bytes_of(worlds, graph) < limits.memory
 }
 
-// How the making of entries ended, by whether this is the number of all worlds that were met, and the memory is within
-// its limit.
+// How a search ended whose next world has this number: whole if no world with this number was met, and the memory is
+// below its limit.
 fn closing_at<W: Worlds>(worlds: &W, graph: &Graph, index: usize, limits: Limits) -> Closing
     ensures all { result ≡ Closing.Whole → length graph.now.nodes.items ≤ index }
     ensures spare { result ≡ Closing.Whole → bytes_of (length (W.worlds worlds.now)) (length graph.now.edges.items)
@@ -155,7 +156,7 @@ fn closing_at<W: Worlds>(worlds: &W, graph: &Graph, index: usize, limits: Limits
     }
 }
 
-// Whether the watcher lets the search go on, if it is asked at the world of this number.
+// Whether the search goes on at the world of this number: asks the watcher if it is due.
 fn lets_go_on<V: Watcher>(watcher: &mut V, graph: &Graph, index: usize) -> bool
     requires { index < length graph.now.nodes.items }
     ensures same { V.can_stop watcher.new ≡ V.can_stop watcher.old }
@@ -168,7 +169,7 @@ fn lets_go_on<V: Watcher>(watcher: &mut V, graph: &Graph, index: usize) -> bool
     watcher.goes_on(graph.nodes.len(), graph.nodes[index].depth as usize)
 }
 
-// All entries at one world. Whether what comes of them is all among what was met.
+// Makes all entries at one world. Returns whether they were made and each leads to a world or a fault that was met.
 fn expand<W: Worlds>(
     worlds: &mut W,
     graph: &mut Graph,
@@ -217,7 +218,7 @@ fn expand<W: Worlds>(
     }
 }
 
-// What came of entries and of one more.
+// The result of some entries and of one more, from the results of both.
 fn worse(one: Came, other: Came) -> Came
     ensures { result ≡ worse_of one other }
 {
@@ -228,7 +229,7 @@ fn worse(one: Came, other: Came) -> Came
     }
 }
 
-// One entry at one world.
+// Makes one entry at one world.
 fn enter<W: Worlds>(
     worlds: &mut W,
     graph: &mut Graph,
@@ -272,7 +273,7 @@ fn enter<W: Worlds>(
     }
 }
 
-// An entry leads to the world of this number.
+// Records that an entry leads to the world of this number.
 fn meet<W: Worlds>(
     worlds: &W,
     graph: &mut Graph,

@@ -1,4 +1,4 @@
-//! What a search knows of the worlds that it has met.
+//! The graph of a search: the worlds that it has met, and the entries between them.
 
 ghost use Rattle.std.specs.Prelude.{◌≡◌, ◌⊎◌, ◌<◌, ◌^◌, ◌≤◌, length, true, false, IfOk, OnOk};
 ghost use Rattle.world_search.specs.Private.Shapes.{shape, begun, Keeps, Notes, IsNotedIn};
@@ -6,14 +6,14 @@ ghost use Rattle.world_search.specs.Private.Shapes.{with_edge, with_quiet};
 
 use std::alloc::{AllocError, Global};
 
-/// By which entry a world or a fault was met first.
+/// The entry by which a world or a fault was met first.
 #[derive(Clone, Copy)]
 pub struct Node {
     /// The number of the world at which the entry was made.
     pub from: u32,
-    /// How many entries lead here: 0 at the first world alone.
+    /// The number of entries that lead here: 0 only for the first world.
     pub depth: u32,
-    /// The fiber whose entry it was.
+    /// The fiber that made the entry.
     pub fiber: u16,
 }
 
@@ -22,34 +22,34 @@ pub struct Node {
 pub struct Edge {
     /// The number of the world at which the entry is made.
     pub from: u32,
-    /// The number of the world that comes of it.
+    /// The number of the world that the entry leads to.
     pub to: u32,
 }
 
-/// A fault, and how it was met first.
+/// A fault, and the entry by which it was met first.
 #[derive(Clone, Copy)]
 pub struct Noted {
-    /// Its number.
+    /// The number of the fault.
     pub fault: usize,
-    /// The entry that ends in it.
+    /// The entry that ends in the fault.
     pub node: Node,
 }
 
-/// The worlds that were met, each by its number, and where their entries lead.
+/// The worlds that were met, each with a number, and where their entries lead.
 #[derive(Drop)]
 pub struct Graph {
-    /// How each world was met first.
+    /// The entry by which each world was met first.
     pub nodes: Vec<Node>,
     /// The entries that lead from one world to another one.
     pub edges: Vec<Edge>,
-    /// The faults.
+    /// The faults that were met.
     pub noted: Vec<Noted>,
-    /// Of each world, whether it isn't known that its entries keep its report: not all of them were made, one of them
-    /// ends in a fault, or one changes the report.
+    /// For each world, `false` once all of its entries are known to keep its report; `true` if not all of them were
+    /// made, one of them ends in a fault, or one changes the report.
     pub unsettled: Vec<bool>,
 }
 
-/// The first world alone.
+/// The graph of the first world alone.
 pub fn begin(alloc: Global) -> Result<Graph, AllocError>
     ensures { IfOk result (λ it. shape it ≡ begun) }
 {
@@ -69,8 +69,8 @@ pub fn begin(alloc: Global) -> Result<Graph, AllocError>
     })
 }
 
-/// Whether the world of this number is among the worlds, where this entry leads to it: if it is the next one, and there
-/// are fewer than `most`, it is added.
+/// Whether the graph has the world `to`, and `to` is below `most`. If it is the next number, the world is added first;
+/// `node` is the entry that leads to the world.
 pub fn keep(graph: &mut Graph, node: Node, to: usize, most: u32) -> Result<bool, AllocError>
     ensures keeps { OnOk result (Keeps (shape graph.old) (shape graph.new) node to) }
     ensures kept { IfOk result (λ it. it ≡ true → to < length graph.new.nodes.items) }
@@ -95,7 +95,7 @@ pub fn add_edge(graph: &mut Graph, edge: Edge) -> Result<(), AllocError>
     Ok(())
 }
 
-/// The fault is among the faults, which this entry ends in.
+/// Adds the fault that this entry ends in, unless it was noted before.
 pub fn note(graph: &mut Graph, fault: usize, node: Node) -> Result<(), AllocError>
     ensures { OnOk result (Notes (shape graph.old) (shape graph.new) fault node) }
 {
@@ -106,7 +106,7 @@ pub fn note(graph: &mut Graph, fault: usize, node: Node) -> Result<(), AllocErro
     Ok(())
 }
 
-// Whether the fault is among those noted.
+// Whether the fault was noted.
 fn is_noted(noted: &[Noted], fault: usize) -> bool
     ensures yes { result ≡ true → IsNotedIn noted.now fault }
     ensures no { result ≡ false → IsNotedIn noted.now fault → ⊥ }
@@ -119,7 +119,7 @@ fn is_noted(noted: &[Noted], fault: usize) -> bool
     false
 }
 
-/// The entries of this world keep its report.
+/// Records that the entries at this world keep its report.
 pub fn set_quiet(graph: &mut Graph, index: usize)
     requires { index < length graph.old.unsettled.items }
     ensures { shape graph.new ≡ with_quiet (shape graph.old) index }

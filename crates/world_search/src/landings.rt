@@ -9,10 +9,10 @@ pub enum Landing {
     Fault(usize),
 }
 
-/// What came of an entry.
+/// The result of an entry.
 #[derive(Clone, Copy)]
 pub enum Entered {
-    /// It leads there.
+    /// The entry leads there.
     At(Landing),
     /// There is no room for one more world.
     Full,

@@ -1,13 +1,13 @@
-//! A search of every schedule: all that the entries of fibers can make of a first world.
+//! A search of every schedule from a first world: the settled worlds and the faults that schedules lead to.
 //!
 //! A system is a store of worlds and faults ([`Worlds`]): the entry of a fiber at a world leads to a world or to a
-//! fault, and the store numbers both. A schedule is a list of fibers, whose entries are made in turn. [`search`]
-//! makes each entry at each world that it meets, once. It lists the reports of the settled worlds, those whose
-//! report no entry changes any more and from which no fault comes, and the faults, each with a schedule that leads
-//! there. Where it was complete, no schedule leads to another.
+//! fault, and the store numbers both. A schedule is a list of fibers that make their entries in order. [`search`] makes
+//! each entry at each world that it meets, once. A world is settled if no schedule from it changes its report or ends
+//! in a fault. The search lists the reports of the settled worlds and the faults, each with a schedule that leads
+//! there. If the search is complete, no schedule leads to another of these.
 //!
-//! Which worlds are settled is found backwards: a world isn't where one of its entries changes the report or ends in a
-//! fault, and neither is one from which an entry leads to such a world.
+//! The search finds the settled worlds backwards. A world isn't settled if one of its entries changes the report, ends
+//! in a fault, or leads to a world that isn't settled.
 #![tactic(auto)]
 
 mod answers;

@@ -1,4 +1,4 @@
-//! The answers of a search, read off what is known of the worlds.
+//! Lists the answers of a search from its graph.
 
 ghost use Rattle.std.specs.Prelude.{◌≡◌, ℕ, ◌<◌, ◌≤◌, length, true, false, OnOk, Some, Ok as GoesWell};
 ghost use Rattle.std.specs.List.{slice_get};
@@ -43,7 +43,7 @@ pub fn list_worlds<W: Worlds>(
     Ok(())
 }
 
-// The same of one world.
+// Adds an answer for one world, unless it is unsettled or an answer has its report.
 fn list_world<W: Worlds>(
     alloc: Global,
     worlds: &W,
@@ -99,7 +99,7 @@ fn is_told<W: Worlds>(worlds: &W, answers: &[Answer], index: usize) -> bool
     false
 }
 
-// Whether this end has the report of that world.
+// Whether this end is a world with the report of the world `index`.
 fn tells<W: Worlds>(worlds: &W, end: Landing, index: usize) -> bool
     requires low { index < length (W.worlds worlds.now) }
     requires within { (j : ℕ) → end ≡ Landing.World j → j < length (W.worlds worlds.now) }
@@ -113,7 +113,7 @@ fn tells<W: Worlds>(worlds: &W, end: Landing, index: usize) -> bool
     }
 }
 
-// Adds an answer: this end, and the schedule that leads there.
+// Adds an answer with this end and the schedule that leads there.
 fn tell(
     alloc: Global,
     nodes: &[Node],

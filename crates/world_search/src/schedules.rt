@@ -1,4 +1,4 @@
-//! The schedule that leads to a world or a fault, read back.
+//! The schedule that leads to a world or a fault, read back from its last entry.
 
 ghost use Rattle.std.specs.Prelude.{IfOk};
 ghost use Rattle.world_search.specs.Private.Paths.{AreChained, IsChained, IsPath};
@@ -6,7 +6,7 @@ ghost use Rattle.world_search.specs.Private.Paths.{AreChained, IsChained, IsPath
 use crate::graphs::Node;
 use std::alloc::{AllocError, Global};
 
-/// The schedule whose last entry is this one.
+/// Returns the schedule that leads to the node `last`.
 pub fn schedule_to(alloc: Global, nodes: &[Node], last: Node) -> Result<Vec<u16>, AllocError>
     requires nodes { AreChained nodes.now }
     requires last { IsChained nodes.now last }

@@ -1,4 +1,4 @@
-//! The search.
+//! The search of every schedule.
 
 ghost use Rattle.std.specs.Prelude.{◌≡◌, ℕ, ◌*◌, ◌<◌, ◌≤◌, ◌++◌, List, length, true, false, max, min, Ok as GoesWell};
 ghost use Rattle.std.specs.Prelude.{IfOk, OnOk, Some};
@@ -18,15 +18,15 @@ use crate::store::Worlds;
 use crate::watching::Watcher;
 use std::alloc::{AllocError, Global};
 
-/// Searches every schedule from the first world of a store, the one of number 0.
+/// Searches every schedule from the first world of a store, which has number 0.
 ///
-/// Each entry is made once at each world that is met. The watcher is asked at each hundredth world whether the search
-/// goes on, with how far it has come; where it says no, the search ends with what was found ([`Found::halted`]). Where
-/// nobody watches, it is [`Unwatched`](crate::Unwatched). `AllocError` where memory is refused; where the memory is
-/// bounded ([`Bounds::memory`]), the search stops before.
+/// Each entry is made once at each world that is met. At each hundredth world the watcher gets the progress of the
+/// search and can end it; the result is then what was found so far ([`Found::halted`]). [`Unwatched`](crate::Unwatched)
+/// ends no search. `AllocError` where memory is refused; a bound on memory ([`Bounds::memory`]) can stop the search
+/// before that.
 ///
-/// Where no entry makes a report smaller, and each that changes it makes it larger, a complete search can always go on:
-/// from wherever a schedule has led, some entries more lead to an answer (`onward`).
+/// If each entry keeps the report or makes it larger, and the search is complete, then after each schedule some further
+/// entries lead to an answer (`onward`).
 pub fn search<W: Worlds, V: Watcher>(
     alloc: Global,
     worlds: &mut W,
@@ -82,7 +82,7 @@ pub fn search<W: Worlds, V: Watcher>(
     })
 }
 
-/// The limits of these bounds, as numbers of the graph.
+/// The limits of these bounds, in the number types of the graph.
 pub fn limits_of(bounds: Bounds) -> Limits
     ensures worlds { result.worlds ≡ min bounds.worlds 4294967295 }
     ensures entries { result.entries ≡ min bounds.entries 4294967295 }
@@ -97,7 +97,7 @@ pub fn limits_of(bounds: Bounds) -> Limits
     }
 }
 
-// A bound as a number of the graph.
+// The bound, or 2^32 - 1 if the bound is greater.
 fn capped(bound: usize) -> u32
     ensures below { result ≤ bound }
     ensures exact { result ≡ min bound 4294967295 }

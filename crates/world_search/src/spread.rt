@@ -1,4 +1,4 @@
-//! Flags that go from a world back to all that lead to it.
+//! Flags that spread from a world back to all worlds that lead there.
 
 ghost use Rattle.std.specs.Prelude.{◌≡◌, ℕ, ◌<◌, ◌≤◌, length, true, false, vec_len, slice_set, Some};
 ghost use Rattle.std.specs.List.{slice_get};
@@ -17,7 +17,7 @@ pub fn spread(edges: &[Edge], flags: &mut Vec<bool>)
     while sweep(edges, &mut *flags) {}
 }
 
-// One pass, from the last edge to the first. Whether a flag was set.
+// Passes once over the edges, from the last to the first. Returns whether a flag was set.
 fn sweep(edges: &[Edge], flags: &mut Vec<bool>) -> bool
     requires { AreWithin edges.now (length flags.old.items) }
     ensures long { length flags.new.items ≡ length flags.old.items }
@@ -35,7 +35,7 @@ fn sweep(edges: &[Edge], flags: &mut Vec<bool>) -> bool
     changed
 }
 
-// The same of one edge.
+// Flags the world at which the edge begins, if the edge leads to a flagged one. Returns whether the flag was set.
 fn pass(edge: Edge, flags: &mut Vec<bool>) -> bool
     requires from { edge.from < length flags.old.items }
     requires to { edge.to < length flags.old.items }

@@ -1,4 +1,4 @@
-//! What a search asks of a system.
+//! The operations of a system that a search uses.
 
 ghost use Rattle.std.specs.Prelude.{◌≡◌, ◌≢◌, ℕ, ◌<◌, ◌≤◌, List, length, true, false, max, Result, Ok as GoesWell};
 ghost use Rattle.std.specs.Prelude.{IfOk, OnOk, Some};
@@ -11,11 +11,11 @@ use std::alloc::AllocError;
 
 /// A growing store of worlds and faults, each of them with a number.
 pub trait Worlds: Drop {
-    /// A world. No value of it is ever made here: it is the word of the clauses.
+    /// A world. Only contracts use the type; the search makes no value of it.
     type World;
-    /// Why an entry makes no move and ends the schedule; a word of the clauses.
+    /// Why an entry makes no move and ends the schedule. Only contracts use the type.
     type Fault;
-    /// What is told of a world; a word of the clauses.
+    /// The report of a world. Only contracts use the type.
     type Report;
 
     // The worlds, by their numbers.
@@ -24,23 +24,24 @@ pub trait Worlds: Drop {
     ghost faults: { Self → List Self.Fault };
     // The entry of a fiber.
     ghost step: { Self.World → ℕ → Result Self.World Self.Fault };
-    // What is told of a world.
+    // The report of a world.
     ghost report: { Self.World → Self.Report };
-    // No world has more fibers.
+    // The greatest number of fibers of a world.
     ghost most_born: { ℕ };
-    // How many bytes are counted for what is kept.
+    // The number of bytes that the store counts.
     ghost bytes: { Self → ℕ };
 
-    /// How many fibers the world of this number has. An entry of another number changes nothing.
+    /// The number of fibers of the world of this number. An entry of another fiber changes nothing.
     fn born(&self, world: usize) -> u16
         requires { world < length (worlds self.now) }
         ensures rests { (w : Self.World) → slice_get (worlds self.now) world ≡ Some w → (f : ℕ) → result ≤ f →
             step w f ≡ GoesWell w }
         ensures many { result ≤ most_born };
 
-    /// Makes the entry of a fiber at the world of this number. What comes of it is then among the worlds and faults,
-    /// unless it is a new world and there are `most` already: then the answer is [`Entered::Full`]. A new world has the
-    /// next number, and no other comes with it. `AllocError` where memory is refused.
+    /// Makes the entry of a fiber at the world of this number. The store then has the world or fault that the entry
+    /// leads to. A new world gets the next number; no other world is added. If the world is new and the store has at
+    /// least `most` worlds, no world is added, and the result is [`Entered::Full`]. `AllocError` where memory is
+    /// refused.
     fn enter(&mut self, world: usize, fiber: u16, most: usize) -> Result<Entered, AllocError>
         requires { world < length (worlds self.old) }
         ensures worlds { OnOk result (IsMore (worlds self.old) (worlds self.new)) }
@@ -59,11 +60,11 @@ pub trait Worlds: Drop {
         ensures no { result ≡ false → (v w : Self.World) → slice_get (worlds self.now) one ≡ Some v →
             slice_get (worlds self.now) other ≡ Some w → report v ≢ report w };
 
-    /// How many worlds there are.
+    /// The number of worlds.
     fn len(&self) -> usize
         ensures { result ≡ length (worlds self.now) };
 
-    /// How many bytes are counted for what is kept: an estimate, which the store makes.
+    /// The number of bytes that the store counts, an estimate of its memory.
     fn bytes(&self) -> usize
         ensures { result ≡ bytes self.now };
 }

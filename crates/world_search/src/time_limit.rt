@@ -5,22 +5,22 @@ ghost use Rattle.std.specs.Prelude.{◌≡◌, false, is_some, true};
 use crate::watching::Watcher;
 use std::time::{Clock, Duration, Instant};
 
-/// Ends a search once this number of seconds has passed by a clock. Where no number is given, and where the clock fails,
-/// it lets each search go on.
+/// Ends a search once this number of seconds has passed by a clock. If no number is given or the clock fails, no search
+/// is ended.
 #[derive(Drop)]
 pub struct TimeLimit<'c, C: Clock> {
     /// The clock.
     pub clock: &'c C,
-    /// When the seconds began, if the clock could say.
+    /// When the seconds began; `None` if the clock failed.
     pub begun: Option<Instant>,
-    /// After how many seconds a search ends, if it does.
+    /// The number of seconds after which a search ends; `None` for no limit.
     pub seconds: Option<u64>,
-    /// A search was ended.
+    /// Whether a search was ended.
     pub stopped: bool,
 }
 
 impl<'c, C: Clock> TimeLimit<'c, C> {
-    /// A limit of this number of seconds, which begin now.
+    /// Returns a limit of this number of seconds, which begin now.
     pub fn new(clock: &'c C, seconds: Option<u64>) -> TimeLimit<'c, C>
         ensures seconds { result.seconds ≡ seconds }
         ensures fresh { result.stopped ≡ false }
@@ -33,12 +33,12 @@ impl<'c, C: Clock> TimeLimit<'c, C> {
         }
     }
 
-    /// How much time has passed, if the clock can say.
+    /// The time that has passed; `None` if the clock fails.
     pub fn elapsed(&self) -> Option<Duration> {
         self.begun?.elapsed(self.clock).ok()
     }
 
-    /// Whether a search goes on when this time has passed.
+    /// Whether a search goes on after this time.
     pub fn goes_on_at(&mut self, time: Option<Duration>) -> bool
         ensures seconds { self.new.seconds ≡ self.old.seconds }
         ensures can { result ≡ false → is_some self.old.seconds ≡ true }

@@ -1,15 +1,15 @@
-//! Who watches a search, and can end it.
+//! Watchers of a search, which can end it.
 
 ghost use Rattle.std.specs.Prelude.{◌≡◌, Bool, true, false};
 
-/// Hears from time to time how far a search has come, while it goes, and can end it.
+/// A watcher: it gets the progress of a running search from time to time, and can end the search.
 pub trait Watcher {
-    // Whether it can end a search.
+    // Whether the watcher can end a search.
     ghost can_stop: { Self → Bool };
-    // Whether it has ended one.
+    // Whether the watcher has ended a search.
     ghost has_stopped: { Self → Bool };
 
-    /// Whether the search goes on: this number of worlds was met, and entries are made next at a world to which `depth`
+    /// Whether the search goes on. It has met `worlds` worlds, and next makes the entries at a world to which `depth`
     /// entries lead.
     fn goes_on(&mut self, worlds: usize, depth: usize) -> bool
         ensures same { can_stop self.new ≡ can_stop self.old }

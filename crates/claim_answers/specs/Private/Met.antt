@@ -1,4 +1,4 @@
--- What a search for claims has found.
+-- The result of a search for claims.
 use Rattle.std.specs.Prelude.{◌≡◌, ◌<◌, ◌≤◌, ⊤, ℕ, Bool, true, false, List, Some, length}
 use Rattle.std.specs.declared.alloc.Global.{Global}
 use Rattle.std.specs.declared.vec.Vec.{Vec}
@@ -15,7 +15,7 @@ use Rattle.claim_answers.specs.declared.judging.Verdict.TheVariants.{Moment, NoM
 use Rattle.claim_answers.specs.declared.lines.ClaimForm.{ClaimForm}
 use Rattle.claim_answers.specs.Verdicts.{IsLine}
 
--- each was met by its schedule, and where the search is complete no schedule meets another one
+-- each claim in `met` was met by its schedule, and if the search is complete, no schedule meets another claim
 pub record AreMet (code : Tree) (k : Limits) (wanted : List (List ClaimWord)) (complete : Bool) (met : List Met)
     : Type 0 where
   pub each : All (IsMetIn code k wanted) met
@@ -23,11 +23,11 @@ pub record AreMet (code : Tree) (k : Limits) (wanted : List (List ClaimWord)) (c
       (IsFound i met → ⊥) → (schedule : List ℕ) → Meets code k words schedule → ⊥
   pub numbers : All (IsFew 1000) met
 
--- the claim of this number is the one that is met there
+-- the claim of the number `n` is at the index `i` of `met`
 abbrev pub IsMetAt : List Met → ℕ → ℕ → Type 0
 IsMetAt met n i = (m : Met) × (slice_get met i ≡ Some m) × (m.claim ≡ n)
 
--- the verdict on a claim that is met so
+-- the verdict on a claim that was met
 abbrev pub IsVerdictOf : Met → Verdict → Type 0
 IsVerdictOf met (Moment schedule) = (schedule.items ≡ met.schedule.items) × (length schedule.items ≤ 1000000)
 IsVerdictOf met NoMoment = ⊥
@@ -38,12 +38,12 @@ abbrev pub unmet_verdict : Bool → Verdict
 unmet_verdict true = NoMoment
 unmet_verdict false = Undecided
 
--- its schedule can be spelled, if it has one
+-- the schedule can be spelled, if there is one
 abbrev pub IsSpellable : Verdict → Type 0
 IsSpellable (Moment schedule) = All (λ f. f < 1000) schedule.items × (length schedule.items ≤ 1000000)
 IsSpellable NoMoment = ⊤
 IsSpellable Undecided = ⊤
 
--- it is what is written of a claim
+-- the text of a claim with its verdict
 abbrev pub IsLineOf : ClaimForm → Asked → Verdict → Vec ℕ Global → Type 0
 IsLineOf form a v line = IsLine form a v line.items

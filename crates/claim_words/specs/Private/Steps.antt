@@ -7,27 +7,27 @@ use Rattle.every_schedule.specs.declared.claims.ClaimWord.TheVariants as its
 use Rattle.claim_words.specs.declared.words.SpelledWord.{SpelledWord}
 use Rattle.claim_words.specs.declared.words.SpelledWord.TheVariants.{Numbered, Named, Not, Join}
 
--- the first bytes are plain
+-- the first `n` bytes are plain
 abbrev pub IsPlainFront : List ℕ → ℕ → Type 0
 IsPlainFront text n = list_all is_plain (take n text) ≡ true
 
--- these bytes are a head, which makes a ref of this name, if it makes one
+-- these bytes are a head; the name is that of its ref, if it makes one
 pub data IsHeadText : List ℕ → Option (List ℕ) → Type 0 where
   of_ref : (x v : List ℕ) → list_all is_plain x ≡ true → list_all is_plain v ≡ true → IsHeadText (ref_head x v) (Some x)
   of_deferred : (g : List ℕ) → list_all is_plain g ≡ true → IsHeadText (deferred_head g) None
 
--- the text is a head, which makes a ref of this name, if it makes one, and the rest
+-- the text is a head and the rest; the name is that of the head's ref, if it makes one
 pub record IsNextHead (text : List ℕ) (name : Option (List ℕ)) (rest : List ℕ) : Type 0 where
   pub front : List ℕ
   pub is : IsHeadText front name
   pub text_is : text ≡ front ++ rest
 
--- how many refs a head makes
+-- the number of refs that a head makes
 abbrev pub made : Option (List ℕ) → ℕ
 made None = 0
 made (Some x) = 1
 
--- the text is a row of heads, which make so many refs, and the rest
+-- the text is a row of heads, which make `number` refs, and the rest
 pub record AreHeads (text rest : List ℕ) (number : ℕ) : Type 0 where
   pub front : List ℕ
   pub names : List (List ℕ)
@@ -35,7 +35,7 @@ pub record AreHeads (text rest : List ℕ) (number : ℕ) : Type 0 where
   pub text_is : text ≡ front ++ rest
   pub many : length names ≡ number
 
--- the first number, or 0 where there is none
+-- the first number, or 0 if there is none
 abbrev pub first_of : List ℕ → ℕ
 first_of [] = 0
 first_of (n ∷ ns) = n
@@ -46,7 +46,7 @@ is_named (Numbered n how v) = false
 is_named Not = false
 is_named (Join j) = false
 
--- a word, where the refs that are named have these numbers, from this word on
+-- a word, with the first of these numbers in place of the name of its ref
 abbrev pub claim_word : List ℕ → SpelledWord → ClaimWord
 claim_word ns (Numbered n how v) = its.Compare n how v
 claim_word ns (Named how v) = its.Compare (first_of ns) how v

@@ -1,4 +1,4 @@
--- What becomes of a world that is to be kept.
+-- The result of adding a world.
 use Rattle.std.specs.Prelude.{◌≡◌, ℕ, List, Some}
 use Rattle.std.specs.List.{slice_get}
 use Rattle.cell_registry.specs.declared.limits.RunError.{RunError}
@@ -8,13 +8,13 @@ use Rattle.world_search.specs.declared.landings.Entered.{Entered}
 use Rattle.world_search.specs.declared.landings.Entered.TheVariants as came
 use Rattle.every_outcome.specs.Places.{Place}
 
--- it has this number, where it has one
+-- the world has this number, unless there was no room
 abbrev pub IsKept : List Place → Entered → Place → Type 0
 IsKept ps (came.At (to.World j)) p = slice_get ps j ≡ Some p
 IsKept ps (came.At (to.Fault j)) p = ⊥
 IsKept ps came.Full p = Unit {0}
 
--- none of them is there twice
+-- no element occurs twice
 abbrev pub AreSingle : {A : Type 0} → List A → Type 0
 AreSingle xs = (i j : ℕ) (x : _) → slice_get xs i ≡ Some x → slice_get xs j ≡ Some x → i ≡ j
 

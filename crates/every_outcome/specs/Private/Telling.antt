@@ -1,4 +1,4 @@
--- The answers of a search, told with their outcomes and faults.
+-- The answers of a search, with their outcomes and faults.
 use Rattle.std.specs.Prelude.{◌≡◌, ◌<◌, ℕ, List, length, Option, Some, Result, Ok, Err}
 use Rattle.std.specs.List.{slice_get}
 use Rattle.effect_term.specs.declared.reply.Outcome.{Outcome}
@@ -20,12 +20,12 @@ abbrev pub IsEnd : Kept → Landing → Result (List (Option Outcome)) RunError 
 IsEnd k (World i) end = (p : Place) × (slice_get k.places i ≡ Some p) × (end ≡ Ok (outcomes_at p))
 IsEnd k (Fault i) end = (e : RunError) × (slice_get k.faults i ≡ Some e) × (end ≡ Err e)
 
--- a schedule of single entries that leads to the same, with the end that it leads to
+-- the answer has the outcomes or the fault that was found, and a schedule with every move as an entry that leads there
 pub record IsTold (k : Kept) (first : Place) (found : Found) (answer : OutcomeAnswer) : Type 0 where
   pub schedule : IsUnfolded first found.schedule.items answer.schedule
   pub ends : IsEnd k found.end answer.end
 
--- each answer is told, in the same order
+-- the answers are those that were found, in the same order
 pub record AreTold (k : Kept) (first : Place) (found : List Found) (answers : List OutcomeAnswer) : Type 0 where
   pub many : length answers ≡ length found
   pub each : (i : ℕ) (f : Found) (a : OutcomeAnswer) → slice_get found i ≡ Some f → slice_get answers i ≡ Some a →

@@ -1,11 +1,11 @@
--- What becomes of something that is to be kept.
+-- The numbers of what is kept.
 use Rattle.std.specs.Prelude.{◌≡◌, ℕ, List, Some}
 use Rattle.std.specs.List.{slice_get}
 use Rattle.world_search.specs.declared.landings.Landing.TheVariants as to
 use Rattle.world_search.specs.declared.landings.Entered.{Entered}
 use Rattle.world_search.specs.declared.landings.Entered.TheVariants as came
 
--- it has this number, where it has one
+-- the result is the number of p in the list, or that there was no room
 abbrev pub IsKept : {A : Type 0} → List A → Entered → A → Type 0
 IsKept ps (came.At (to.World j)) p = slice_get ps j ≡ Some p
 IsKept ps (came.At (to.Fault j)) p = ⊥

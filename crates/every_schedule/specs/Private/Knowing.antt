@@ -23,16 +23,16 @@ use_code Stores = 3
 use_code Completes = 4
 use_code Awaits = 5
 
--- where it is told whether a number can still be used so
+-- the place in `uses` of this use of a number
 abbrev pub use_place : Use → ℕ → ℕ
 use_place u n = 6 * n + use_code u
 
--- for the first numbers, whether a state that names what was given can still use them in each way, if that is known
+-- each known entry is right for a state that names only given numbers: whether it can still use the number in this way
 abbrev pub TellUses : Fiber → List (Option Bool) → Type 0
 TellUses g uses = (given : Given) → NamedRun given g.running → (u : Use) (n : ℕ) (b : Bool) →
     slice_get uses (use_place u n) ≡ Some (Some b) → b ≡ is_some (uses_in u n g.running)
 
--- a move that wants this is an own one of a fiber in no world, or in each
+-- a move with this wish is an own move in no world, or in each
 abbrev pub IsOwned : Wish → Bool → Owned → Type 0
 IsOwned d alone Never = (w : World) (f : ℕ) (g : Fiber) → waits_alone g ≡ alone → is_own w f g d ≡ false
 IsOwned d alone Always = (w : World) (f : ℕ) (g : Fiber) → waits_alone g ≡ alone → is_own w f g d ≡ true
@@ -44,6 +44,6 @@ pub record IsKnown (g : Fiber) (k : Known) : Type 0 where
   pub owned : IsOwned (wish_of (ask_of g)) (waits_alone g) k.owned
   pub uses : TellUses g k.uses.items
 
--- each of these is what is known of the state of its number
+-- each item is what is known of the state of its number
 abbrev pub AreKnownOf : List Fiber → List Known → Type 0
 AreKnownOf fs ks = (i : ℕ) (k : Known) → slice_get ks i ≡ Some k → (g : Fiber) × (slice_get fs i ≡ Some g) × IsKnown g k

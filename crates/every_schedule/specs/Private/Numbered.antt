@@ -14,7 +14,7 @@ pub record Numbers : Type 0 where
   pub registry : ℕ
   pub fibers : List ℕ
 
--- of the states, those of these numbers
+-- the states of these numbers
 abbrev pub picked : List Fiber → List ℕ → List Fiber
 picked fs [] = []
 picked fs (n ∷ ns) = option_to_list (slice_get fs n) ++ picked fs ns
@@ -43,7 +43,7 @@ pub record AreAt (fs : List Fiber) (ns : List ℕ) (gs : List Fiber) : Type 0 wh
   pub many : length ns ≡ length gs
   pub each : (i n : ℕ) → slice_get ns i ≡ Some n → IsAt fs gs i n
 
--- the states of these numbers are such fibers, but perhaps for one
+-- the states of these numbers are these fibers, except perhaps at the place `moved`
 abbrev pub AreKnown : List Fiber → List ℕ → List Fiber → ℕ → Type 0
 AreKnown fs ns gs moved = (i n : ℕ) → i ≢ moved → slice_get ns i ≡ Some n → IsAt fs gs i n
 
@@ -52,22 +52,22 @@ pub record IsWorldOf (fs : List Fiber) (rs : List PlainView) (n : Numbers) (p : 
   pub fibers : AreAt fs n.fibers p.world.fibers
   pub registry : slice_get rs n.registry ≡ Some record { limits = p.limits; state = p.world.cells }
 
--- there is such a world under these limits, and its fibers fit its cells
+-- the numbers make a world under these limits, and its fibers fit its cells
 pub record IsWorld (k : Limits) (fs : List Fiber) (rs : List PlainView) (n : Numbers) : Type 0 where
   pub place : Place
   pub limits : place.limits ≡ k
   pub is : IsWorldOf fs rs n place
   pub fits : AllFit place.world
 
--- each of the rows is one of a world
+-- each row makes a world
 abbrev pub AreWorlds : Limits → List Fiber → List PlainView → List Numbers → Type 0
 AreWorlds k fs rs rows = (i : ℕ) (n : Numbers) → slice_get rows i ≡ Some n → IsWorld k fs rs n
 
--- the row may be one more
+-- the new list is the old one, or has n after it
 abbrev pub MayAdd : {A : Type 0} → List A → List A → A → Type 0
 MayAdd old new n = (new ≡ old) ⊎ (new ≡ old ++ n ∷ [])
 
--- of these fibers, the first i have the states of these numbers, and those behind still have the states of those
+-- the first i of these fibers have the states of the numbers `ns`, and the others still those of `was`
 pub record AreBrought (fs : List Fiber) (was ns : List ℕ) (gs : List Fiber) (i : ℕ) : Type 0 where
   pub least : i ≤ length gs
   pub most : length gs ≤ length ns
@@ -75,6 +75,6 @@ pub record AreBrought (fs : List Fiber) (was ns : List ℕ) (gs : List Fiber) (i
   pub brought : (j n : ℕ) → j < i → slice_get ns j ≡ Some n → IsAt fs gs j n
   pub behind : (j n : ℕ) → i ≤ j → j < length gs → slice_get was j ≡ Some n → IsAt fs gs j n
 
--- but for the i-th, the elements stay
+-- all elements but the i-th stay
 abbrev pub SameBut : {A : Type 0} → ℕ → List A → List A → Type 0
 SameBut i old new = (j : ℕ) → j ≢ i → slice_get new j ≡ slice_get old j

@@ -1,10 +1,10 @@
--- Rows of numbers, one behind the other.
+-- Rows of numbers, stored one after the other.
 use Rattle.std.specs.Prelude.{◌≡◌, ◌-◌, ◌≤◌, ℕ, List, Some, take, drop}
 use Rattle.std.specs.List.{slice_get}
 use Rattle.every_schedule.specs.declared.rows.Head.{Head}
 use Rattle.every_schedule.specs.Private.Numbered.{Numbers}
 
--- the rows, and how many bytes are counted for them
+-- the rows, and the bytes counted for them
 pub record Packed : Type 0 where
   pub rows : List Numbers
   pub bytes : ℕ
@@ -13,7 +13,7 @@ pub record Packed : Type 0 where
 abbrev pub row_of : List ℕ → Head → Numbers
 row_of ns h = record { registry = h.registry; fibers = take (h.end - h.begin) (drop h.begin ns) }
 
--- its numbers are among so many
+-- the numbers of this head are among the first `many`
 pub record IsWithin (many : ℕ) (h : Head) : Type 0 where
   pub begins : h.begin ≤ h.end
   pub ends : h.end ≤ many

@@ -17,7 +17,7 @@ pub record Marked : Type 0 where
   pub world : ℕ
   pub seen : List ℕ
 
--- no world
+-- a world without fibers, for a number that has none
 abbrev pub no_limits : Limits
 no_limits = record { fibers = 0; refs = 0; deferreds = 0; count = 0 }
 
@@ -31,23 +31,23 @@ place_in None = nowhere
 abbrev pub view_of : List Place → Marked → View
 view_of places m = record { place = place_in (slice_get places m.world); seen = m.seen }
 
--- each of these numbers is one of a place
+-- each row has the number of a place
 abbrev pub AreThere : List Place → List Marked → Type 0
 AreThere places rows = (i : ℕ) (m : Marked) → slice_get rows i ≡ Some m → m.world < length places
 
--- all that is kept, and how many bytes are counted for it
+-- what a search for claims keeps, and the bytes counted for it
 pub record KeptViews : Type 0 where
   pub views : List View
   pub faults : List RunError
   pub bytes : ℕ
 
--- the row of what came of an entry may be one more
+-- at most one row is added: that of the world to which the entry led
 abbrev pub IsRowAdded : (old new : List Marked) → Entered → List ℕ → Type 0
 IsRowAdded old new (came.At (to.World j)) seen = MayAdd old new record { world = j; seen = seen }
 IsRowAdded old new (came.At (to.Fault j)) seen = new ≡ old
 IsRowAdded old new came.Full seen = new ≡ old
 
--- it is kept, or it is the same fault, or there was no room
+-- the row is kept, or the result is the same fault, or there was no room
 abbrev pub IsRowMet : List Marked → Entered → Entered → List ℕ → Type 0
 IsRowMet rows it (came.At (to.World j)) seen = IsKept rows it record { world = j; seen = seen }
 IsRowMet rows it (came.At (to.Fault j)) seen = it ≡ came.At (to.Fault j)

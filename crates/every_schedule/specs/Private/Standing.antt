@@ -1,4 +1,4 @@
--- The world at which entries are made: the numbers of its fibers' states, beside its registry.
+-- The world at which entries are made: the numbers of its fibers' states, and its registry.
 use Rattle.std.specs.Prelude.{◌≡◌, ℕ, List, Option, Some, None}
 use Rattle.std.specs.List.{slice_get}
 use Rattle.cell_registry.specs.Plain.{PlainView}
@@ -8,8 +8,8 @@ use Rattle.world_search.specs.Lists.{IsMore}
 use Rattle.every_schedule.specs.Places.{Place}
 use Rattle.every_schedule.specs.Private.Numbered.{picked}
 
--- the states of fibers and registries that are kept, the numbers of the fibers' states, the registry, and how many bytes
--- are counted for what is kept
+-- the kept states of fibers and registries, the numbers of the world's fibers, its registry, and the bytes counted for
+-- the states
 pub record Stand : Type 0 where
   pub fibers : List Fiber
   pub registries : List PlainView
@@ -21,18 +21,18 @@ pub record Stand : Type 0 where
 abbrev pub here : Stand → Place
 here s = record { limits = s.registry.limits; world = world_of (picked s.fibers s.numbers) s.registry.state }
 
--- each state is still the one of its number
+-- each number still has its state
 pub record IsOnward (old new : Stand) : Type 0 where
   pub fibers : IsMore old.fibers new.fibers
   pub registries : IsMore old.registries new.registries
 
--- the same world, of the same states
+-- the same world, and the same kept states
 pub record IsSame (old new : Stand) : Type 0 where
   pub fibers : new.fibers ≡ old.fibers
   pub registries : new.registries ≡ old.registries
   pub here : here new ≡ here old
 
--- the registry has this number, if there is one
+-- the registry is the kept one of this number, if a number is known
 abbrev pub IsNumbered : List PlainView → PlainView → Option ℕ → Type 0
 IsNumbered rs r None = Unit {0}
 IsNumbered rs r (Some n) = slice_get rs n ≡ Some r

@@ -1,4 +1,4 @@
--- The answers of a search, told with their reports and faults.
+-- The answers of a search, with their reports and faults.
 use Rattle.std.specs.Prelude.{◌≡◌, ◌<◌, ℕ, List, length, Some, Result, Ok, Err}
 use Rattle.std.specs.List.{slice_get}
 use Rattle.cell_registry.specs.declared.limits.RunError.{RunError}
@@ -24,7 +24,7 @@ pub record IsTold (k : Kept) (found : Found) (answer : Answer) : Type 0 where
   pub schedule : answer.schedule ≡ found.schedule.items
   pub ends : IsEnd k found.end answer.end
 
--- each answer is told, in the same order
+-- each answer with its end, in the same order
 pub record AreTold (k : Kept) (found : List Found) (answers : List Answer) : Type 0 where
   pub many : length answers ≡ length found
   pub each : (i : ℕ) (f : Found) (a : Answer) → slice_get found i ≡ Some f → slice_get answers i ≡ Some a → IsTold k f a

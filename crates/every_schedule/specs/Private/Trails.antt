@@ -18,7 +18,7 @@ abbrev pub AreMade : Place → List ℕ → Type 0
 AreMade p [] = Unit {0}
 AreMade p (f ∷ s) = HasMove p.world f × ((q : Place) → stepped p f ≡ Ok q → AreMade q s)
 
--- the entries that were added lead there
+-- the new trail is the old one and entries that lead from p to y
 pub record IsTrail (old new : List ℕ) (p : Place) (y : Result Place RunError) : Type 0 where
   pub added : List ℕ
   pub is : new ≡ old ++ added
@@ -26,7 +26,7 @@ pub record IsTrail (old new : List ℕ) (p : Place) (y : Result Place RunError) 
   pub few : All (λ f. f < 1000) added
   pub moves : AreMade p added
 
--- the own moves that were added lead there
+-- the new trail is the old one and own moves that lead from p to q
 pub record IsOwnTrail (stores : Bool) (old new : List ℕ) (p q : Place) : Type 0 where
   pub added : List ℕ
   pub is : new ≡ old ++ added
@@ -34,15 +34,15 @@ pub record IsOwnTrail (stores : Bool) (old new : List ℕ) (p q : Place) : Type 
   pub few : All (λ f. f < 1000) added
   pub moves : AreMade p added
 
--- the entry of fiber f was added, or nothing, where it changes nothing
+-- the entry of fiber f was added, or it changes nothing and wasn't added
 abbrev pub IsFirstOf : List ℕ → List ℕ → Place → ℕ → Type 0
 IsFirstOf old new p f = ((new ≡ old ++ f ∷ []) × HasMove p.world f) ⊎ ((new ≡ old) × (stepped p f ≡ Ok p))
 
--- the entries that the reduced exploration makes for one of fiber f
+-- the entries that the reduced exploration makes for one entry of fiber f
 abbrev pub MakesAtOnce : AtOnce → Place → ℕ → List ℕ → Type 0
 MakesAtOnce n p f made = Makes stepped (MayOwn n.stores) (leapt n) 1000 p f made
 
--- they were added
+-- the new trail is the old one and these entries
 pub record IsLeapTrail (n : AtOnce) (old new : List ℕ) (p : Place) (f : ℕ) : Type 0 where
   pub added : List ℕ
   pub is : new ≡ old ++ added
@@ -50,13 +50,13 @@ pub record IsLeapTrail (n : AtOnce) (old new : List ℕ) (p : Place) (f : ℕ) :
   pub few : All (λ g. g < 1000) added
   pub moves : AreMade p added
 
--- these entries lead to where the entries of the reduced exploration lead, each with such own moves behind it
+-- these entries lead where the schedule leads in the reduced exploration, which makes own moves after each entry
 pub record IsUnfolded (n : AtOnce) (first : Place) (schedule entries : List ℕ) : Type 0 where
   pub leads : run stepped (Ok first) entries ≡ run (leapt n) (Ok first) schedule
   pub few : All (λ f. f < 1000) entries
   pub moves : AreMade first entries
 
--- an answer that was found, with such entries, which are at most so many
+-- a is an answer that was found, with unfolded entries, at most `most`
 pub record IsUnfoldedOf (n : AtOnce) (most : ℕ) (first : Place) (found : List Found) (a : Found) : Type 0 where
   pub number : ℕ
   pub answer : Found
@@ -65,16 +65,16 @@ pub record IsUnfoldedOf (n : AtOnce) (most : ℕ) (first : Place) (found : List 
   pub entries : IsUnfolded n first answer.schedule.items a.schedule.items
   pub short : length a.schedule.items ≤ most
 
--- each of these is such an answer
+-- each of these is an unfolded answer with at most `most` entries
 abbrev pub AreUnfolded : AtOnce → ℕ → Place → List Found → List Found → Type 0
 AreUnfolded n most first found answers =
     (i : ℕ) (a : Found) → slice_get answers i ≡ Some a → IsUnfoldedOf n most first found a
 
--- one of them ends as that answer does
+-- one of these answers has the end of a
 abbrev pub IsKeptIn : List Found → Found → Type 0
 IsKeptIn answers a = (b : Found) × IsIn b answers × (b.end ≡ a.end)
 
--- an answer that was found, with such entries, which are more than so many
+-- a is an answer that was found, with unfolded entries, more than `most`
 pub record IsLeftOut (n : AtOnce) (most : ℕ) (first : Place) (found : List Found) (a : Found) : Type 0 where
   pub number : ℕ
   pub answer : Found
@@ -83,21 +83,21 @@ pub record IsLeftOut (n : AtOnce) (most : ℕ) (first : Place) (found : List Fou
   pub entries : IsUnfolded n first answer.schedule.items a.schedule.items
   pub long : most < length a.schedule.items
 
--- none of these answers ends as it does
+-- none of these answers has the end of a
 abbrev pub EndsAlone : Found → List Found → Type 0
 EndsAlone a answers = All (λ b. b.end ≢ a.end) answers
 
--- no two of these answers end at one number
+-- no two of these answers have the same end
 abbrev pub EndApart : List Found → Type 0
 EndApart answers = (i j : ℕ) (a b : Found) → slice_get answers i ≡ Some a → slice_get answers j ≡ Some b →
     a.end ≡ b.end → i ≡ j
 
--- reports come first
+-- the rank of an end: reports precede faults
 abbrev pub rank_of : Landing → ℕ
 rank_of (to.World j) = 0
 rank_of (to.Fault j) = 1
 
--- no answer stands before one of a lower rank, or before one of its own with a shorter schedule
+-- a can precede b: b has no lower rank, and with the same rank no shorter schedule
 pub record MayStand (a b : Found) : Type 0 where
   pub rank : rank_of a.end ≤ rank_of b.end
   pub short : rank_of a.end ≡ rank_of b.end → length a.schedule.items ≤ length b.schedule.items

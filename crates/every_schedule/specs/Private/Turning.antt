@@ -1,4 +1,4 @@
--- What moves make of the states of fibers, by the numbers of states.
+-- The moves from one state of a fiber to another, by the numbers of states.
 use Rattle.std.specs.Prelude.{◌≡◌, ℕ, ◌<◌, ◌^◌, List, [], ◌∷◌, Option, Some, None}
 use Rattle.std.specs.List.{slice_get}
 use Rattle.effect_term.specs.declared.reply.Reply.{Reply}
@@ -21,12 +21,12 @@ pub record MayTurn (g : Fiber) (r : Reply) : Type 0 where
   pub answers : Answers g.number (ask_of g) r
   pub room : g.next < 2 ^ 63
 
--- the one fiber of these has the state of this number, or there is none
+-- the list is the one fiber with the state of this number, or empty without a number
 abbrev pub IsChild : List Fiber → Option ℕ → List Fiber → Type 0
 IsChild fs None gs = gs ≡ []
 IsChild fs (Some n) gs = (g : Fiber) × (gs ≡ g ∷ []) × (slice_get fs n ≡ Some g)
 
--- the reply that is said in one piece
+-- the reply of a `Said`
 abbrev pub reply_of : Said → Reply
 reply_of said.Done = reply.Done
 reply_of (said.Seen b) = reply.Seen b
@@ -43,7 +43,7 @@ reply_of (said.Completed b) = reply.Completed b
 reply_of said.Empty = reply.Read None
 reply_of (said.Full v) = reply.Read (Some v)
 
--- the number of its value is that of one
+-- the number in place of a value, if there is one, is that of a value
 abbrev pub IsSaid : Said → Type 0
 IsSaid (said.Succeeded v) = IsValue v
 IsSaid (said.Errored v) = IsValue v
@@ -64,6 +64,6 @@ IsTurned fs t = IsMoved fs t.state (reply_of t.said) t.turn
 abbrev pub AreTurned : List Fiber → List Turned → Type 0
 AreTurned fs ts = (i : ℕ) (t : Turned) → slice_get ts i ≡ Some t → IsTurned fs t
 
--- it is one of these
+-- the move is in the list
 abbrev pub IsAmong : List Turned → Turned → Type 0
 IsAmong ts t = (i : ℕ) × (slice_get ts i ≡ Some t)

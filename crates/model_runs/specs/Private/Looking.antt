@@ -1,4 +1,4 @@
--- What a search for moments has found, as it is kept.
+-- The kept result of a search for moments.
 use Rattle.std.specs.Prelude.{◌≡◌, ◌⊎◌, ◌||◌, ◌&&◌, ℕ, Bool, true, false, List, [], ◌∷◌, map, Option, Some, None}
 use Rattle.std.specs.List.{slice_get}
 use Rattle.std.specs.declared.alloc.Global.{Global}
@@ -16,23 +16,23 @@ use Rattle.model_claims.specs.declared.claim.Claim.{Claim}
 use Rattle.model_claims.specs.declared.moment.MomentWord.{MomentWord}
 use Rattle.model_runs.specs.Moments.{AreMet, sought}
 
--- it is right about a code: what was met, and an answer for each with its schedule
+-- the result is right about a code: each condition is met by its schedule, and its answer has this schedule
 pub record IsRightAt (code : Tree) (k : Limits) (wanted : List (List ClaimWord)) (it : Moments) : Type 0 where
   pub met : AreMet code k wanted it.search.complete it.met.items
   pub same : map (λ a. a.schedule) it.search.answers.items ≡ map (λ (m : Met). m.schedule.items) it.met.items
 
--- it is right about some code, under some limits
+-- the result is right about some code, under some limits
 pub record IsRightAtSome (wanted : List (List ClaimWord)) (it : Moments) : Type 0 where
   pub code : Tree
   pub limits : Limits
   pub right : IsRightAt code limits wanted it
 
--- the claim of this number is the one that is met there
+-- the element of index `i` is the claim of number `n`
 abbrev pub IsMetAt : List Met → ℕ → ℕ → Type 0
 IsMetAt met n i = (m : Met) × (slice_get met i ≡ Some m) × (m.claim ≡ n)
 
--- the verdict, computed: whether an answer is a fault, whether a moment decides the claim, whether the exploration is
--- complete, and whether the search for moments is
+-- The computed verdict. The flags of `moment_verdict` say whether an answer is a fault, whether a moment decides the
+-- claim, whether the exploration is complete, and whether the search for moments is complete.
 abbrev pub by_search : Rule → Bool → Verdict
 by_search rule false = verdicts.Undecided
 by_search rules.Every true = verdicts.Passed
@@ -50,7 +50,8 @@ abbrev pub moment_verdict : Rule → Bool → Bool → Bool → Bool → Verdict
 moment_verdict rules.Every faulty met explored searched = every_verdict (faulty || met) (explored && searched)
 moment_verdict rules.Some faulty met explored searched = some_verdict met searched
 
--- it is right about words that decide this claim, where it is one at any moment, and those have this number
+-- the result is right about a list of conditions, in which the condition that decides this claim at any moment has this
+-- number
 pub record IsRightOf (claim : Claim) (n : ℕ) (it : Moments) : Type 0 where
   pub wanted : List (List ClaimWord)
   pub right : IsRightAtSome wanted it

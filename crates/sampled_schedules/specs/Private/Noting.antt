@@ -8,11 +8,11 @@ use Rattle.sampled_schedules.specs.declared.comings.Drawn.{Drawn}
 abbrev pub came_in_all : List Coming → ℕ
 came_in_all comings = sum_by (λ (c : Coming). c.times) comings
 
--- one more schedule has this end; it was cut short or wasn't
+-- one more schedule has this end; `cut` is whether it was cut short
 abbrev pub raised : Coming → Bool → Coming
 raised c cut = record { answer = c.answer; times = c.times + 1; cut = c.cut && cut }
 
--- the first schedule with its end
+-- a coming with this schedule alone
 abbrev pub coming_of : Drawn → Coming
 coming_of d = record { answer = d.answer; times = 1; cut = d.cut }
 

@@ -1,4 +1,4 @@
--- What entries lead to, one after another.
+-- Where entries lead, one after another.
 use Rattle.std.specs.Prelude.{◌≡◌, ◌+◌, ◌<◌, ◌≤◌, ℕ, Bool, false, List, length, Some, None, Result, Ok, Err}
 use Rattle.std.specs.List.{All, slice_get}
 use Rattle.derived_ops.specs.Tree.{Tree}

@@ -9,7 +9,7 @@ use Rattle.world_search.specs.declared.expanding.Came.TheVariants as came
 use Rattle.world_search.specs.Lists.{IsMore}
 use Rattle.world_search.specs.Private.Shapes.{AreNotedOnce, Shape}
 
--- the node is of an entry at a world of these, by a fiber below `most`, and no deeper than `longest`
+-- the node is an entry at one of these worlds, of a fiber below `most`, with a depth of at most `longest`
 pub record CanEnter (most longest : ℕ) (nodes : List Node) (n : Node) : Type 0 where
   pub parent : Node
   pub above : slice_get nodes n.from ≡ Some parent
@@ -21,22 +21,22 @@ pub record CanEnter (most longest : ℕ) (nodes : List Node) (n : Node) : Type 0
 abbrev pub AreShallow : List Node → Type 0
 AreShallow nodes = (i : ℕ) (n : Node) → slice_get nodes i ≡ Some n → n.depth ≤ i
 
--- each of so many worlds was met, and none is deeper than its number
+-- each of the `many` worlds was met, and no node is deeper than its number
 pub record IsSnug (many : ℕ) (s : Shape) : Type 0 where
   pub even : length s.nodes ≡ many
   pub shallow : AreShallow s.nodes
 
--- each of so many worlds was met, or each but the last, which is this one and may be kept
+-- each of the `many` worlds was met, or each but the last, which is `to` and below `most`
 abbrev pub IsNearly : (many to most : ℕ) → Shape → Type 0
 IsNearly many to most s =
     AreShallow s.nodes ×
     ((length s.nodes ≡ many) ⊎ ((to ≡ length s.nodes) × (many ≡ length s.nodes + 1) × (to < most)))
 
--- there are as many worlds as there may be, or more than a schedule may have entries
+-- there are at least `worlds` worlds, or more than `entries` worlds
 abbrev pub IsStopped : (worlds entries many : ℕ) → Type 0
 IsStopped worlds entries many = (worlds ≤ many) ⊎ (entries < many)
 
--- worlds, faults and what is known of them go on
+-- the worlds, the faults and the lists of the graph are extended
 pub record Grows {W E : Type 0} (ws vs : List W) (es ds : List E) (s t : Shape) : Type 0 where
   pub worlds : IsMore ws vs
   pub faults : IsMore es ds
@@ -44,11 +44,11 @@ pub record Grows {W E : Type 0} (ws vs : List W) (es ds : List E) (s t : Shape) 
   pub edges : IsMore s.edges t.edges
   pub noted : IsMore s.noted t.noted
 
--- but for the i-th, the flags stay
+-- each flag but the i-th stays
 abbrev pub SameFlags : ℕ → List Bool → List Bool → Type 0
 SameFlags i old new = (j : ℕ) → j ≢ i → j < length old → slice_get new j ≡ slice_get old j
 
--- what came of entries, and of one more
+-- the result of some entries and of one more, from the results of both
 abbrev pub worse_of : Came → Came → Came
 worse_of came.Lost other = came.Lost
 worse_of came.Leaves came.Lost = came.Lost
@@ -58,14 +58,14 @@ worse_of came.Stays other = other
 
 module _ {W E R : Type 0} (step : W → ℕ → Result W E) (report : W → R) (most longest : ℕ) (ws : List W)
     (es : List E) where
-  -- the entry of this node leads there
+  -- the entry of this node has this result
   pub record IsEntry (nodes : List Node) (n : Node) (y : Result W E) : Type 0 where
     pub how : CanEnter most longest nodes n
     pub world : W
     pub at : slice_get ws n.from ≡ Some world
     pub leads : step world n.fiber ≡ y
 
-  -- it is the first world, or the entry of this node leads there
+  -- this is the first world, or the result of the node's entry
   abbrev pub IsReached : List Node → Node → Result W E → Type 0
   IsReached nodes n y = ((n.depth ≡ 0) × (w : W) × (slice_get ws 0 ≡ Some w) × (y ≡ Ok w)) ⊎ IsEntry nodes n y
 
@@ -85,7 +85,7 @@ module _ {W E R : Type 0} (step : W → ℕ → Result W E) (report : W → R) (
     pub at : slice_get es n.fault ≡ Some why
     pub entry : IsEntry nodes n.node (Err why)
 
-  -- this is one of the faults that are noted
+  -- this fault was noted
   abbrev pub IsTold : Shape → E → Type 0
   IsTold s e = (k : ℕ) × (n : Noted) × (slice_get s.noted k ≡ Some n) × (slice_get es n.fault ≡ Some e)
 
@@ -119,18 +119,19 @@ module _ {W E R : Type 0} (step : W → ℕ → Result W E) (report : W → R) (
     pub unsettled : length s.unsettled ≡ length s.nodes
     pub quiet : (i : ℕ) → slice_get s.unsettled i ≡ Some false → IsQuiet s i
 
-  -- all that comes of the entries at world number i was met, and if the world isn't quiet an entry leaves its report
+  -- the result of each entry at world number i was met; if the world isn't quiet, an entry changes its report or ends
+  -- in a fault
   pub record IsDone (s : Shape) (i : ℕ) : Type 0 where
     pub met : (w : W) → slice_get ws i ≡ Some w → (f : ℕ) → IsMet s (step w f)
     pub leaves : slice_get s.unsettled i ≡ Some true → (w : W) → slice_get ws i ≡ Some w → (f : ℕ) × Leaves w (step w f)
 
-  -- what came of the entry at world number i
+  -- the result of the entry at world number i
   abbrev pub ComesTo : Shape → ℕ → W → Came → Result W E → Type 0
   ComesTo s i w came.Stays y = IsMet s y × Stays s i w y
   ComesTo s i w came.Leaves y = IsMet s y × Leaves w y
   ComesTo s i w came.Lost y = Unit {0}
 
-  -- what came of the first n entries there
+  -- the result of the first n entries at world number i
   abbrev pub CameSo : Shape → ℕ → W → Came → ℕ → Type 0
   CameSo s i w came.Stays n = (f : ℕ) → f < n → IsMet s (step w f) × Stays s i w (step w f)
   CameSo s i w came.Leaves n = ((f : ℕ) → f < n → IsMet s (step w f)) × ((f : ℕ) × Leaves w (step w f))

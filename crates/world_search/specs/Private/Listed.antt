@@ -1,4 +1,4 @@
--- The answers that are listed, by what is known of the worlds.
+-- The answers that a search lists, from its graph.
 use Rattle.std.specs.Prelude.{◌≡◌, ◌≢◌, ◌⊎◌, ℕ, ◌<◌, ◌≤◌, ◌++◌, false, List, [], ◌∷◌, length, Some}
 use Rattle.std.specs.List.{slice_get}
 use Rattle.world_search.specs.declared.answers.Answer.{Answer}
@@ -30,11 +30,11 @@ pub record IsFaultListed (s : Shape) (a : Answer) : Type 0 where
 abbrev pub AreListed : Shape → List Answer → Type 0
 AreListed s answers = (k : ℕ) (a : Answer) → slice_get answers k ≡ Some a → IsWorldListed s a ⊎ IsFaultListed s a
 
--- an answer names this end
+-- one of the answers has this end
 abbrev pub IsNamed : List Answer → Landing → Type 0
 IsNamed answers end = (a : Answer) × IsIn a answers × (a.end ≡ end)
 
--- one answer more, with the schedule that leads to this node
+-- one more answer, with this end and the schedule that leads to this node
 pub record Adds (nodes : List Node) (last : Node) (end : Landing) (old new : List Answer) : Type 0 where
   pub answer : Answer
   pub is : new ≡ old ++ (answer ∷ [])
@@ -45,7 +45,7 @@ pub record Adds (nodes : List Node) (last : Node) (end : Landing) (old new : Lis
 abbrev pub HaveNoFault : List Answer → Type 0
 HaveNoFault answers = (k : ℕ) (a : Answer) (j : ℕ) → slice_get answers k ≡ Some a → a.end ≢ to.Fault j
 
--- only faults were added, and no fault is told twice
+-- only faults were added, and no fault is listed twice
 pub record AddsFaults (old new : List Answer) : Type 0 where
   pub each : (k : ℕ) (a : Answer) → length old ≤ k → slice_get new k ≡ Some a → (j : ℕ) × (a.end ≡ to.Fault j)
   pub once : (i j m n : ℕ) (a b : Answer) → i < j → slice_get new i ≡ Some a → slice_get new j ≡ Some b →

@@ -29,7 +29,7 @@ begun = record {
   unsettled = true ∷ [];
 }
 
--- one world more, of which nothing is known yet
+-- one more world, whose entries aren't made yet
 abbrev pub with_node : Shape → Node → Shape
 with_node s n = record {
   nodes = s.nodes ++ (n ∷ []);
@@ -62,7 +62,7 @@ with_quiet s i = record {
   unsettled = slice_set s.unsettled i false;
 }
 
--- nothing was added, or the world of this number was, as the next one
+-- nothing was added, or the world `to` was added with the next number
 abbrev pub Keeps : Shape → Shape → Node → ℕ → Type 0
 Keeps s t n to = (t ≡ s) ⊎ ((to ≡ length s.nodes) × (t ≡ with_node s n))
 
@@ -75,7 +75,7 @@ abbrev pub AreNotedOnce : List Noted → Type 0
 AreNotedOnce noted = (k l : ℕ) (m n : Noted) → k < l → slice_get noted k ≡ Some m → slice_get noted l ≡ Some n →
     m.fault ≢ n.fault
 
--- the fault was among those noted, or wasn't and is the last one now
+-- the fault was noted before and nothing was added, or the fault was added as the last one
 abbrev pub Notes : Shape → Shape → ℕ → Node → Type 0
 Notes s t fault n = (IsNotedIn s.noted fault × (t ≡ s)) ⊎
     ((IsNotedIn s.noted fault → ⊥) × (t ≡ with_noted s (record { fault = fault; node = n })))

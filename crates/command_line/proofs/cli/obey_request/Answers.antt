@@ -12,6 +12,6 @@ pub returns-in-Terms-clause-obeyed : goal.returns-in-Terms-clause-obeyed
 returns-in-Terms-clause-obeyed g c =
     rw c.in-Terms.is record { unread = refl; whole = c.obey_terms.ensures.whole; status_is = c.obey_terms.ensures.status }
 
--- The text of a request to judge claims is read before it is known whether it has the refs that they name.
+-- A request to judge claims reads the text before it knows whether the text has the refs that the claims name.
 pub returns-in-Judge-clause-unread : goal.returns-in-Judge-clause-unread
 returns-in-Judge-clause-unread g c = λ usage none. absurd (none (rw c.in-Judge.is tt))

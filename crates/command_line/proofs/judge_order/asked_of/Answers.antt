@@ -3,7 +3,7 @@ use Rattle.claim_answers.specs.declared.asked.Rule.TheVariants.{Always, Never, R
 use Rattle.claim_answers.specs.Claims.{Question, asked_texts, question_of}
 use Rattle.command_line.proofs.judge_order.asked_of.Goals as goal
 
--- the texts of the three options, one behind the other
+-- the texts of the three options, one after the other
 pub returns : goal.returns
 returns c =
     let always = asked_texts Always (map (λ s. s.now) c.args.always.now) in

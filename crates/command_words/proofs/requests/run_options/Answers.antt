@@ -2,7 +2,7 @@ use Rattle.std.proofs.Common.{Option, Some, None, IfNone, rules}
 use Rattle.steal_pool.specs.Runs.{limits_of}
 use Rattle.command_words.proofs.requests.run_options.Goals as goal
 
--- what holds in any case holds where there is nothing
+-- a fact that always holds also holds if the result is `None`
 if_none : {A : Type 0} {P : Type 0} (r : Option A) → P → IfNone r P
 if_none None p = p
 if_none (Some x) p = tt

@@ -2,7 +2,7 @@ use Rattle.std.proofs.Common.{◌≡◌, ◌≤◌, length, take}
 use Rattle.compared_ends.specs.Views.{said}
 use Rattle.compared_ends.proofs.views.same_said.Given as goal
 
--- what the one said so far is what the other said in front of the place
+-- `one` said so far what `other` said before the place
 abbrev pub invariant-loop-mark : goal.invariant-loop-mark
 invariant-loop-mark l = record {
   within : l.place ≤ length l.other;

@@ -6,7 +6,7 @@ use Rattle.every_outcome.specs.Places.{first_place}
 use Rattle.every_outcome.proofs.Listing.{SoFar}
 use Rattle.every_outcome.proofs.exploring.told.Given as goal
 
--- the answers so far are told, and the others are left
+-- the answers so far are listed, and the others are left
 abbrev pub invariant-loop-it : goal.invariant-loop-it
 invariant-loop-it l = record {
   told : SoFar l.fn.worlds (first_place (code_of (source_of l.fn.program)) l.fn.limits) l.fn.found.items (into_iter_items l.it-iterator) l.answers.items;

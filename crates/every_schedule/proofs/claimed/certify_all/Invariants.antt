@@ -8,7 +8,7 @@ use Rattle.world_search.specs.Claims.{IsFew, IsFound}
 use Rattle.every_schedule.specs.Claims.{IsMetIn}
 use Rattle.every_schedule.proofs.claimed.certify_all.Given as goal
 
--- those so far are met, and none of them was left out
+-- the claims so far are met, and none of them was left out
 abbrev pub invariant-loop-i : goal.invariant-loop-i
 invariant-loop-i l = record {
   met : All (IsMetIn (code_of (source_of l.program)) l.limits l.claims) l.met.items;

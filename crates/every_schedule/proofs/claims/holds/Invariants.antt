@@ -3,7 +3,7 @@ use Rattle.std.specs.List.{fold}
 use Rattle.every_schedule.specs.Claims.{worded}
 use Rattle.every_schedule.proofs.claims.holds.Given as goal
 
--- the stack behind the words so far
+-- the stack after the words so far
 abbrev pub invariant-loop-word : goal.invariant-loop-word
 invariant-loop-word l = record {
   same : l.registry ≡ l.initial.registry;

@@ -5,7 +5,7 @@ use Rattle.every_schedule.specs.Explored.{HasLawfulMarks}
 use Rattle.every_schedule.proofs.Listing.{SoFar}
 use Rattle.every_schedule.proofs.explored.told.Given as goal
 
--- the answers so far are told, and the others are left
+-- the answers so far have their ends, and the others are left
 abbrev pub invariant-loop-it : goal.invariant-loop-it
 invariant-loop-it l = record {
   told : SoFar l.fn.worlds l.fn.found.items (into_iter_items l.it-iterator) l.answers.items;

@@ -3,6 +3,6 @@ use Rattle.std.specs.Prelude.{Option, Some, None}
 use Rattle.std.specs.List.{slice_get}
 use Rattle.every_schedule.proofs.known.unknown.Given as goal
 
--- of no number anything is known
+-- no use so far was looked up
 abbrev pub invariant-loop-place : goal.invariant-loop-place
 invariant-loop-place l = (i : ℕ) (x : Option Bool) → slice_get l.uses.items i ≡ Some x → x ≡ None

@@ -3,7 +3,7 @@ use Rattle.every_schedule.specs.Reduced.{keeps, others}
 use Rattle.every_schedule.specs.Private.Standing.{IsSame, here}
 use Rattle.every_schedule.proofs.own_moves.all_spare.Given as goal
 
--- the fibers so far don't use the number so
+-- the fibers so far keep off the number
 abbrev pub invariant-loop-place : goal.invariant-loop-place
 invariant-loop-place l = record {
   same : IsSame l.initial.current l.current;

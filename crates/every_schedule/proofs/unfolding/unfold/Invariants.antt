@@ -9,7 +9,7 @@ use Rattle.every_schedule.specs.Private.Standing.{here}
 use Rattle.every_schedule.specs.Private.Trails.{IsTrail}
 use Rattle.every_schedule.proofs.unfolding.unfold.Given as goal
 
--- the entries so far have led here, and so has the trail
+-- the entries so far lead here, and so does the trail
 abbrev pub invariant-loop-fiber : goal.invariant-loop-fiber
 invariant-loop-fiber l = record {
   fits : AllFit (here l.current).world;

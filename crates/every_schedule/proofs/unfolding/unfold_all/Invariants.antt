@@ -9,7 +9,7 @@ use Rattle.every_schedule.specs.Private.Trails.{AreUnfolded, EndApart, EndsAlone
 use Rattle.every_schedule.proofs.Trails.{EndsBefore}
 use Rattle.every_schedule.proofs.unfolding.unfold_all.Given as goal
 
--- the answers so far are unfolded, none was left out while the flag stands, and one was where it doesn't
+-- the answers so far are unfolded; none was left out if the flag is true, and one was if it is false
 abbrev pub invariant-loop-i : goal.invariant-loop-i
 invariant-loop-i l = record {
   each : AreUnfolded l.at_once l.most (first_place (code_of (source_of l.program)) l.limits) l.found l.answers.items;

@@ -4,7 +4,7 @@ use Rattle.serde_json.specs.View.{view}
 use Rattle.json_answers.specs.ExplorationData.{IsPartData}
 use Rattle.json_answers.proofs.exploration_values.part_values.Given as goal
 
--- with the values of the answers that are left behind them, they are those of all
+-- followed by the values of the answers that are left, the values so far are those of all answers
 abbrev pub invariant-loop-answer : goal.invariant-loop-answer
 invariant-loop-answer l =
     (behind : List Data) → IsPartData l.unwanted l.wants (drop l.answer-index l.answers) behind →

@@ -4,7 +4,7 @@ use Rattle.json_answers.specs.ReportData.{fibers_items}
 use Rattle.json_answers.proofs.Behind.{items_behind}
 use Rattle.json_answers.proofs.report_values.fiber_values.Given as goal
 
--- with those of the fibers that are left behind them, they are all
+-- followed by the values of the fibers that are left, the values so far are those of all fibers
 abbrev pub invariant-loop-fiber : goal.invariant-loop-fiber
 invariant-loop-fiber l = record {
   many : vec_len l.values ≡ l.fiber-index;

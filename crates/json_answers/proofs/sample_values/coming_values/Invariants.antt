@@ -4,7 +4,7 @@ use Rattle.serde_json.specs.View.{view}
 use Rattle.json_answers.specs.SampleData.{AreComingsData}
 use Rattle.json_answers.proofs.sample_values.coming_values.Given as goal
 
--- with the values of what is left behind them, they are those of all
+-- followed by the values of the ends that are left, the values so far are those of all ends
 abbrev pub invariant-loop-coming : goal.invariant-loop-coming
 invariant-loop-coming l =
     (behind : List Data) → AreComingsData l.wants (drop l.coming-index l.comings) behind →

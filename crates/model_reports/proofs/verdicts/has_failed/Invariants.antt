@@ -3,6 +3,6 @@ use Rattle.std.specs.List.{list_any}
 use Rattle.model_reports.specs.Verdicts.{is_failed}
 use Rattle.model_reports.proofs.verdicts.has_failed.Given as goal
 
--- none before
+-- no verdict before is `Failed`
 abbrev pub invariant-loop-verdict : goal.invariant-loop-verdict
 invariant-loop-verdict l = list_any is_failed (drop l.verdict-index l.verdicts) ≡ list_any is_failed l.verdicts

@@ -4,7 +4,7 @@ use Rattle.model_runs.specs.Deciding.{IsDecidedIn}
 use Rattle.model_runs.specs.Moments.{soughts}
 use Rattle.model_runs.proofs.run.results_of.Given as goal
 
--- the claims so far are decided, and so many of them are at any moment
+-- the claims so far are decided, and `number` of them are claims at any moment
 abbrev pub invariant-loop-claim : goal.invariant-loop-claim
 invariant-loop-claim l = record {
   decided : All (IsDecidedIn l.source l.searches l.moments.search) l.results.items;

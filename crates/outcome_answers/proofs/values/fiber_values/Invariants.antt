@@ -4,7 +4,7 @@ use Rattle.json_answers.proofs.Behind.{items_behind}
 use Rattle.outcome_answers.specs.OutcomesData.{bare_items}
 use Rattle.outcome_answers.proofs.values.fiber_values.Given as goal
 
--- with those of the fibers that are left behind them, they are all
+-- these values and those of the fibers that are left are the values of all fibers
 abbrev pub invariant-loop-fiber : goal.invariant-loop-fiber
 invariant-loop-fiber l = record {
   many : vec_len l.values ≡ l.fiber-index;

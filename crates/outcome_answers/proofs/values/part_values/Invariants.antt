@@ -4,7 +4,7 @@ use Rattle.serde_json.specs.View.{view}
 use Rattle.outcome_answers.specs.OutcomesData.{IsBarePart}
 use Rattle.outcome_answers.proofs.values.part_values.Given as goal
 
--- with the values of the answers that are left behind them, they are those of all
+-- these values and those of the answers that are left are the values of all answers
 abbrev pub invariant-loop-answer : goal.invariant-loop-answer
 invariant-loop-answer l =
     (behind : List Data) → IsBarePart l.unwanted l.wants (drop l.answer-index l.answers) behind →

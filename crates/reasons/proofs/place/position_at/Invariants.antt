@@ -2,7 +2,7 @@ use Rattle.std.proofs.Common.{◌≡◌, ◌+◌, ◌≤◌, drop, take}
 use Rattle.reasons.specs.Place.{position_behind, position_of}
 use Rattle.reasons.proofs.place.position_at.Given as goal
 
--- from here the bytes that are left lead to the position
+-- from this line and column, the remaining bytes lead to the position
 abbrev pub invariant-loop-byte : goal.invariant-loop-byte
 invariant-loop-byte l = record {
   line : l.line ≤ l.byte-index + 1;

@@ -2,7 +2,7 @@ use Rattle.std.proofs.Common.{ℕ, List, ◌++◌, drop}
 use Rattle.reasons.specs.Whys.{AreWhyLines}
 use Rattle.reasons.proofs.unended.why_lines.Given as goal
 
--- with the lines of the fibers that are left behind them, the lines so far are those of all
+-- the lines so far, followed by those of the remaining fibers, are the lines of all fibers
 abbrev pub invariant-loop-config : goal.invariant-loop-config
 invariant-loop-config l =
     (behind : List ℕ) → AreWhyLines l.last l.registry.state l.config-index (drop l.config-index l.fibers) behind →

@@ -8,7 +8,7 @@ use Rattle.sampled_schedules.specs.Sampled.{IsDrawn, IsSampleOf}
 use Rattle.sampled_schedules.specs.Private.Noting.{came_in_all}
 use Rattle.sampled_schedules.proofs.sampled.sample_watched.Given as goal
 
--- so many schedules were drawn, and these are what they came to
+-- `schedules` schedules were drawn, and this is their tally
 abbrev pub invariant-loop-schedules : goal.invariant-loop-schedules
 invariant-loop-schedules g l = record {
   sample : IsSampleOf (code_of (source_of l.fn.program)) l.fn.limits l.fn.entries l.schedules l.comings.items;

@@ -12,6 +12,6 @@ invariant-loop-fibers l = record {
       (Ok (world_of l.fibers.items l.registry.state)) l.schedule.items l.most;
 }
 
--- how many entries there may still be
+-- the greatest number of entries that can still follow
 abbrev pub decreases-loop-fibers : goal.decreases-loop-fibers
 decreases-loop-fibers l = l.most - length l.schedule.items

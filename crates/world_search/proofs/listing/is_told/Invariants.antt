@@ -6,7 +6,7 @@ use Rattle.world_search.specs.declared.landings.Landing.TheVariants.{World}
 use Rattle.world_search.specs.Answers.{AreApart}
 use Rattle.world_search.proofs.listing.is_told.Given as goal
 
--- none so far has the report of the world
+-- no answer so far has the report of the world
 abbrev pub invariant-loop-it : goal.invariant-loop-it
 invariant-loop-it g l = (k : ℕ) (a : Answer) → k < l.it-index → slice_get l.answers k ≡ Some a →
     AreApart g.W.Worlds.report (g.W.Worlds.worlds l.worlds) a.end (World l.index)
