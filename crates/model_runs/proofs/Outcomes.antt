@@ -1,0 +1,54 @@
+-- The answers of an exploration of outcomes, sorted and without long ones.
+use Rattle.std.proofs.Common.{◌≡◌, ◌≤◌, ℕ, true, false, List, length, arith}
+use Rattle.std.specs.Prelude.{Option, Some, Result, Ok, Err}
+use Rattle.std.specs.List.{All, slice_get}
+use Rattle.std.specs.List.Sorted.{IsPermutation}
+use Rattle.std.proofs.lemmas.List.Sorted.{All-permutation, IsPermutation-sym}
+use Rattle.derived_ops.specs.Tree.{Tree}
+use Rattle.effect_term.specs.declared.reply.Outcome.{Outcome}
+use Rattle.cell_registry.specs.declared.limits.Limits.{Limits}
+use Rattle.cell_registry.specs.declared.limits.RunError.{RunError}
+use Rattle.cell_registry.specs.declared.limits.RunError.TheVariants as run
+use Rattle.scheduled_core.specs.Core.{World, core}
+use Rattle.every_outcome.specs.declared.outcomes.OutcomeAnswer.{OutcomeAnswer}
+use Rattle.every_outcome.specs.declared.outcomes.OutcomeExploration.{OutcomeExploration}
+use Rattle.every_outcome.specs.Outcomes.{IsCovered, IsListed, IsReached, counted}
+use Rattle.every_outcome.proofs.Told.{all_at, all_from}
+use Rattle.model_runs.specs.declared.result.NamedAnswer.{NamedAnswer}
+use Rattle.model_runs.specs.Seeing.{AreAll, AreOutcomesOf}
+
+-- this answer is one of these
+IsIn : List OutcomeAnswer → OutcomeAnswer → Type 0
+IsIn xs a = (i : ℕ) × (slice_get xs i ≡ Some a)
+
+listed_sorted : (xs ys : List OutcomeAnswer) (end : Result (List (Option Outcome)) RunError) → IsPermutation xs ys → IsListed xs end → IsListed ys end
+listed_sorted xs ys end moved l =
+    let there : All (IsIn ys) ys = all_from (IsIn ys) ys (λ i x e. (i, e)) in
+    let here : All (IsIn ys) xs = All-permutation (IsIn ys) ys xs (IsPermutation-sym xs ys moved) there in
+    let k : IsIn ys l.1 = all_at (IsIn ys) xs l.0 l.1 l.2 here in
+    (k.0, l.1, k.1, l.3)
+
+-- what is covered stays so if answers are sorted
+covered_sorted : (k : Limits) (xs ys : List OutcomeAnswer) (x : Result World RunError) → IsPermutation xs ys → IsCovered k xs x → IsCovered k ys x
+covered_sorted k xs ys (Ok w) moved h = λ keeps. listed_sorted xs ys _ moved (h keeps)
+covered_sorted k xs ys (Err (run.Full band n)) moved h = listed_sorted xs ys _ moved h
+covered_sorted k xs ys (Err (run.Spent f)) moved h = tt
+covered_sorted k xs ys (Err run.NoMemory) moved h = tt
+covered_sorted k xs ys (Err (run.Lost f)) moved h = tt
+covered_sorted k xs ys (Err run.NoWorker) moved h = tt
+
+-- the answers of a complete exploration without long ones are all that there are
+pub all_outcomes : (code : Tree) (k : Limits) (explored found : OutcomeExploration) (answers : List NamedAnswer) (most : ℕ) → most ≤ k.count →
+    (explored.complete ≡ true → (count : ℕ) (schedule : List ℕ) → IsCovered k explored.answers.items (core code (counted k count) schedule)) →
+    All (IsReached code k) explored.answers.items → All (λ a. length a.schedule ≤ most) found.answers.items →
+    ((P : OutcomeAnswer → Type 0) → All P explored.answers.items → All P found.answers.items) →
+    (found.complete ≡ true → (explored.complete ≡ true) × IsPermutation explored.answers.items found.answers.items) →
+    AreOutcomesOf found.answers.items answers → found.complete ≡ true → AreAll false code k answers
+all_outcomes code k explored found answers most low covered reached short each whole same complete = (
+  found.answers.items,
+  each (IsReached code k) reached,
+  λ count schedule.
+      covered_sorted k explored.answers.items found.answers.items _ (whole complete).1 (covered (whole complete).0 count schedule),
+  λ i d within. let h = short i d within in omega arith,
+  same,
+)

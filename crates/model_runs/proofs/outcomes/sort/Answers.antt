@@ -1,0 +1,5 @@
+use Rattle.std.proofs.lemmas.List.Sorted.{IsPermutation-trans}
+use Rattle.model_runs.proofs.outcomes.sort.Goals as goal
+
+pub returns-clause-same : goal.returns-clause-same
+returns-clause-same c = IsPermutation-trans _ _ _ c.in_ok-sort_by_key.ensures.permutation c.in_ok-sort_by_key-2.ensures.permutation
