@@ -18,8 +18,8 @@ use Rattle.model_runs.specs.Private.Looking.{IsRightAt, IsRightOf}
 use Rattle.model_runs.proofs.Looks.{some_in}
 
 pub decided_by : (source : Source) (claim : Claim) (searches : List Search) (n : ℕ) (s : Search) (it : Result ClaimResult Refused) →
-    slice_get searches n ≡ Some s → claim.moment ≡ None → IsFit claim s → IfOk it (IsResultOf source claim s) → IfOk it (λ r. r.search ≡ n) →
-    IfOk it (IsDecided source searches)
+    slice_get searches n ≡ Some s → claim.moment ≡ None → IfOk it (λ r. IsFit claim s) → IfOk it (IsResultOf source claim s) →
+    IfOk it (λ r. r.search ≡ n) → IfOk it (IsDecided source searches)
 decided_by source claim searches n s (Ok r) there answers fit says number = record {
   claim = claim;
   search = s;

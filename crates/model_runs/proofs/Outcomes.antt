@@ -1,5 +1,5 @@
 -- The answers of an exploration of outcomes, sorted and without long ones.
-use Rattle.std.proofs.Common.{◌≡◌, ◌≤◌, ℕ, true, false, List, length, arith}
+use Rattle.std.proofs.Common.{◌≡◌, ◌≤◌, ◌&&◌, ℕ, Bool, true, false, List, length, refl, sym, subst, arith}
 use Rattle.std.specs.Prelude.{Option, Some, Result, Ok, Err}
 use Rattle.std.specs.List.{All, slice_get}
 use Rattle.std.specs.List.Sorted.{IsPermutation}
@@ -15,7 +15,8 @@ use Rattle.every_outcome.specs.declared.outcomes.OutcomeExploration.{OutcomeExpl
 use Rattle.every_outcome.specs.Outcomes.{IsCovered, IsListed, IsReached, counted}
 use Rattle.every_outcome.proofs.Told.{all_at, all_from}
 use Rattle.model_runs.specs.declared.result.NamedAnswer.{NamedAnswer}
-use Rattle.model_runs.specs.Seeing.{AreAll, AreOutcomesOf}
+use Rattle.model_runs.specs.declared.result.Search.{Search}
+use Rattle.model_runs.specs.Seeing.{AreAll, AreOutcomesOf, IsRight, IsSeen}
 
 -- this answer is one of these
 IsIn : List OutcomeAnswer → OutcomeAnswer → Type 0
@@ -52,3 +53,16 @@ all_outcomes code k explored found answers most low covered reached short each w
   λ i d within. let h = short i d within in omega arith,
   same,
 )
+
+-- a search with all answers that there are is right
+pub right_search : (code : Tree) (k : Limits) (s : Search) (marked : Bool) → s.marked ≡ marked → All (IsSeen code k) s.answers.items →
+    (s.complete ≡ true → AreAll marked code k s.answers.items) → IsRight code k s
+right_search code k s marked is seen all = record {
+  each = seen;
+  all = λ complete. subst (λ (m : Bool). AreAll m code k s.answers.items) (sym is) (all complete);
+}
+
+pub both_true : (a b : Bool) → (a && b) ≡ true → (a ≡ true) × (b ≡ true)
+both_true true true e = (refl, refl)
+both_true true false e = absurd (cc)
+both_true false b e = absurd (cc)

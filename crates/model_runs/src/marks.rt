@@ -12,9 +12,9 @@ use code_sources::StartRole;
 use model_claims::{Claim, Who, Word};
 use model_terms::Probe;
 
-/// Whether the search with this probe has to keep marks: a claim with the probe isn't judged by outcomes alone, or is
-/// about `*` in a term with fibers that the file doesn't name, or a schedule within the bound on entries can use up a
-/// count.
+/// Whether the search with this probe keeps marks: the term has no loop without end, so that a search with marks is
+/// complete, too, and several times as fast; a schedule within the bound on entries can use up a count; a claim with the
+/// probe isn't judged by outcomes alone; or it is about `*` in a term with fibers that the file doesn't name.
 pub(crate) fn needs_marks(
     prepared: &Prepared,
     plan: Plan,
@@ -23,6 +23,9 @@ pub(crate) fn needs_marks(
 ) -> bool
     ensures { result ≡ false → plan.entries ≤ plan.limits.count }
 {
+    if !prepared.endless {
+        return true;
+    }
     if plan.limits.count < u64::from(plan.entries) {
         return true;
     }

@@ -11,7 +11,7 @@ ghost use Rattle.model_runs.specs.Verdicts.{worst};
 ghost use Rattle.cell_registry.specs.Cells.{AreLimits};
 
 use crate::judging::{claim_result, moment_result};
-use crate::marks::{is_fit, needs_marks};
+use crate::marks::needs_marks;
 use crate::moments::{Moments, moments_of};
 use crate::outcomes::search_outcomes;
 use crate::plan::{Plan, SearchBounds, plan_of};
@@ -31,11 +31,11 @@ use std::alloc::Global;
 ///
 /// The model's bounds override `bounds`. An exploration keeps 10,000 worlds at first, and then ten times as many, up to
 /// its bound. If the exploration still isn't complete, schedules are drawn at random, and their settled ends count as
-/// answers. Each claim is judged by the search of the term with its probe. The worlds of a search keep no marks if all
-/// its claims are judged by the outcomes of fibers alone, so that a loop with masks and brackets in it leads back to a
-/// known world; its answers are the outcomes that no further entry changes ([`Search::marked`]). Claims at any moment
-/// on refs of known numbers are checked together, in each world of one more search; a fault refutes such a claim about
-/// every moment. A model with a fault is refused as by [`check_model`].
+/// answers. Each claim is judged by the search of the term with its probe. If the term has a loop without end, and all
+/// claims of a search are judged by the outcomes of fibers alone, its worlds keep no marks ([`Search::marked`]): a loop
+/// with masks and brackets in it leads back to a known world, and answers are the outcomes that no further entry
+/// changes. Claims at any moment on refs of known numbers are checked together, in each world of one more search; a
+/// fault refutes such a claim about every moment. A model with a fault is refused as by [`check_model`].
 pub fn run_model(
     alloc: Global,
     source: &Source,
@@ -152,7 +152,7 @@ fn searches_of<V: Watcher>(
     Ok(searches)
 }
 
-// Searches the term with this probe: without marks, unless its claims need them.
+// Searches the term with this probe, with marks if it needs them.
 fn search_with<V: Watcher>(
     alloc: Global,
     source: &Source,
@@ -280,17 +280,14 @@ fn decided_by_answers(
     requires answers { claim.now.moment ≡ Nothing }
     ensures decided { IfOk result (IsDecided source.now searches.now) }
 {
-    // Each probe of a claim is among these, and has a search that keeps marks if the claim needs them.
+    // Each probe of a claim is among these, and has a search.
     let Some(number) = probe_number(probes, &claim.probe) else {
         return Err(Refused::NoMemory);
     };
-    let Some(search) = searches.get(number) else {
-        return Err(Refused::NoMemory);
-    };
-    if !is_fit(search, claim) {
-        return Err(Refused::NoMemory);
+    match searches.get(number) {
+        Some(search) => claim_result(alloc, source, model, claim, plan, number, search),
+        None => Err(Refused::NoMemory),
     }
-    claim_result(alloc, source, model, claim, plan, number, search)
 }
 
 /// Returns the first fault of a model, if any, before any model runs: a fault of its term, of its claims and bounds, or
