@@ -1,8 +1,10 @@
 -- The answers of an exploration of outcomes, sorted and without long ones.
-use Rattle.std.proofs.Common.{◌≡◌, ◌≤◌, ◌&&◌, ℕ, Bool, true, false, List, length, refl, sym, subst, arith}
+use Rattle.std.proofs.Common.{◌≡◌, ◌≤◌, ◌&&◌, ℕ, Bool, true, false, List, length, leb, refl, sym, subst, arith}
 use Rattle.std.specs.Prelude.{Option, Some, Result, Ok, Err}
-use Rattle.std.specs.List.{All, slice_get}
+use Rattle.std.specs.List.{All, filter, slice_get}
 use Rattle.std.specs.List.Sorted.{IsPermutation}
+use Rattle.std.proofs.lemmas.Bool.{leb-true}
+use Rattle.std.proofs.lemmas.List.Elements.{filter_passes}
 use Rattle.std.proofs.lemmas.List.Sorted.{All-permutation, IsPermutation-sym}
 use Rattle.derived_ops.specs.Tree.{Tree}
 use Rattle.effect_term.specs.declared.reply.Outcome.{Outcome}
@@ -66,3 +68,7 @@ pub both_true : (a b : Bool) → (a && b) ≡ true → (a ≡ true) × (b ≡ tr
 both_true true true e = (refl, refl)
 both_true true false e = absurd (cc)
 both_true false b e = absurd (cc)
+
+-- the answers that are kept are short
+pub short_kept : (n : ℕ) (xs : List OutcomeAnswer) → All (λ a. length a.schedule ≤ n) (filter (λ a. leb (length a.schedule) n) xs)
+short_kept n xs = λ i d low. leb-true _ _ (filter_passes (λ (a : OutcomeAnswer). leb (length a.schedule) n) xs i d low)
