@@ -1,5 +1,5 @@
--- The answers of an exploration of outcomes, sorted and without long ones.
-use Rattle.std.proofs.Common.{◌≡◌, ◌≤◌, ◌&&◌, ℕ, Bool, true, false, List, length, leb, refl, sym, subst, arith}
+-- The answers of explorations of outcomes, sorted and without long ones; searches are right.
+use Rattle.std.proofs.Common.{◌≡◌, ◌≤◌, ◌&&◌, ℕ, Bool, true, false, List, length, leb, refl, sym, ◌∙◌, subst, arith}
 use Rattle.std.specs.Prelude.{Option, Some, Result, Ok, Err}
 use Rattle.std.specs.List.{All, filter, slice_get}
 use Rattle.std.specs.List.Sorted.{IsPermutation}
@@ -12,13 +12,16 @@ use Rattle.cell_registry.specs.declared.limits.Limits.{Limits}
 use Rattle.cell_registry.specs.declared.limits.RunError.{RunError}
 use Rattle.cell_registry.specs.declared.limits.RunError.TheVariants as run
 use Rattle.scheduled_core.specs.Core.{World, core}
+use Rattle.every_schedule.specs.declared.exploration.Answer.{Answer}
+use Rattle.every_schedule.specs.declared.exploration.Exploration.{Exploration}
+use Rattle.every_schedule.specs.Explored.{IsCovered as IsReportCovered, IsReached as IsReportReached}
 use Rattle.every_outcome.specs.declared.outcomes.OutcomeAnswer.{OutcomeAnswer}
 use Rattle.every_outcome.specs.declared.outcomes.OutcomeExploration.{OutcomeExploration}
 use Rattle.every_outcome.specs.Outcomes.{IsCovered, IsListed, IsReached, counted}
 use Rattle.every_outcome.proofs.Told.{all_at, all_from}
 use Rattle.model_runs.specs.declared.result.NamedAnswer.{NamedAnswer}
 use Rattle.model_runs.specs.declared.result.Search.{Search}
-use Rattle.model_runs.specs.Seeing.{AreAll, AreOutcomesOf, IsRight, IsSeen}
+use Rattle.model_runs.specs.Seeing.{AreAll, AreOutcomesOf, IsAllOf, IsRight, IsSeen}
 
 -- this answer is one of these
 IsIn : List OutcomeAnswer → OutcomeAnswer → Type 0
@@ -72,3 +75,39 @@ both_true false b e = absurd (cc)
 -- the answers that are kept are short
 pub short_kept : (n : ℕ) (xs : List OutcomeAnswer) → All (λ a. length a.schedule ≤ n) (filter (λ a. leb (length a.schedule) n) xs)
 short_kept n xs = λ i d low. leb-true _ _ (filter_passes (λ (a : OutcomeAnswer). leb (length a.schedule) n) xs i d low)
+
+-- a search that isn't complete is right if its answers are
+pub right_incomplete : (code : Tree) (k : Limits) (s : Search) → s.complete ≡ false → All (IsSeen code k) s.answers.items → IsRight code k s
+right_incomplete code k s open seen = record {
+  each = seen;
+  all = λ complete. absurd (cc (open, complete));
+}
+
+-- a search with all reports is right
+pub right_reports : (code : Tree) (k : Limits) (found : Exploration) (listed : List Answer) (answers : List NamedAnswer) (s : Search) →
+    listed ≡ found.answers → s.marked ≡ true → s.complete ≡ found.complete → s.answers.items ≡ answers → All (IsSeen code k) answers →
+    IsAllOf listed answers → All (IsReportReached code k) found.answers →
+    (found.complete ≡ true → (schedule : List ℕ) → IsReportCovered k found.answers (core code k schedule)) → IsRight code k s
+right_reports code k found listed answers s same marked complete is seen all reached covered =
+    right_search code k s true marked (subst (All (IsSeen code k)) (sym is) seen) (λ whole.
+    (
+      found.answers,
+      reached,
+      covered (sym complete ∙ whole),
+      subst (λ (l : List Answer). IsAllOf l s.answers.items) same (subst (IsAllOf listed) (sym is) all),
+    ))
+
+-- a search with all outcomes is right
+pub right_outcomes : (code : Tree) (k : Limits) (explored found : OutcomeExploration) (listed : List OutcomeAnswer) (answers : List NamedAnswer)
+    (s : Search) (most : ℕ) → most ≤ k.count → listed ≡ found.answers.items → s.marked ≡ false → s.complete ≡ found.complete →
+    s.answers.items ≡ answers → All (IsSeen code k) answers →
+    (explored.complete ≡ true → (count : ℕ) (schedule : List ℕ) → IsCovered k explored.answers.items (core code (counted k count) schedule)) →
+    All (IsReached code k) explored.answers.items → All (λ a. length a.schedule ≤ most) found.answers.items →
+    ((P : OutcomeAnswer → Type 0) → All P explored.answers.items → All P found.answers.items) →
+    (found.complete ≡ true → (explored.complete ≡ true) × IsPermutation explored.answers.items found.answers.items) →
+    AreOutcomesOf listed answers → IsRight code k s
+right_outcomes code k explored found listed answers s most low same marked complete is seen covered reached short each whole all =
+    right_search code k s false marked (subst (All (IsSeen code k)) (sym is) seen) (λ closed.
+    all_outcomes code k explored found s.answers.items most low covered reached short each whole
+    (subst (λ (l : List OutcomeAnswer). AreOutcomesOf l s.answers.items) same (subst (AreOutcomesOf listed) (sym is) all))
+    (sym complete ∙ closed))
