@@ -12,9 +12,9 @@ use code_sources::StartRole;
 use model_claims::{Claim, Who, Word};
 use model_terms::Probe;
 
-/// Whether the search with this probe keeps marks: the term has no loop without end, so that a search with marks is
-/// complete, too, and several times as fast; a schedule within the bound on entries can use up a count; a claim with the
-/// probe isn't judged by outcomes alone; or it is about `*` in a term with fibers that the file doesn't name.
+/// Whether the search with this probe keeps marks: the term has no loop without end, and a search with marks is several
+/// times as fast; a schedule within the bound on entries can use up a count; a claim with the probe isn't judged by
+/// outcomes alone; or such a claim is about `*` in a term with fibers that the file doesn't name.
 pub(crate) fn needs_marks(
     prepared: &Prepared,
     plan: Plan,
