@@ -1,3 +1,3 @@
 pub mod Decisions
 pub mod Looks
-pub mod Outcomes
+pub mod Searches

@@ -1,6 +1,6 @@
 use Rattle.derived_ops.specs.Expansion.{code_of}
 use Rattle.derived_ops.specs.Reading.{source_of}
-use Rattle.model_runs.proofs.Outcomes.{right_incomplete, right_outcomes}
+use Rattle.model_runs.proofs.Searches.{right_incomplete, right_outcomes}
 use Rattle.model_runs.proofs.outcomes.search_outcomes.Goals as goal
 
 pub returns-then-complete : goal.returns-then-complete

@@ -3,7 +3,7 @@ use Rattle.std.specs.List.{All}
 use Rattle.std.proofs.lemmas.Fn.{filter_same}
 use Rattle.std.proofs.lemmas.List.Elements.{All-filter}
 use Rattle.every_outcome.specs.declared.outcomes.OutcomeAnswer.{OutcomeAnswer}
-use Rattle.model_runs.proofs.Outcomes.{short_kept}
+use Rattle.model_runs.proofs.Searches.{short_kept}
 use Rattle.model_runs.proofs.outcomes.shorten.Goals as goal
 
 pub returns-clause-short : goal.returns-clause-short

@@ -2,7 +2,7 @@ use Rattle.std.proofs.Common.{◌≤◌, length, subst}
 use Rattle.std.specs.List.Sorted.{IsPermutation}
 use Rattle.std.proofs.lemmas.List.Sorted.{All-permutation}
 use Rattle.every_outcome.specs.declared.outcomes.OutcomeAnswer.{OutcomeAnswer}
-use Rattle.model_runs.proofs.Outcomes.{both_true}
+use Rattle.model_runs.proofs.Searches.{both_true}
 use Rattle.model_runs.proofs.outcomes.within.Goals as goal
 
 pub returns-clause-short : goal.returns-clause-short

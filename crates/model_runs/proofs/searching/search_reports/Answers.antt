@@ -4,7 +4,7 @@ use Rattle.derived_ops.specs.Expansion.{code_of}
 use Rattle.derived_ops.specs.Reading.{source_of}
 use Rattle.model_runs.specs.declared.result.NamedAnswer.{NamedAnswer}
 use Rattle.model_runs.specs.Seeing.{IsSeen}
-use Rattle.model_runs.proofs.Outcomes.{right_incomplete, right_reports}
+use Rattle.model_runs.proofs.Searches.{right_incomplete, right_reports}
 use Rattle.model_runs.proofs.searching.search_reports.Goals as goal
 
 pub returns-then-complete : goal.returns-then-complete
