@@ -78,9 +78,9 @@ short_kept n xs = λ i d low. leb-true _ _ (filter_passes (λ (a : OutcomeAnswer
 
 -- a search that isn't complete is right if its answers are
 pub right_incomplete : (code : Tree) (k : Limits) (s : Search) → s.complete ≡ false → All (IsSeen code k) s.answers.items → IsRight code k s
-right_incomplete code k s open seen = record {
+right_incomplete code k s isnt seen = record {
   each = seen;
-  all = λ complete. absurd (cc (open, complete));
+  all = λ complete. absurd (cc (isnt, complete));
 }
 
 -- a search with all reports is right
@@ -89,8 +89,7 @@ pub right_reports : (code : Tree) (k : Limits) (found : Exploration) (listed : L
     IsAllOf listed answers → All (IsReportReached code k) found.answers →
     (found.complete ≡ true → (schedule : List ℕ) → IsReportCovered k found.answers (core code k schedule)) → IsRight code k s
 right_reports code k found listed answers s same marked complete is seen all reached covered =
-    right_search code k s true marked (subst (All (IsSeen code k)) (sym is) seen) (λ whole.
-    (
+    right_search code k s true marked (subst (All (IsSeen code k)) (sym is) seen) (λ whole. (
       found.answers,
       reached,
       covered (sym complete ∙ whole),

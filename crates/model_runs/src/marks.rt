@@ -15,12 +15,7 @@ use model_terms::Probe;
 /// Whether the search with this probe keeps marks: the term has no loop without end, and a search with marks is several
 /// times as fast; a schedule within the bound on entries can use up a count; a claim with the probe isn't judged by
 /// outcomes alone; or such a claim is about `*` in a term with fibers that the file doesn't name.
-pub(crate) fn needs_marks(
-    prepared: &Prepared,
-    plan: Plan,
-    claims: &[Claim],
-    probe: &Probe,
-) -> bool
+pub(crate) fn needs_marks(prepared: &Prepared, plan: Plan, claims: &[Claim], probe: &Probe) -> bool
     ensures { result ≡ false → plan.entries ≤ plan.limits.count }
 {
     if !prepared.endless {
