@@ -1,5 +1,5 @@
 -- The result of a claim follows from one of the searches.
-use Rattle.std.proofs.Common.{◌≡◌, ℕ, List, Option, Some, None, Result, Ok, Err, IfOk, true, ap, ◌∙◌}
+use Rattle.std.proofs.Common.{◌≡◌, ℕ, List, Some, None, Result, Ok, Err, IfOk, true, ap, ◌∙◌}
 use Rattle.std.specs.List.{slice_get}
 use Rattle.std.specs.Option.{is_some}
 use Rattle.model_terms.specs.declared.refused.Refused.{Refused}
@@ -12,21 +12,23 @@ use Rattle.model_runs.specs.declared.moments.Moments.{Moments}
 use Rattle.model_runs.specs.declared.result.ClaimResult.{ClaimResult}
 use Rattle.model_runs.specs.declared.result.Search.{Search}
 use Rattle.model_runs.specs.Deciding.{IsDecided, IsResultOf}
+use Rattle.model_runs.specs.Marks.{IsFit}
 use Rattle.model_runs.specs.Moments.{IsDecidedAtMoments, IsJudgedMoment}
 use Rattle.model_runs.specs.Private.Looking.{IsRightAt, IsRightOf}
 use Rattle.model_runs.proofs.Looks.{some_in}
 
 pub decided_by : (source : Source) (claim : Claim) (searches : List Search) (n : ℕ) (s : Search) (it : Result ClaimResult Refused) →
-    slice_get searches n ≡ Some s → claim.moment ≡ None → IfOk it (IsResultOf source claim s) → IfOk it (λ r. r.search ≡ n) →
-    IfOk it (IsDecided source searches)
-decided_by source claim searches n s (Ok r) there answers says number = record {
+    slice_get searches n ≡ Some s → claim.moment ≡ None → IfOk it (λ r. IsFit claim s) → IfOk it (IsResultOf source claim s) →
+    IfOk it (λ r. r.search ≡ n) → IfOk it (IsDecided source searches)
+decided_by source claim searches n s (Ok r) there answers fit says number = record {
   claim = claim;
   search = s;
   named = ap (slice_get searches) number ∙ there;
   of_answers = answers;
+  fit = fit;
   is_result = says;
 }
-decided_by source claim searches n s (Err e) there answers says number = tt
+decided_by source claim searches n s (Err e) there answers fit says number = tt
 
 -- the clause `moment` of `moment_result`, for a claim
 abbrev pub Says : Claim → ℕ → Search → Moments → Result ClaimResult Refused → Type 0

@@ -8,6 +8,7 @@ use Rattle.model_claims.specs.Conditions.{truth_in}
 use Rattle.model_claims.specs.Judging.{IsJudged, under}
 use Rattle.model_runs.specs.declared.result.ClaimResult.{ClaimResult}
 use Rattle.model_runs.specs.declared.result.Search.{Search}
+use Rattle.model_runs.specs.Marks.{IsFit}
 use Rattle.model_runs.specs.Moments.{IsDecidedAtMoments}
 
 -- the verdict of a claim by the answers of its search, and the answer that is shown
@@ -23,12 +24,14 @@ pub record IsResultOf (source : Source) (claim : Claim) (s : Search) (it : Claim
   pub fails : it.fails ≡ claim.fails
   pub judged : IsJudgedBy source claim s it.shown it.verdict
 
--- the result of a claim on answers follows from the search that the result names, among these searches
+-- the result of a claim on answers follows from the search that the result names, among these searches; this search
+-- keeps marks, unless the claim is judged by the outcomes of fibers alone
 pub record IsDecided (source : Source) (searches : List Search) (it : ClaimResult) : Type 0 where
   pub claim : Claim
   pub search : Search
   pub named : slice_get searches it.search ≡ Some search
   pub of_answers : claim.moment ≡ None
+  pub fit : IsFit claim search
   pub is_result : IsResultOf source claim search it
 
 -- the result of a claim follows from one of these searches, or from the search for moments

@@ -1,5 +1,6 @@
 pub mod Verdicts
 pub mod Seeing
+pub mod Marks
 pub mod Deciding
 pub mod Moments
 pub mod Holding

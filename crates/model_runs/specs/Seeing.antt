@@ -1,5 +1,6 @@
 -- What a claim sees of the ends of schedules.
-use Rattle.std.specs.Prelude.{◌≡◌, true, if◌then◌else◌, ℕ, List, map, Option, Some, None, Result, Ok, Err}
+use Rattle.std.specs.Prelude.{◌≡◌, ◌≤◌, Bool, true, false, if◌then◌else◌, ℕ, List, length, map}
+use Rattle.std.specs.Prelude.{Option, Some, None, Result, Ok, Err}
 use Rattle.std.specs.List.{All}
 use Rattle.effect_term.specs.declared.reply.Outcome.{Outcome}
 use Rattle.cell_registry.specs.declared.limits.Limits.{Limits}
@@ -9,6 +10,8 @@ use Rattle.scheduled_core.specs.Core.{core, reported}
 use Rattle.scheduled_core.specs.declared.report.Report.{Report}
 use Rattle.every_schedule.specs.Explored.{IsCovered, IsReached}
 use Rattle.every_schedule.specs.declared.exploration.Answer.{Answer}
+use Rattle.every_outcome.specs.Outcomes.{IsCovered as IsOutcomeCovered, IsReached as IsOutcomeReached, counted}
+use Rattle.every_outcome.specs.declared.outcomes.OutcomeAnswer.{OutcomeAnswer}
 use Rattle.model_claims.specs.declared.answer.Seen.{Seen}
 use Rattle.model_runs.specs.declared.result.NamedAnswer.{NamedAnswer}
 use Rattle.model_runs.specs.declared.result.Search.{Search}
@@ -30,12 +33,25 @@ pub record IsSeen (code : Tree) (k : Limits) (a : NamedAnswer) : Type 0 where
 abbrev pub IsAllOf : List Answer → List NamedAnswer → Type 0
 IsAllOf found answers = map (λ a. a.schedule) answers ≡ map (λ a. a.schedule) found
 
+-- the same of answers that are outcomes
+abbrev pub AreOutcomesOf : List OutcomeAnswer → List NamedAnswer → Type 0
+AreOutcomesOf found answers = map (λ a. a.schedule) answers ≡ map (λ a. a.schedule) found
+
+-- The answers are those of an exploration that covers every schedule. If its worlds keep marks (the flag is true), it
+-- has each final report and each fault. If they don't, it has under every count the outcomes that no further entries
+-- change, and each band whose numbers can be used up; no schedule of an answer has more entries than the limits' count.
+abbrev pub AreAll : Bool → Tree → Limits → List NamedAnswer → Type 0
+AreAll true code k answers = (found : List Answer) × All (IsReached code k) found ×
+    ((schedule : List ℕ) → IsCovered k found (core code k schedule)) × IsAllOf found answers
+AreAll false code k answers = (found : List OutcomeAnswer) × All (IsOutcomeReached code k) found ×
+    ((count : ℕ) (schedule : List ℕ) → IsOutcomeCovered k found (core code (counted k count) schedule)) ×
+    All (λ a. length a.schedule ≤ k.count) found × AreOutcomesOf found answers
+
 -- a search is right about a code: each of its answers has the outcomes to which its schedule leads; if the search is
 -- complete, its answers are those of an exploration that covers every schedule
 pub record IsRight (code : Tree) (k : Limits) (s : Search) : Type 0 where
   pub each : All (IsSeen code k) s.answers.items
-  pub all : s.complete ≡ true → (found : List Answer) × All (IsReached code k) found ×
-      ((schedule : List ℕ) → IsCovered k found (core code k schedule)) × IsAllOf found s.answers.items
+  pub all : s.complete ≡ true → AreAll s.marked code k s.answers.items
 
 -- a search is right about the code of a program under some limits
 pub record IsRightOfSome (s : Search) : Type 0 where

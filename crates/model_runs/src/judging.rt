@@ -8,9 +8,11 @@ ghost use Rattle.cell_registry.specs.declared.limits.Limits.{Limits as TheLimits
 ghost use Rattle.every_schedule.specs.declared.claims.ClaimWord.{ClaimWord};
 ghost use Rattle.model_claims.specs.Conditions.{truth_in};
 ghost use Rattle.model_runs.specs.Deciding.{IsJudgedBy, IsResultOf};
+ghost use Rattle.model_runs.specs.Marks.{IsFit};
 ghost use Rattle.model_runs.specs.Moments.{IsJudgedMoment};
 ghost use Rattle.model_runs.specs.Private.Looking.{IsRightAt};
 
+use crate::marks::is_fit;
 use crate::moments::{JudgedAt, Moments, judge_at};
 use crate::named::{Named, replay_named};
 use crate::plan::Plan;
@@ -68,8 +70,13 @@ pub(crate) fn claim_result(
 ) -> Result<ClaimResult, Refused>
     requires limits { AreLimits plan.limits }
     ensures claim { IfOk result (IsResultOf source.now claim.now search.now) }
+    ensures fit { IfOk result (λ it. IsFit claim.now search.now) }
     ensures search { IfOk result (λ it. it.search ≡ number) }
 {
+    // The search keeps marks if one of its claims needs them.
+    if !is_fit(search, claim) {
+        return Err(Refused::NoMemory);
+    }
     let judged = judge_claim(alloc, source, claim, search)?;
     let answers = search.answers.as_slice();
     let replay = replay_of(

@@ -97,6 +97,7 @@ fn nothing_found(alloc: Global) -> Moments
         search: Search {
             complete: false,
             halted: false,
+            marked: true,
             worlds: 0,
             sampled: 0,
             answers,
@@ -118,6 +119,7 @@ fn found_moments(found: Claimed, answers: Vec<NamedAnswer>) -> Moments
         search: Search {
             complete,
             halted,
+            marked: true,
             worlds,
             sampled: 0,
             answers,

@@ -17,6 +17,8 @@ pub(crate) struct Prepared {
     pub program: Program,
     /// The origin of each word of its code.
     pub origins: Vec<Origin>,
+    /// Whether the term has a loop without end.
+    pub endless: bool,
 }
 
 /// Prepares a model's term with this probe, or returns the fault of the model.
@@ -31,7 +33,24 @@ pub(crate) fn prepare(
     let code = expand(alloc, &program)?;
     let sources = code_sources(alloc, term.text.as_slice(), code.words().len())?;
     let origins = origins_of(alloc, &term, sources.as_slice())?;
-    Ok(Prepared { program, origins })
+    let endless = has_forever(term.text.as_slice());
+    Ok(Prepared {
+        program,
+        origins,
+        endless,
+    })
+}
+
+// Whether a term has a `forever`.
+fn has_forever(text: &[u8]) -> bool {
+    for at in 0..text.len() {
+        if let Some(rest) = text.get(at..) {
+            if rest.starts_with(b"(forever") {
+                return true;
+            }
+        }
+    }
+    false
 }
 
 /// Returns the program of a model's term. A term that exceeds a limit is a fault of the model.

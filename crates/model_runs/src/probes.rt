@@ -25,8 +25,8 @@ pub(crate) fn probe_number(probes: &[Probe], wanted: &Probe) -> Option<usize> {
     None
 }
 
-// Whether two probes are the same.
-fn is_same(one: &Probe, other: &Probe) -> bool {
+/// Whether two probes are the same.
+pub(crate) fn is_same(one: &Probe, other: &Probe) -> bool {
     match one {
         Probe::Nothing => matches!(other, Probe::Nothing),
         Probe::Watch(name) => match other {

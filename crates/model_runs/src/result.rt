@@ -38,6 +38,9 @@ pub struct Search {
     pub complete: bool,
     /// Whether the watcher ended the exploration.
     pub halted: bool,
+    /// Whether the worlds keep the marks of fibers. If not, the answers are told apart by the outcomes of fibers and by
+    /// faults alone.
+    pub marked: bool,
     /// The number of worlds that were found.
     pub worlds: usize,
     /// The number of schedules drawn at random; 0 if every schedule was explored.

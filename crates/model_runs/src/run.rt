@@ -11,12 +11,14 @@ ghost use Rattle.model_runs.specs.Verdicts.{worst};
 ghost use Rattle.cell_registry.specs.Cells.{AreLimits};
 
 use crate::judging::{claim_result, moment_result};
+use crate::marks::needs_marks;
 use crate::moments::{Moments, moments_of};
+use crate::outcomes::search_outcomes;
 use crate::plan::{Plan, SearchBounds, plan_of};
 use crate::prepared::{prepare, program_in};
 use crate::probes::{probe_number, probes_of};
 use crate::result::{ClaimResult, ModelResult, Search};
-use crate::searching::search_term;
+use crate::searching::search_reports;
 use crate::verdicts::worst_verdict;
 use crate::warnings::{Warning, warnings_of};
 use every_schedule::{Unwatched, Watcher};
@@ -29,9 +31,11 @@ use std::alloc::Global;
 ///
 /// The model's bounds override `bounds`. An exploration keeps 10,000 worlds at first, and then ten times as many, up to
 /// its bound. If the exploration still isn't complete, schedules are drawn at random, and their settled ends count as
-/// answers. Each claim is judged by the search of the term with its probe. Claims at any moment on refs of known
-/// numbers are checked together, in each world of one more search; a fault refutes such a claim about every moment. A
-/// model with a fault is refused as by [`check_model`].
+/// answers. Each claim is judged by the search of the term with its probe. If the term has a loop without end, and all
+/// claims of a search are judged by the outcomes of fibers alone, its worlds keep no marks ([`Search::marked`]): a loop
+/// with masks and brackets in it leads back to a known world, and answers are the outcomes that no further entry
+/// changes. Claims at any moment on refs of known numbers are checked together, in each world of one more search; a
+/// fault refutes such a claim about every moment. A model with a fault is refused as by [`check_model`].
 pub fn run_model(
     alloc: Global,
     source: &Source,
@@ -64,7 +68,15 @@ pub fn run_model_watched<V: Watcher>(
     let settings = read_settings(alloc, source, model)?;
     let plan = plan_of(settings, bounds);
     let probes = probes_of(alloc, claims.as_slice())?;
-    let searches = searches_of(alloc, source, model, plan, probes.as_slice(), &mut *watcher)?;
+    let searches = searches_of(
+        alloc,
+        source,
+        model,
+        plan,
+        claims.as_slice(),
+        probes.as_slice(),
+        &mut *watcher,
+    )?;
     let moments = moments_of(alloc, source, model, plan, claims.as_slice(), watcher)?;
     let results = results_of(
         alloc,
@@ -125,6 +137,7 @@ fn searches_of<V: Watcher>(
     source: &Source,
     model: &Model,
     plan: Plan,
+    claims: &[Claim],
     probes: &[Probe],
     watcher: &mut V,
 ) -> Result<Vec<Search>, Refused>
@@ -133,18 +146,19 @@ fn searches_of<V: Watcher>(
 {
     let mut searches = Vec::new(alloc);
     for probe in probes {
-        let found = search_with(alloc, source, model, plan, *probe, &mut *watcher)?;
+        let found = search_with(alloc, source, model, plan, claims, *probe, &mut *watcher)?;
         searches.push(found)?;
     }
     Ok(searches)
 }
 
-// Searches the term with this probe.
+// Searches the term with this probe, with marks if it needs them.
 fn search_with<V: Watcher>(
     alloc: Global,
     source: &Source,
     model: &Model,
     plan: Plan,
+    claims: &[Claim],
     probe: Probe,
     watcher: &mut V,
 ) -> Result<Search, Refused>
@@ -152,7 +166,12 @@ fn search_with<V: Watcher>(
     ensures right { IfOk result IsRightOfSome }
 {
     let prepared = prepare(alloc, source, model, probe)?;
-    match search_term(alloc, &prepared, plan, watcher) {
+    let found = if needs_marks(&prepared, plan, claims, &probe) {
+        search_reports(alloc, &prepared, plan, watcher)
+    } else {
+        search_outcomes(alloc, &prepared, plan, watcher)
+    };
+    match found {
         Ok(found) => Ok(found),
         Err(_) => Err(Refused::NoMemory),
     }

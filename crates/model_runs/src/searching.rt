@@ -15,10 +15,11 @@ use crate::prepared::Prepared;
 use crate::result::{HeldRef, NamedAnswer, Search};
 use crate::seeing::seen_of;
 use cell_registry::RunError;
-use effect_term::Program;
+use effect_term::{Outcome, Program};
+use every_outcome::{OutcomeAnswer, Outcomes};
 use every_schedule::{Answer, Exploration, Schedule, Watcher, explore_watched};
 use sampled_schedules::{Coming, Sample, sample, sample_watched};
-use scheduled_core::same_end;
+use scheduled_core::{FiberReport, Report, same_end};
 use std::alloc::{AllocError, Global};
 use world_search::Bounds;
 
@@ -30,6 +31,15 @@ pub(crate) const TIMES_MORE: u32 = 8;
 
 // The greatest number of schedules that are drawn if the watcher has ended the exploration.
 const FEW_TIMES: u32 = 200;
+
+/// The answers that an exploration has found.
+#[derive(Clone, Copy)]
+pub(crate) enum Known<'a> {
+    /// Reports and faults.
+    Reports(&'a [Answer]),
+    /// Outcomes of fibers, and faults.
+    Outcomes(&'a [OutcomeAnswer]),
+}
 
 /// Explores a program within the plan: with 10,000 worlds at first, and then with ten times as many, up to those of the
 /// plan.
@@ -79,9 +89,9 @@ fn explore_with<V: Watcher>(
     explore_watched(alloc, program, plan.limits, bounds, watcher)
 }
 
-/// Searches a term within the plan, until the watcher ends the search. If not every schedule was explored, some are
-/// drawn at random.
-pub(crate) fn search_term<V: Watcher>(
+/// Searches the reports of a term within the plan, until the watcher ends the search. If not every schedule was
+/// explored, some are drawn at random.
+pub(crate) fn search_reports<V: Watcher>(
     alloc: Global,
     prepared: &Prepared,
     plan: Plan,
@@ -96,15 +106,15 @@ pub(crate) fn search_term<V: Watcher>(
         return Ok(search_of(&found, 0, answers));
     }
     let drawn = drawn_by_plan(alloc, &prepared.program, plan, found.halted, watcher)?;
-    let known = found.answers.as_slice();
+    let known = Known::Reports(found.answers.as_slice());
     let comings = drawn.comings.as_slice();
     let more = with_drawn(alloc, prepared, plan, known, comings, answers)?;
     Ok(search_of(&found, drawn.schedules, more))
 }
 
-// Draws the plan's number of schedules after an exploration that isn't complete, until the watcher ends the drawing. If
-// the watcher has ended the exploration (`halted`), draws at most 200 and doesn't ask the watcher.
-fn drawn_by_plan<V: Watcher>(
+/// Draws the plan's number of schedules after an exploration that isn't complete, until the watcher ends the drawing.
+/// If the watcher has ended the exploration (`halted`), draws at most 200 and doesn't ask the watcher.
+pub(crate) fn drawn_by_plan<V: Watcher>(
     alloc: Global,
     program: &Program,
     plan: Plan,
@@ -148,6 +158,7 @@ fn explored_answers(
 
 // The result of a search: an exploration, the number of schedules that were drawn, and the answers of both.
 fn search_of(found: &Exploration, sampled: u32, answers: Vec<NamedAnswer>) -> Search
+    ensures marked { result.marked ≡ true }
     ensures complete { result.complete ≡ found.now.complete }
     ensures halted { result.halted ≡ found.now.halted }
     ensures answers { result.answers.items ≡ answers.items }
@@ -155,18 +166,19 @@ fn search_of(found: &Exploration, sampled: u32, answers: Vec<NamedAnswer>) -> Se
     Search {
         complete: found.complete,
         halted: found.halted,
+        marked: true,
         worlds: found.worlds,
         sampled,
         answers,
     }
 }
 
-// Adds to these answers each one that was drawn, is settled, and wasn't found.
-fn with_drawn(
+/// Adds to these answers each one that was drawn, is settled, and isn't known.
+pub(crate) fn with_drawn(
     alloc: Global,
     prepared: &Prepared,
     plan: Plan,
-    found: &[Answer],
+    known: Known,
     drawn: &[Coming],
     answers: Vec<NamedAnswer>,
 ) -> Result<Vec<NamedAnswer>, AllocError>
@@ -176,17 +188,17 @@ fn with_drawn(
 {
     let mut all = answers;
     for coming in drawn {
-        add_drawn(alloc, prepared, plan, found, coming, &mut all)?;
+        add_drawn(alloc, prepared, plan, known, coming, &mut all)?;
     }
     Ok(all)
 }
 
-// Adds an answer that was drawn, if it is settled and wasn't found.
+// Adds an answer that was drawn, if it is settled and isn't known.
 fn add_drawn(
     alloc: Global,
     prepared: &Prepared,
     plan: Plan,
-    found: &[Answer],
+    known: Known,
     coming: &Coming,
     all: &mut Vec<NamedAnswer>,
 ) -> Result<(), AllocError>
@@ -194,7 +206,7 @@ fn add_drawn(
     requires each { All (IsSeen (code_of (source_of prepared.now.program)) plan.limits) all.old.items }
     ensures each { OnOk result (All (IsSeen (code_of (source_of prepared.now.program)) plan.limits) all.new.items) }
 {
-    if !is_new(found, coming) {
+    if coming.cut || is_known(known, &coming.answer.end) {
         return Ok(());
     }
     let answer = named_answer(alloc, prepared, plan, &coming.answer, coming.times)?;
@@ -202,13 +214,35 @@ fn add_drawn(
     Ok(())
 }
 
-// Whether an end that was drawn is settled (no further entry changes it) and isn't among these answers.
-fn is_new(answers: &[Answer], coming: &Coming) -> bool {
-    if coming.cut {
+// Whether an exploration has found this end, or its outcomes if it was an exploration of outcomes.
+fn is_known(known: Known, end: &Result<Report, RunError>) -> bool {
+    match known {
+        Known::Reports(answers) => answers.iter().any(|answer| same_end(&answer.end, end)),
+        Known::Outcomes(answers) => answers.iter().any(|answer| has_outcomes(&answer.end, end)),
+    }
+}
+
+// Whether an end is a report with these outcomes, or this fault.
+fn has_outcomes(known: &Result<Outcomes, RunError>, end: &Result<Report, RunError>) -> bool {
+    match known {
+        Ok(outcomes) => match end {
+            Ok(report) => are_outcomes(outcomes.as_slice(), report.fibers.as_slice()),
+            Err(_) => false,
+        },
+        Err(fault) => match end {
+            Ok(_) => false,
+            Err(other) => *fault == *other,
+        },
+    }
+}
+
+// Whether these are the outcomes of these fibers.
+fn are_outcomes(outcomes: &[Option<Outcome>], fibers: &[FiberReport]) -> bool {
+    if outcomes.len() != fibers.len() {
         return false;
     }
-    for answer in answers {
-        if same_end(&answer.end, &coming.answer.end) {
+    for (one, fiber) in outcomes.iter().zip(fibers.iter()) {
+        if *one != fiber.outcome {
             return false;
         }
     }

@@ -1,4 +1,4 @@
-use Rattle.std.proofs.Common.{◌≡◌, refl}
+use Rattle.std.proofs.Common.{refl}
 use Rattle.model_runs.proofs.judging.moment_result.Goals as goal
 
 pub returns-clause-moment : goal.returns-clause-moment

@@ -1,4 +1,4 @@
-use Rattle.std.proofs.Common.{rules, ◌≡◌, refl, arith}
+use Rattle.std.proofs.Common.{rules, arith}
 use Rattle.model_runs.proofs.moments.nothing_found.Goals as goal
 
 pub returns : goal.returns

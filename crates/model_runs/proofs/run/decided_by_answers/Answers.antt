@@ -13,6 +13,6 @@ returns-in-Some-get c =
     let within : n < length searches = c.in-Some-get.ensures.lookup.3.0 in
     let there : slice_get searches n ≡ Some s = slice_get-get_or searches n s within ∙ ap (λ (y : Search). Some y) (sym c.in-Some-get.ensures.lookup.1) in
     record {
-      decided = decided_by c.args.source.now c.args.claim.now searches n s c.claim_result.result there c.requires.answers c.claim_result.ensures.claim
-          c.claim_result.ensures.search;
+      decided = decided_by c.args.source.now c.args.claim.now searches n s c.claim_result.result there c.requires.answers c.claim_result.ensures.fit
+          c.claim_result.ensures.claim c.claim_result.ensures.search;
     }

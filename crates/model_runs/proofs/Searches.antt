@@ -1,0 +1,131 @@
+-- A search of outcomes is right: its answers are those of an exploration, without long ones, sorted.
+use Rattle.std.proofs.Common.{◌≡◌, ◌≤◌, ◌==◌, ◌&&◌, ℕ, suc, Bool, true, false, cond, List, [], ◌∷◌, length, leb, refl, sym, ap, ◌∙◌, subst, arith}
+use Rattle.std.specs.Prelude.{Option, Some, Result, Ok, Err}
+use Rattle.std.specs.List.{All, filter, slice_get}
+use Rattle.std.specs.List.Sorted.{IsPermutation}
+use Rattle.std.proofs.lemmas.Bool.{eqb-true, leb-true}
+use Rattle.std.proofs.lemmas.List.Elements.{All-filter, filter_passes}
+use Rattle.std.proofs.lemmas.List.Sorted.{All-permutation, IsPermutation-sym}
+use Rattle.derived_ops.specs.Tree.{Tree}
+use Rattle.effect_term.specs.declared.reply.Outcome.{Outcome}
+use Rattle.cell_registry.specs.declared.limits.Limits.{Limits}
+use Rattle.cell_registry.specs.declared.limits.RunError.{RunError}
+use Rattle.cell_registry.specs.declared.limits.RunError.TheVariants as run
+use Rattle.scheduled_core.specs.Core.{World, core}
+use Rattle.every_outcome.specs.declared.outcomes.OutcomeAnswer.{OutcomeAnswer}
+use Rattle.every_outcome.specs.declared.outcomes.OutcomeExploration.{OutcomeExploration}
+use Rattle.every_outcome.specs.Outcomes.{IsCovered, IsListed, IsReached, counted}
+use Rattle.every_outcome.proofs.Told.{all_at, all_from}
+use Rattle.model_runs.specs.declared.result.NamedAnswer.{NamedAnswer}
+use Rattle.model_runs.specs.declared.result.Search.{Search}
+use Rattle.model_runs.specs.Seeing.{AreAll, AreOutcomesOf, IsRight, IsSeen}
+
+-- this answer is one of these
+IsIn : List OutcomeAnswer → OutcomeAnswer → Type 0
+IsIn xs a = (i : ℕ) × (slice_get xs i ≡ Some a)
+
+listed_sorted : (xs ys : List OutcomeAnswer) (end : Result (List (Option Outcome)) RunError) → IsPermutation xs ys → IsListed xs end → IsListed ys end
+unfolding IsIn
+listed_sorted xs ys end moved l =
+    let there : All (IsIn ys) ys = all_from (IsIn ys) ys (λ i x e. (i, e)) in
+    let here : All (IsIn ys) xs = All-permutation (IsIn ys) ys xs (IsPermutation-sym xs ys moved) there in
+    let k : IsIn ys l.1 = all_at (IsIn ys) xs l.0 l.1 l.2 here in
+    (k.0, l.1, k.1, l.3)
+
+-- what is covered stays so if answers are sorted
+covered_sorted : (k : Limits) (xs ys : List OutcomeAnswer) (x : Result World RunError) → IsPermutation xs ys → IsCovered k xs x → IsCovered k ys x
+covered_sorted k xs ys (Ok w) moved h = λ keeps. listed_sorted xs ys _ moved (h keeps)
+covered_sorted k xs ys (Err (run.Full band n)) moved h = listed_sorted xs ys _ moved h
+covered_sorted k xs ys (Err (run.Spent f)) moved h = tt
+covered_sorted k xs ys (Err run.NoMemory) moved h = tt
+covered_sorted k xs ys (Err (run.Lost f)) moved h = tt
+covered_sorted k xs ys (Err run.NoWorker) moved h = tt
+
+-- a search with all answers that there are is right
+pub right_search : (code : Tree) (k : Limits) (s : Search) (marked : Bool) → s.marked ≡ marked → All (IsSeen code k) s.answers.items →
+    (s.complete ≡ true → AreAll marked code k s.answers.items) → IsRight code k s
+right_search code k s marked is seen all = record {
+  each = seen;
+  all = λ complete. subst (λ (m : Bool). AreAll m code k s.answers.items) (sym is) (all complete);
+}
+
+both_true : (a b : Bool) → (a && b) ≡ true → (a ≡ true) × (b ≡ true)
+both_true true b e = (refl, e)
+both_true false b e = absurd (cc)
+
+module _ {A : Type 0} (p : A → Bool) where
+  shorter_step : (b : Bool) (x : A) (xs ys : List A) → length ys ≤ length xs → length (cond b (x ∷ ys) ys) ≤ suc (length xs)
+  shorter_step true x xs ys low = omega arith
+  shorter_step false x xs ys low = omega arith
+
+  filter_shorter : (xs : List A) → length (filter p xs) ≤ length xs
+  filter_shorter [] = omega arith
+  filter_shorter (x ∷ xs) = shorter_step (p x) x xs (filter p xs) (filter_shorter xs)
+
+  whole_step : (b : Bool) (x : A) (xs : List A) → (length (filter p xs) ≡ length xs → filter p xs ≡ xs) →
+      length (cond b (x ∷ filter p xs) (filter p xs)) ≡ suc (length xs) → cond b (x ∷ filter p xs) (filter p xs) ≡ x ∷ xs
+  whole_step true x xs rest many = ap (λ l. x ∷ l) (rest (omega arith))
+  whole_step false x xs rest many = absurd (let low = filter_shorter xs in omega arith)
+
+  -- if as many elements are kept as there were, all are kept
+  filter_whole : (xs : List A) → length (filter p xs) ≡ length xs → filter p xs ≡ xs
+  filter_whole [] many = refl
+  filter_whole (x ∷ xs) many = whole_step (p x) x xs (filter_whole xs) many
+
+abbrev is_short : ℕ → OutcomeAnswer → Bool
+is_short most a = leb (length a.schedule) most
+
+-- an exploration of outcomes, what is kept of it, and the same sorted
+module _ (code : Tree) (k : Limits) (explored kept found : OutcomeExploration) (most : ℕ)
+    (answers_are : kept.answers.items ≡ filter (is_short most) explored.answers.items)
+    (complete_is : kept.complete ≡ (explored.complete && (length kept.answers.items == length explored.answers.items)))
+    (moved : IsPermutation kept.answers.items found.answers.items)
+    (covered : explored.complete ≡ true → (count : ℕ) (schedule : List ℕ) →
+        IsCovered k explored.answers.items (core code (counted k count) schedule))
+    (reached : All (IsReached code k) explored.answers.items)
+  where
+    -- if what is kept is complete, all answers are kept
+    whole : kept.complete ≡ true → (explored.complete ≡ true) × (kept.answers.items ≡ explored.answers.items)
+    whole complete =
+        let h = both_true explored.complete _ (sym complete_is ∙ complete) in
+        let many = eqb-true (length kept.answers.items) (length explored.answers.items) h.1 in
+        (h.0, answers_are ∙ filter_whole (is_short most) explored.answers.items (sym (ap length answers_are) ∙ many))
+
+    short_kept : All (λ a. length a.schedule ≤ most) kept.answers.items
+    short_kept = subst (All (λ (a : OutcomeAnswer). length a.schedule ≤ most)) (sym answers_are) (λ i d low.
+        leb-true _ _ (filter_passes (is_short most) explored.answers.items i d low))
+
+    reached_kept : All (IsReached code k) kept.answers.items
+    reached_kept = subst (All (IsReached code k)) (sym answers_are) (All-filter (is_short most) (IsReached code k) explored.answers.items reached)
+
+    short_found : most ≤ k.count → All (λ a. length a.schedule ≤ k.count) found.answers.items
+    short_found low = λ i d within.
+        let h = All-permutation (λ (a : OutcomeAnswer). length a.schedule ≤ most) kept.answers.items found.answers.items moved short_kept i d within in
+        omega arith
+
+    all_covered : kept.complete ≡ true → (count : ℕ) (schedule : List ℕ) → IsCovered k found.answers.items (core code (counted k count) schedule)
+    all_covered complete count schedule =
+        let h = whole complete in
+        covered_sorted k kept.answers.items found.answers.items _ moved
+        (subst (λ (l : List OutcomeAnswer). IsCovered k l (core code (counted k count) schedule)) (sym h.1) (covered h.0 count schedule))
+
+    -- the answers of a complete exploration without long ones are all that there are
+    all_outcomes : (answers : List NamedAnswer) → most ≤ k.count → AreOutcomesOf found.answers.items answers → kept.complete ≡ true →
+        AreAll false code k answers
+    all_outcomes answers low same complete = (
+      found.answers.items,
+      All-permutation (IsReached code k) kept.answers.items found.answers.items moved reached_kept,
+      all_covered complete,
+      short_found low,
+      same,
+    )
+
+    -- a search with all outcomes is right
+    pub right_outcomes : (listed : List OutcomeAnswer) (answers : List NamedAnswer) (s : Search) → most ≤ k.count → found.complete ≡ kept.complete →
+        listed ≡ found.answers.items → s.marked ≡ false → s.complete ≡ found.complete → s.answers.items ≡ answers → All (IsSeen code k) answers →
+        AreOutcomesOf listed answers → IsRight code k s
+    right_outcomes listed answers s low closed same marked complete is seen all =
+        right_search code k s false marked (subst (All (IsSeen code k)) (sym is) seen) (λ ends.
+        all_outcomes s.answers.items low
+        (subst (λ (l : List OutcomeAnswer). AreOutcomesOf l s.answers.items) same (subst (AreOutcomesOf listed) (sym is) all))
+        (sym closed ∙ sym complete ∙ ends))

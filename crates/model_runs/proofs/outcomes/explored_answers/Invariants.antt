@@ -1,0 +1,13 @@
+use Rattle.std.proofs.Common.{◌≡◌, map, take}
+use Rattle.std.specs.List.{All}
+use Rattle.derived_ops.specs.Expansion.{code_of}
+use Rattle.derived_ops.specs.Reading.{source_of}
+use Rattle.model_runs.specs.Seeing.{IsSeen}
+use Rattle.model_runs.proofs.outcomes.explored_answers.Given as goal
+
+-- the answers so far are named
+abbrev pub invariant-loop-answer : goal.invariant-loop-answer
+invariant-loop-answer l = record {
+  each : All (IsSeen (code_of (source_of l.prepared.program)) l.plan.limits) l.answers.items;
+  all : map (λ a. a.schedule) l.answers.items ≡ map (λ a. a.schedule) (take l.answer-index l.found);
+}
