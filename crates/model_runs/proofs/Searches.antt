@@ -81,7 +81,7 @@ module _ (code : Tree) (k : Limits) (explored kept found : OutcomeExploration) (
     (complete_is : kept.complete ≡ (explored.complete && (length kept.answers.items == length explored.answers.items)))
     (moved : IsPermutation kept.answers.items found.answers.items)
     (covered : explored.complete ≡ true → (count : ℕ) (schedule : List ℕ) →
-        IsCovered k explored.answers.items (core code (counted k count) schedule))
+    IsCovered k explored.answers.items (core code (counted k count) schedule))
     (reached : All (IsReached code k) explored.answers.items)
   where
     -- if what is kept is complete, all answers are kept
