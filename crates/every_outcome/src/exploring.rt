@@ -65,13 +65,7 @@ pub fn explore_outcomes<V: Watcher>(
     ensures numbers { IfOk result (λ it. All (λ a. All (λ f. f < 1000) a.schedule) it.answers.items) }
     ensures memory { IfErr result (λ e. e ≡ RunError.NoMemory) }
 {
-    // The count has no effect on the answers. The search uses the greatest one, which no fiber uses up.
-    let explored = Limits {
-        fibers: limits.fibers,
-        refs: limits.refs,
-        deferreds: limits.deferreds,
-        count: GREATEST_COUNT,
-    };
+    let explored = uncounted(limits);
     let mut worlds = SeenWorlds::new(alloc, program, explored)?;
     let found = search(alloc, &mut worlds, bounds, watcher)?;
     let answers = told(alloc, program, explored, &worlds, found.answers)?;
@@ -86,6 +80,19 @@ pub fn explore_outcomes<V: Watcher>(
 
 // The greatest count that limits can have.
 const GREATEST_COUNT: u64 = (1 << 40) - 1;
+
+/// The limits of a search. The count of the given limits has no effect on what is found: this is the greatest one, which
+/// no fiber uses up.
+pub(crate) fn uncounted(limits: Limits) -> Limits
+    ensures { result ≡ counted limits GREATEST_COUNT }
+{
+    Limits {
+        fibers: limits.fibers,
+        refs: limits.refs,
+        deferreds: limits.deferreds,
+        count: GREATEST_COUNT,
+    }
+}
 
 // The answers of a search, each with its outcomes or fault.
 fn told(
@@ -135,7 +142,7 @@ fn answer(
     ensures memory { IfErr result (λ e. e ≡ RunError.NoMemory) }
 {
     let end = end(worlds, found.end)?;
-    let schedule = unfold(alloc, program, limits, found.schedule.as_slice())?;
+    let schedule = unfold(alloc, program, limits, found.schedule.as_slice(), true)?;
     Ok(OutcomeAnswer {
         schedule: Schedule::new(schedule),
         end,

@@ -126,7 +126,7 @@ fn certify(
     }
     let schedule = unfold(alloc, program, limits, found.schedule.as_slice(), STILL)?;
     let claim = &claims[found.claim];
-    let met_here = leads(alloc, program, limits, schedule.as_slice(), claim)?;
+    let met_here = meets_under(alloc, program, limits, schedule.as_slice(), claim)?;
     if !met_here {
         return Ok(false);
     }
@@ -142,8 +142,8 @@ fn add(met: &mut Vec<Met>, claim: usize, schedule: Vec<u16>) -> Result<(), Alloc
     Ok(())
 }
 
-// Whether a schedule of the core leads to a world that meets the claim.
-fn leads(
+/// Whether a schedule of the core leads to a world that meets the claim. [`RunError::NoMemory`] is the only error.
+pub fn meets_under(
     alloc: Global,
     program: &Program,
     limits: Limits,

@@ -68,8 +68,8 @@ pub(crate) fn stored_by(world: &CoreWorld, by: u16) -> Option<u16>
     }
 }
 
-/// The ref that a move with this wish sets or changes, if there is one.
-pub(crate) fn stored_in(wish: Wish) -> Option<u16>
+/// The ref that a move with this wish sets or changes, if there is one. [`note_ref`] keeps the refs that were set before.
+pub fn stored_in(wish: Wish) -> Option<u16>
     ensures { result ≡ the_stored wish }
 {
     match wish {

@@ -95,8 +95,9 @@ fn seen_after(alloc: Global, seen: &[u16], stored: Option<u16>) -> Result<Vec<u1
     Ok(after)
 }
 
-/// Adds a ref, if there is one and it isn't in the list.
-pub(crate) fn note_ref(seen: &mut Vec<u16>, stored: Option<u16>) -> Result<(), AllocError>
+/// Adds a ref, if there is one and it isn't in the list: so a list has the refs that were set before, in the order of
+/// their first sets.
+pub fn note_ref(seen: &mut Vec<u16>, stored: Option<u16>) -> Result<(), AllocError>
     ensures { OnOk result (seen.new.items ≡ noted seen.old.items stored) }
 {
     match stored {

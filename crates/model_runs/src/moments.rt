@@ -75,7 +75,7 @@ fn look<V: Watcher>(
     if wanted.is_empty() {
         return Ok(nothing_found(alloc));
     }
-    let found = search_by_plan(alloc, &prepared.program, plan, wanted.as_slice(), watcher)?;
+    let found = search_by_plan(alloc, prepared, plan, wanted.as_slice(), watcher)?;
     let answers = answers_of(
         alloc,
         prepared,

@@ -7,7 +7,7 @@ use Rattle.world_search.specs.Systems.{entered, run}
 use Rattle.every_schedule.specs.Claims.{View, first_view, is_met, noted, seeing, viewed}
 use Rattle.every_schedule.specs.Places.{Place, first_place, stepped}
 use Rattle.every_schedule.proofs.Seeing.{met_core}
-use Rattle.every_schedule.proofs.claimed.leads.Goals as goal
+use Rattle.every_schedule.proofs.claimed.meets_under.Goals as goal
 
 pub loop-fiber-init : goal.loop-fiber-init
 loop-fiber-init c =

@@ -4,7 +4,7 @@ use Rattle.derived_ops.specs.Reading.{source_of}
 use Rattle.world_search.specs.Systems.{run}
 use Rattle.every_schedule.specs.Claims.{first_view, viewed}
 use Rattle.every_schedule.specs.Places.{first_place, stepped}
-use Rattle.every_schedule.proofs.claimed.leads.Given as goal
+use Rattle.every_schedule.proofs.claimed.meets_under.Given as goal
 
 -- the entries so far have led to this world, and set these refs
 abbrev pub invariant-loop-fiber : goal.invariant-loop-fiber
