@@ -85,7 +85,9 @@ impl ClaimWorld {
 
     // The approximate number of bytes that the world takes.
     fn size(&self) -> usize {
-        self.world.size().saturating_add(self.seen.len().saturating_mul(2))
+        self.world
+            .size()
+            .saturating_add(self.seen.len().saturating_mul(2))
     }
 }
 

@@ -123,7 +123,8 @@ fn certify(
     let explored = uncounted(limits);
     let schedule = unfold(alloc, program, explored, found.schedule.as_slice(), false)?;
     let claim = &claims[found.claim];
-    if !meets_under(alloc, program, limits, schedule.as_slice(), claim)? {
+    let met_here = meets_under(alloc, program, limits, schedule.as_slice(), claim)?;
+    if !met_here {
         return Ok(false);
     }
     add(met, found.claim, schedule)?;

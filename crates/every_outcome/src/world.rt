@@ -108,7 +108,12 @@ impl SeenWorld {
     }
 
     /// Whether the world meets a claim, if these refs were set before.
-    pub(crate) fn meets(&self, alloc: Global, seen: &[u16], claim: &Claim) -> Result<bool, AllocError>
+    pub(crate) fn meets(
+        &self,
+        alloc: Global,
+        seen: &[u16],
+        claim: &Claim,
+    ) -> Result<bool, AllocError>
         ensures { IfOk result (λ it. it ≡ is_met record { place = self.now; seen = seen.now } claim.now) }
     {
         let registry = self.core.registry().copy(alloc)?;

@@ -7,6 +7,7 @@ use Rattle.world_search.specs.declared.claims.Met.{Met}
 use Rattle.world_search.specs.Claims.{IsFound}
 use Rattle.every_schedule.specs.Claims.{View, first_view}
 use Rattle.every_outcome.specs.Places.{first_place}
+use Rattle.every_schedule.proofs.Seeing.{two_true}
 use Rattle.every_outcome.proofs.Met.{core_met}
 use Rattle.every_outcome.proofs.Seen.{unmet_all}
 use Rattle.every_outcome.proofs.claimed.search_outcome_claims.Goals as goal
@@ -18,11 +19,12 @@ returns-clause-unmet g c = λ complete i words at unfound n schedule met.
     let first = first_view (first_place code k) in
     let raw : List Met = c.in_ok-found.found.met.items in
     let there : slice_get c.in_ok-worlds.worlds.views 0 ≡ Some first = ap (λ (l : List View). slice_get l 0) c.in_ok-worlds.ensures.views in
-    let whole = c.in_ok-certified.ensures.whole (c.are_both-complete.ensures.other complete) in
+    let both = two_true _ _ complete in
+    let whole = c.in_ok-certified.ensures.whole both.1 in
     let none = λ (f : IsFound i raw).
     unfound (subst (λ m. IsFound m c.in_ok-certified.certified.met.items) f.2
     (whole f.1.0 f.0 (subst (λ (l : List Met). slice_get l f.1.0 ≡ Some f.0) (sym c.as_slice.ensures.value) f.1.1))) in
-    let reduced = c.in_ok-found.ensures.unmet (c.are_both-complete.ensures.one complete) first there i words at none in
+    let reduced = c.in_ok-found.ensures.unmet both.0 first there i words at none in
     let core = core_met code k (let is = c.uncounted.ensures in omega arith) c.in_ok-worlds.ensures.reached words n schedule met in
     let no : true ≡ false = sym core.2 ∙ unmet_all words first reduced schedule core.0 core.1 in
     absurd (cc)
