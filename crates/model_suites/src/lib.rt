@@ -10,6 +10,7 @@
 mod board;
 mod exploring;
 mod reading;
+mod statuses;
 mod suite;
 mod terms;
 mod tested;
@@ -17,6 +18,7 @@ mod told;
 
 pub use board::Board;
 pub use reading::LONGEST;
+pub use statuses::status_of;
 pub use suite::{Suite, SuiteForm, SuiteOrder};
 pub use tested::{Became, Explored, Tested};
 pub use told::Told;

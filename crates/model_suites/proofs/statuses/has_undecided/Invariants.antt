@@ -1,7 +1,7 @@
 use Rattle.std.proofs.Common.{◌≡◌, drop}
 use Rattle.std.specs.List.{list_any}
-use Rattle.model_reports.specs.Verdicts.{is_undecided}
-use Rattle.model_reports.proofs.verdicts.has_undecided.Given as goal
+use Rattle.model_suites.specs.Verdicts.{is_undecided}
+use Rattle.model_suites.proofs.statuses.has_undecided.Given as goal
 
 -- no verdict before is `Undecided`
 abbrev pub invariant-loop-verdict : goal.invariant-loop-verdict
