@@ -18,6 +18,8 @@
 //! ```
 #![tactic(auto)]
 
+mod claim_worlds;
+mod claimed;
 mod core_world;
 mod exploring;
 mod faults;
@@ -29,6 +31,8 @@ mod unfolding;
 mod world;
 mod worlds;
 
+pub use claimed::search_outcome_claims;
+pub use every_schedule::{Claim, ClaimWord, Comparison};
 pub use exploring::explore_outcomes;
 pub use outcomes::{OutcomeAnswer, OutcomeExploration, Outcomes, Schedule};
-pub use world_search::{Bounds, Unwatched, Watcher};
+pub use world_search::{Bounds, Claimed, Met, Unwatched, Watcher};
