@@ -9,4 +9,4 @@ pub mod Told
 pub mod Listing
 pub mod Trails
 pub mod Seen
-pub mod Met
+pub mod Moments

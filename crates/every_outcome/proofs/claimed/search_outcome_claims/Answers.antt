@@ -10,7 +10,7 @@ use Rattle.every_schedule.specs.Claims.{View, first_view}
 use Rattle.every_schedule.proofs.Certified.{all_kept}
 use Rattle.every_outcome.specs.Outcomes.{counted}
 use Rattle.every_outcome.specs.Places.{first_place}
-use Rattle.every_outcome.proofs.Met.{core_met}
+use Rattle.every_outcome.proofs.Moments.{core_met}
 use Rattle.every_outcome.proofs.Seen.{unmet_all}
 use Rattle.every_outcome.proofs.claimed.search_outcome_claims.Goals as goal
 
