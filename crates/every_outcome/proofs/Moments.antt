@@ -30,6 +30,9 @@ pub stored_same : (w : World) (f : ℕ) → ((g : Fiber) → slice_get w.fibers 
     stored_by (slice_get (unmarked_world w).fibers f) ≡ stored_by (slice_get w.fibers f)
 stored_same w f h = ap stored_by (get_unmarked w.fibers f (slice_get w.fibers f) refl) ∙ stored_unmarked (slice_get w.fibers f) h
 
+pub stored_none : (w : World) (f : ℕ) → slice_get w.fibers f ≡ None → stored_by (slice_get (unmarked_world w).fibers f) ≡ None
+stored_none w f e = ap stored_by (get_unmarked w.fibers f None e)
+
 module _ (k : Limits) (n : ℕ) (some : 0 < k.count) where
   abbrev seen_at : World → List ℕ → View
   seen_at w seen = record { place = bare_place k n some w; seen = seen }
@@ -42,16 +45,16 @@ module _ (k : Limits) (n : ℕ) (some : 0 < k.count) where
   Leads w seen s v = (u : View) × (run (viewed stepped) (Ok (seen_at w seen)) s ≡ Ok u) × (u.place ≡ bare_place k n some v) ×
       ((r : ℕ) → (has r seen ≡ true) ⊎ WasSet (counted k n) r w s → has r u.seen ≡ true)
 
-  step_from : (w x : World) (f : ℕ) → Lawful w → (y : Result World RunError) → y ≡ Ok x →
+  step_from : (w x : World) (f : ℕ) (y : Result World RunError) → y ≡ Ok x →
       Same k n some w f y (stepped (bare_place k n some w) f) → stepped (bare_place k n some w) f ≡ Ok (bare_place k n some x)
-  step_from w x f law y is same = subst (λ z. Same k n some w f z (stepped (bare_place k n some w) f)) is same
+  step_from w x f y is same = subst (λ z. Same k n some w f z (stepped (bare_place k n some w) f)) is same
 
   first_step : (w x : World) (seen : List ℕ) (f : ℕ) → Lawful w → entered (counted k n) (Ok w) f ≡ Ok x →
       viewed stepped (seen_at w seen) f ≡ Ok (seen_at x (seen_next w seen f))
   first_step w x seen f law is =
       let reached = λ (g : Fiber) (e : slice_get w.fibers f ≡ Some g). law.reached f g e in
       ap (λ (o : Option ℕ). seeing (noted seen o) (stepped (bare_place k n some w) f)) (stored_same w f reached)
-      ∙ ap (seeing (seen_next w seen f)) (step_from w x f law (entered (counted k n) (Ok w) f) is (step_same k n some w f reached))
+      ∙ ap (seeing (seen_next w seen f)) (step_from w x f (entered (counted k n) (Ok w) f) is (step_same k n some w f reached))
 
   complete_next : (s : List ℕ) (w : World) (seen : List ℕ) (f : ℕ) (v : World) → Lawful w →
       ((x : World) (now : List ℕ) → Lawful x → fold (entered (counted k n)) (Ok x) s ≡ Ok v → Leads x now s v) →

@@ -7,7 +7,7 @@ ghost use Rattle.derived_ops.specs.Reading.{source_of};
 ghost use Rattle.fiber_frames.specs.Fiber.{begins};
 ghost use Rattle.fiber_frames.specs.Reached.{Reached};
 ghost use Rattle.cell_registry.specs.Cells.{AreLimits};
-ghost use Rattle.every_schedule.specs.Claims.{first_view, viewed};
+ghost use Rattle.every_schedule.specs.Claims.{first_view, is_met, viewed};
 ghost use Rattle.world_search.specs.Landings.{IsNext};
 ghost use Rattle.world_search.specs.Lists.{IsMore};
 ghost use Rattle.every_outcome.specs.Places.{first_place};
@@ -65,6 +65,21 @@ impl ClaimWorld {
         let seen = seen_after(alloc, self.seen.as_slice(), self.world.stored_by(fiber))?;
         let world = self.world.after(alloc, fiber, false)?;
         Ok(ClaimWorld { world, seen })
+    }
+
+    // The number of fibers that were started. An entry of another fiber changes nothing.
+    fn born(&self) -> u16
+        ensures rests { (f : ℕ) → result ≤ f → viewed (leapt false) self.now f ≡ GoesWell self.now }
+        ensures most { result ≤ 1000 }
+    {
+        self.world.born()
+    }
+
+    // Whether the world meets a claim.
+    fn meets(&self, alloc: Global, claim: &Claim) -> Result<bool, AllocError>
+        ensures { IfOk result (λ it. it ≡ is_met self.now claim.now) }
+    {
+        self.world.meets(alloc, self.seen.as_slice(), claim)
     }
 
     // Whether two worlds are equal: `true` means that they are. The result can be `false` for equal worlds.
@@ -214,7 +229,7 @@ impl Worlds for ClaimWorlds {
     ghost bytes = { λ s. s.bytes };
 
     fn born(&self, world: usize) -> u16 {
-        self.worlds[world].world.born()
+        self.worlds[world].born()
     }
 
     fn enter(&mut self, world: usize, fiber: u16, most: usize) -> Result<Entered, AllocError> {
@@ -251,7 +266,6 @@ impl Claims for ClaimWorlds {
     ghost meets = { is_met };
 
     fn meets(&self, world: usize, claim: &Claim) -> Result<bool, AllocError> {
-        let here = &self.worlds[world];
-        here.world.meets(self.alloc, here.seen.as_slice(), claim)
+        self.worlds[world].meets(self.alloc, claim)
     }
 }

@@ -1,6 +1,6 @@
 //! One world of the core, as a search of outcomes sees it.
 ghost use Rattle.std.specs.Prelude.{◌≡◌, ◌≢◌, ◌⊎◌, ◌≤◌, ℕ, Bool, map, IfOk, IfErr, true, false};
-ghost use Rattle.std.specs.Prelude.{Ok as GoesWell, Err as Fails};
+ghost use Rattle.std.specs.Prelude.{Ok as GoesWell, Err as Fails, None as Nothing};
 ghost use Rattle.std.specs.List.{slice_get};
 ghost use Rattle.derived_ops.specs.Expansion.{code_of};
 ghost use Rattle.derived_ops.specs.Reading.{source_of};
@@ -76,6 +76,7 @@ impl SeenWorld {
     /// The number of fibers that were started. An entry of another fiber changes nothing.
     pub(crate) fn born(&self) -> u16
         ensures rests { (stores : Bool) (f : ℕ) → result ≤ f → leapt stores self.now f ≡ GoesWell self.now }
+        ensures none { (f : ℕ) → result ≤ f → slice_get self.now.world.fibers f ≡ Nothing }
         ensures most { result ≤ 1000 }
     {
         // The registry is within its limits, and has given each fiber its number.

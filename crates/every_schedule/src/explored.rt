@@ -167,8 +167,8 @@ pub fn explore_watched<V: Watcher>(
     })
 }
 
-// Whether both are true.
-fn are_both(one: bool, other: bool) -> bool
+/// Whether both are true.
+pub(crate) fn are_both(one: bool, other: bool) -> bool
     ensures one { result ≡ true → one ≡ true }
     ensures other { result ≡ true → other ≡ true }
     ensures neither { result ≡ false → (one ≡ false) ⊎ (other ≡ false) }
