@@ -34,5 +34,5 @@ mod worlds;
 pub use claimed::search_outcome_claims;
 pub use every_schedule::{Claim, ClaimWord, Comparison};
 pub use exploring::explore_outcomes;
-pub use outcomes::{OutcomeAnswer, OutcomeExploration, Outcomes, Schedule};
+pub use outcomes::{OutcomeAnswer, OutcomeExploration, Outcomes, Schedule, shortened};
 pub use world_search::{Bounds, Claimed, Met, Unwatched, Watcher};
