@@ -117,10 +117,11 @@ pub fn certify(
     requires limits { AreLimits limits }
     ensures met { IfOk result (λ it. All (IsMetIn (code_of (source_of program.now)) limits claims.now) it.met.items) }
     ensures kept { IfOk result (λ it. IsMore it.met.items found.met.items) }
-    ensures whole { IfOk result (λ it. it.complete ≡ true →
-        (found.complete ≡ true) × (it.met.items ≡ found.met.items)) }
-    ensures same { IfOk result (λ it.
-        (it.halted ≡ found.halted) × (it.worlds ≡ found.worlds) × (it.bytes ≡ found.bytes)) }
+    ensures whole { IfOk result (λ it. it.complete ≡ true → it.met.items ≡ found.met.items) }
+    ensures complete { IfOk result (λ it. it.complete ≡ true → found.complete ≡ true) }
+    ensures halted { IfOk result (λ it. it.halted ≡ found.halted) }
+    ensures worlds { IfOk result (λ it. it.worlds ≡ found.worlds) }
+    ensures bytes { IfOk result (λ it. it.bytes ≡ found.bytes) }
     ensures memory { IfErr result (λ e. e ≡ RunError.NoMemory) }
 {
     let many = many_met(alloc, program, limits, claims, found.met.as_slice())?;

@@ -21,11 +21,10 @@ returns-clause-unmet g c = λ complete i words at unfound n schedule met.
     let first = first_view (first_place code k) in
     let raw : List Met = c.in_ok-found.found.met.items in
     let there : slice_get c.in_ok-worlds.worlds.views 0 ≡ Some first = ap (λ (l : List View). slice_get l 0) c.in_ok-worlds.ensures.views in
-    let whole = c.in_ok-certified.ensures.whole complete in
     let none = λ (f : IsFound i raw).
-    unfound (subst (λ (l : List Met). IsFound i l) (sym whole.1) (subst (λ m. IsFound m c.in_ok-met.met.items) f.2
+    unfound (subst (λ (l : List Met). IsFound i l) (sym (c.in_ok-certified.ensures.whole complete)) (subst (λ m. IsFound m c.in_ok-met.met.items) f.2
     (c.in_ok-met.ensures.all f.1.0 f.0 (subst (λ (l : List Met). slice_get l f.1.0 ≡ Some f.0) (sym c.as_slice.ensures.value) f.1.1)))) in
-    let reduced = c.in_ok-found.ensures.unmet whole.0 first there i words at none in
+    let reduced = c.in_ok-found.ensures.unmet (c.in_ok-certified.ensures.complete complete) first there i words at none in
     let core = core_met code k (omega arith) c.in_ok-worlds.ensures.reached words n schedule met in
     let no : true ≡ false = sym core.2 ∙ unmet_all words first reduced schedule core.0 core.1 in
     absurd (cc)
