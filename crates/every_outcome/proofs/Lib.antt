@@ -10,4 +10,4 @@ pub mod Listing
 pub mod Trails
 pub mod Seen
 pub mod Moments
-pub mod Shortened
+pub mod Filtered

@@ -12,7 +12,7 @@ use Rattle.cell_registry.specs.declared.limits.Limits.{Limits}
 use Rattle.cell_registry.specs.declared.limits.RunError.{RunError}
 use Rattle.cell_registry.specs.declared.limits.RunError.TheVariants as run
 use Rattle.scheduled_core.specs.Core.{World, core}
-use Rattle.every_outcome.proofs.Shortened.{filter_whole}
+use Rattle.every_outcome.proofs.Filtered.{filter_whole}
 use Rattle.every_outcome.specs.declared.outcomes.OutcomeAnswer.{OutcomeAnswer}
 use Rattle.every_outcome.specs.declared.outcomes.OutcomeExploration.{OutcomeExploration}
 use Rattle.every_outcome.specs.Outcomes.{IsCovered, IsListed, IsReached, counted}

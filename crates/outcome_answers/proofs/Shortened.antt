@@ -16,7 +16,7 @@ use Rattle.world_search.specs.Answers.{IsAtBound}
 use Rattle.every_outcome.specs.declared.outcomes.OutcomeAnswer.{OutcomeAnswer}
 use Rattle.every_outcome.specs.declared.outcomes.OutcomeExploration.{OutcomeExploration}
 use Rattle.every_outcome.specs.Outcomes.{IsCovered, IsListed, IsReached, ListOnce, counted, outcomes}
-use Rattle.every_outcome.proofs.Shortened.{filter_whole}
+use Rattle.every_outcome.proofs.Filtered.{filter_whole}
 use Rattle.every_outcome.proofs.Told.{all_at}
 use Rattle.outcome_answers.specs.OutcomesFound.{IsOutcomesOf, IsPastEntries}
 
