@@ -1,18 +1,17 @@
 -- A schedule of the core that leads to a world that meets a claim leads to a view that meets it, in worlds without marks.
-use Rattle.std.proofs.Common.{◌≡◌, ◌⊎◌, inl, inr, ◌<◌, ◌&&◌, ℕ, zero, suc, true, List, [], ◌∷◌, map, option_map, Option, Some, None, Result, Ok, Err, refl, sym, ap, ◌∙◌, subst}
+use Rattle.std.proofs.Common.{◌≡◌, ◌⊎◌, inl, inr, ◌<◌, ℕ, true, List, [], ◌∷◌, option_map, Option, Some, None, Result, Ok, Err, refl, sym, ap, ◌∙◌, subst}
 use Rattle.std.specs.List.{fold, slice_get}
 use Rattle.derived_ops.specs.Tree.{Tree}
-use Rattle.fiber_frames.specs.Fiber.{Fiber, ask_of, begins}
+use Rattle.fiber_frames.specs.Fiber.{Fiber, begins}
 use Rattle.fiber_frames.specs.Reached.{Reached}
 use Rattle.fiber_frames.specs.Unmarked.{unmarked}
 use Rattle.fiber_frames.proofs.Unmarking.{ask_unmarked}
-use Rattle.cell_registry.specs.Cells.{Cells}
 use Rattle.cell_registry.specs.declared.limits.Limits.{Limits}
 use Rattle.cell_registry.specs.declared.limits.RunError.{RunError}
 use Rattle.scheduled_core.specs.Core.{World, core, entered, first_world, wish_of}
 use Rattle.world_search.specs.Systems.{run}
 use Rattle.every_schedule.specs.declared.claims.ClaimWord.{ClaimWord}
-use Rattle.every_schedule.specs.Claims.{Compares, Meets, View, WasSet, are_seen, first_view, has, holds, is_met, noted, seeing, stored_by, stored_in, viewed}
+use Rattle.every_schedule.specs.Claims.{Meets, View, WasSet, are_seen, first_view, has, holds, is_met, noted, seeing, stored_by, stored_in, viewed}
 use Rattle.every_schedule.proofs.OwnKept.{and_true}
 use Rattle.every_schedule.proofs.Seeing.{noted_has, noted_keeps, refs_seen}
 use Rattle.every_schedule.proofs.SeenLeaps.{holds_refs}

@@ -1,10 +1,9 @@
 -- A search for claims in worlds without marks: own moves that set or change no ref are free, also with the list of the refs that were set, and they change
 -- nothing that claims compare.
-use Rattle.std.proofs.Common.{◌≡◌, ◌≢◌, ℕ, ◌&&◌, Bool, true, false, List, None, Option, Result, Ok, Err, refl, sym, ap, ap₂, ◌∙◌}
+use Rattle.std.proofs.Common.{◌≡◌, ◌≢◌, ℕ, ◌&&◌, Bool, false, List, None, Option, Result, Ok, Err, sym, ap, ap₂, ◌∙◌}
 use Rattle.std.specs.List.{slice_get}
 use Rattle.fiber_frames.specs.Fiber.{Fiber}
 use Rattle.cell_registry.specs.declared.limits.RunError.{RunError}
-use Rattle.scheduled_core.specs.Core.{World}
 use Rattle.world_search.specs.Free.{AreFree, Commutes, Leads, Leaps}
 use Rattle.world_search.specs.Free.Leads.{Here, On}
 use Rattle.world_search.specs.Systems.{run}
@@ -12,9 +11,9 @@ use Rattle.world_search.proofs.Views.{unmet_up}
 use Rattle.every_schedule.specs.declared.claims.ClaimWord.{ClaimWord}
 use Rattle.every_schedule.specs.Claims.{View, are_seen, is_met, noted, seeing, stored_by, viewed}
 use Rattle.every_schedule.proofs.SeenLeaps.{holds_refs, no_store, seeing_is}
-use Rattle.every_outcome.specs.Places.{Place, stepped, unmarked_place}
+use Rattle.every_outcome.specs.Places.{Place, stepped}
 use Rattle.every_outcome.specs.Private.Reduced.{leapt}
-use Rattle.every_outcome.proofs.Commuting.{IsFree, refs_after, same_after, step_goes_to}
+use Rattle.every_outcome.proofs.Commuting.{refs_after, same_after, step_goes_to}
 use Rattle.every_outcome.proofs.Leaps.{MayFree, leaps, may_are_free}
 
 -- an own move that sets and changes no ref
@@ -67,7 +66,8 @@ led_views seen a b (Here x y same) = Here _ _ (ap (λ (p : Place). let v : View 
 led_views seen a b (On x f y z h e on) =
     On _ f (record { place = y; seen = seen }) _ h (free_step (record { place = x; seen = seen }) f h ∙ ap (seeing seen) e) (led_views seen y z on)
 
-leaps_seeing : (seen : List ℕ) (y z : Result Place RunError) → Leaps stepped (MayFree false) y z → Leaps (viewed stepped) IsStill (seeing seen y) (seeing seen z)
+leaps_seeing : (seen : List ℕ) (y z : Result Place RunError) → Leaps stepped (MayFree false) y z →
+    Leaps (viewed stepped) IsStill (seeing seen y) (seeing seen z)
 leaps_seeing seen (Ok x) z h =
     (record { place = h.0; seen = seen }, led_views seen x h.0 h.1, ap (seeing seen) h.2)
 leaps_seeing seen (Err d) z h = ap (seeing seen) h

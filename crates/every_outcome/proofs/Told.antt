@@ -1,5 +1,6 @@
 -- What a search promises of its answers holds of the answers that are listed.
-use Rattle.std.proofs.Common.{true, ◌≡◌, ◌≢◌, inl, inr, ℕ, ◌+◌, ◌<◌, List, [], ◌∷◌, ◌++◌, length, map, refl, Option, Result, Ok, Err, sym, ap, ◌∙◌, subst, arith, get_or}
+use Rattle.std.proofs.Common.{true, ◌≡◌, ◌≢◌, inl, inr, ℕ, ◌+◌, ◌<◌, List, [], ◌∷◌, ◌++◌, length, map}
+use Rattle.std.proofs.Common.{refl, Option, Result, Ok, Err, sym, ap, ◌∙◌, subst, arith, get_or}
 use Rattle.std.specs.Prelude.{Some}
 use Rattle.std.specs.List.{All, fold, slice_get}
 use Rattle.std.proofs.lemmas.Option.{get_or_from_slice_get, same_Some, slice_get-get_or, slice_get_cases, slice_get_within}
@@ -31,7 +32,6 @@ use Rattle.every_outcome.specs.Private.Telling.{AreTold, IsEnd, IsTold, IsWithin
 use Rattle.every_outcome.proofs.Stepping.{outcomes_stay}
 use Rattle.every_outcome.proofs.Running.{Fully, Lawful, Led, bare_place, core_fully, core_lawful, core_led, fully, led}
 use Rattle.every_outcome.proofs.Cells.{some_bound}
-use Rattle.every_outcome.proofs.Commuting.{IsFree, own_are_free}
 use Rattle.every_outcome.proofs.Growing.{outcomes_grow, size}
 use Rattle.every_outcome.proofs.Leaps.{MayFree, leaps, may_are_free}
 
@@ -168,12 +168,14 @@ module _ (kept : Kept) (start : Place) (found : List Found) (answers : List Outc
 every_entry : (kept : Kept) (start : Place) (found : List Found) →
     ((t : List ℕ) → search.IsCovered (leapt true) outcomes_at kept.places kept.faults found (systems.run (leapt true) (Ok start) t)) →
     (s : List ℕ) → search.IsCovered stepped outcomes_at kept.places kept.faults found (systems.run stepped (Ok start) s)
-every_entry kept start found = covers stepped (MayFree true) (may_are_free true) (leapt true) (leaps true) outcomes_at size outcomes_grow kept.places kept.faults found start
+every_entry kept start found =
+    covers stepped (MayFree true) (may_are_free true) (leapt true) (leaps true) outcomes_at size outcomes_grow kept.places kept.faults found start
 
 -- the schedule of an answer, entry by entry
 each_entry : (kept : Kept) (start : Place) (s t : List ℕ) (l : Landing) → systems.run stepped (Ok start) s ≡ systems.run (leapt true) (Ok start) t →
     search.LeadsTo (leapt true) outcomes_at kept.places kept.faults start t l → search.LeadsTo stepped outcomes_at kept.places kept.faults start s l
-each_entry kept start s t l = leads_up stepped (MayFree true) (may_are_free true) (leapt true) (leaps true) outcomes_at size outcomes_grow kept.places kept.faults start s t l
+each_entry kept start s t l =
+    leads_up stepped (MayFree true) (may_are_free true) (leapt true) (leaps true) outcomes_at size outcomes_grow kept.places kept.faults start s t l
 
 module _ (kept : Kept) (code : Tree) (k : Limits) (found : List Found) (answers : List OutcomeAnswer)
     (told : AreTold kept (first_place code k) found answers) where

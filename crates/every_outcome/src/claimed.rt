@@ -23,8 +23,8 @@ use world_search::{Bounds, Claimed, Met, Watcher};
 /// does. Worlds count as one as in [`explore_outcomes`](crate::explore_outcomes), so a loop with masks and brackets in
 /// it leads back to a known world.
 ///
-/// Each claim is checked in each world that a schedule leads to. If the search is complete, no schedule leads, under any
-/// count of changes, to a world that meets any other of the claims. The claims that it returns are met in any case,
+/// Each claim is checked in each world that a schedule leads to. If the search is complete, no schedule leads, under
+/// any count of changes, to a world that meets any other of the claims. The claims that it returns are met in any case,
 /// under the count of the limits.
 ///
 /// The search makes own moves at once, but none that sets or changes a ref: the values of the refs in each world that a

@@ -1,5 +1,6 @@
 //! Searches every schedule for worlds that meet claims.
-ghost use Rattle.std.specs.Prelude.{◌≡◌, ◌++◌, ◌<◌, ◌≤◌, ℕ, List, [], ◌∷◌, max, take, IfErr, IfOk, OnOk, Some, true, false};
+ghost use Rattle.std.specs.Prelude.{◌≡◌, ◌++◌, ◌<◌, ◌≤◌, ℕ, List, [], ◌∷◌, max, take, true, false};
+ghost use Rattle.std.specs.Prelude.{IfErr, IfOk, OnOk, Some};
 ghost use Rattle.std.specs.List.{All, slice_get};
 ghost use Rattle.derived_ops.specs.Expansion.{code_of};
 ghost use Rattle.derived_ops.specs.Reading.{source_of};

@@ -137,7 +137,8 @@ fn is_last(found: &Claimed, wanted: usize, worlds: usize) -> bool {
     found.complete || found.halted || found.met.len() >= wanted || found.worlds < worlds
 }
 
-// Searches for worlds that meet these conditions, with at most this number of worlds, which keep no marks if they needn't.
+// Searches for worlds that meet these conditions, with at most this number of worlds. These keep no marks if they
+// needn't.
 fn search_with<V: Watcher>(
     alloc: Global,
     prepared: &Prepared,

@@ -12,8 +12,8 @@ use code_sources::StartRole;
 use model_claims::{Claim, Who, Word};
 use model_terms::Probe;
 
-/// Whether a search whose claims aren't about marks leaves the marks out: the term has a loop without end, else a search
-/// with marks is several times as fast; and no schedule within the bound on entries can use up a count.
+/// Whether a search whose claims aren't about marks leaves the marks out: the term has a loop without end, else a
+/// search with marks is several times as fast; and no schedule within the bound on entries can use up a count.
 pub(crate) fn may_leave_marks(prepared: &Prepared, plan: Plan) -> bool
     ensures { result ≡ true → plan.entries ≤ plan.limits.count }
 {

@@ -25,7 +25,8 @@ loop-done-preserved c =
     let place : m ≡ c.few_born-born.result - (c.loop-done.done + 1) = omega arith in
     let left : c.few_born-born.result - c.loop-done.done ≡ suc m = omega arith in
     record {
-      goes = known.goes ∙ swept_next c.args.stores (c.few_born-born.result - c.loop-done.done) m now next left told.goes ∙ ap (λ i. swept c.args.stores i next) place;
+      goes = known.goes ∙ swept_next c.args.stores (c.few_born-born.result - c.loop-done.done) m now next left told.goes ∙
+          ap (λ i. swept c.args.stores i next) place;
       stays = λ none. let both = c.either-moved.ensures none in told.stays both.1 ∙ known.stays both.0;
       fits = told.fits;
       trail = trail_more c.args.trail.now.items c.loop-done.trail.items c.push_fiber.new.trail.items (unmarked_place c.args.world.now) now
@@ -48,5 +49,6 @@ returns-clause-stays c = λ still.
     let now = unmarked_place c.loop-done.world in
     let none : c.few_born-born.result - c.loop-done.done ≡ 0 = omega arith in
     let many : length first.world.fibers ≡ c.few_born-born.result = length-map c.args.world.now.world.fibers unmarked ∙ sym c.few_born-born.ensures.born in
-    let goes : pushed_once c.args.stores first ≡ now = ap (λ i. swept c.args.stores i first) many ∙ known.goes ∙ ap (λ i. swept c.args.stores i now) none ∙ swept_none c.args.stores now in
+    let goes : pushed_once c.args.stores first ≡ now =
+    ap (λ i. swept c.args.stores i first) many ∙ known.goes ∙ ap (λ i. swept c.args.stores i now) none ∙ swept_none c.args.stores now in
     subst (λ (x : Place). pushed_once c.args.stores x ≡ now) (sym (known.stays still)) goes

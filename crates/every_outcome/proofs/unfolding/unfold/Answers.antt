@@ -47,7 +47,8 @@ returns-in-Err-clause-entries c =
     let f = get_or c.args.schedule.now i 0 in
     let here = unmarked_place c.loop-fiber.world in
     let fault = c.in-Err.fault in
-    let stops = refused_with fault run.NoMemory ((leapt c.args.stores here f ≡ Err fault) × IsTrail c.loop-fiber.trail.items c.leap.new.trail.items here (Err fault))
+    let stops = refused_with fault run.NoMemory
+    ((leapt c.args.stores here f ≡ Err fault) × IsTrail c.loop-fiber.trail.items c.leap.new.trail.items here (Err fault))
     (c.is_memory.ensures c.if-is_memory.false) c.in-Err.ensures.stops in
     let led : search.run (leapt c.args.stores) (Ok first) c.args.schedule.now ≡ Err fault =
     sym (fold_stuck (search.entered (leapt c.args.stores)) (Err fault) (λ g. refl) (Ok first) c.args.schedule.now i 0 c.loop-fiber-test.true

@@ -1,10 +1,9 @@
-use Rattle.std.proofs.Common.{◌≡◌, ◌≤◌, ◌++◌, List, length, take, drop, sym, ap, ◌∙◌, subst, arith}
+use Rattle.std.proofs.Common.{◌≤◌, ◌++◌, List, length, take, drop, sym, ap, ◌∙◌, subst, arith}
 use Rattle.std.specs.List.{All}
 use Rattle.std.proofs.lemmas.List.{take_all, take-append-drop}
 use Rattle.derived_ops.specs.Expansion.{code_of}
 use Rattle.derived_ops.specs.Reading.{source_of}
 use Rattle.world_search.specs.declared.claims.Met.{Met}
-use Rattle.world_search.specs.Lists.{IsMore}
 use Rattle.world_search.proofs.Lists.{more_same}
 use Rattle.every_schedule.specs.Claims.{IsMetIn}
 use Rattle.every_schedule.proofs.claimed.certify.Goals as goal

@@ -1,4 +1,4 @@
-use Rattle.std.proofs.Common.{◌≡◌, get_or, subst, ap, sym, length, ◌≤◌, ◌∙◌, List, take, arith}
+use Rattle.std.proofs.Common.{subst, sym, length, ◌≤◌, ◌∙◌, List, arith}
 use Rattle.std.proofs.lemmas.List.{take_all}
 use Rattle.std.specs.List.{All}
 use Rattle.std.proofs.lemmas.List.Elements.{All-more}
