@@ -7,6 +7,9 @@
 //! influence. The crate promises that a complete search lists the outcomes of each settled world under every count of
 //! changes, and that the schedule of each answer leads to it.
 //!
+//! A search for claims checks claims on refs in each of these worlds. There no own move that sets or changes a ref is
+//! made at once. If the search is complete, no schedule leads to a world that meets a claim which it doesn't return.
+//!
 //! This explores a loop that enters a mask in each turn. Its one answer has no outcome, since fiber 0 never ends:
 //!
 //! ```
