@@ -162,7 +162,7 @@ module _ (w : World) (f : ℕ) (g : Fiber) (h : Lawful w) (at : slice_get w.fibe
   }
 
 -- a property of the world that an entry leads to, if it leads to one
-abbrev IfWorld : (World → Type 0) → Result World RunError → Type 0
+abbrev pub IfWorld : (World → Type 0) → Result World RunError → Type 0
 IfWorld P (Ok v) = P v
 IfWorld P (Err e) = Unit {0}
 
@@ -216,7 +216,7 @@ module _ (k : Limits) (n : ℕ) (some : 0 < k.count) where
   fault_stays e [] = refl
   fault_stays e (f ∷ s) = fault_stays e s
 
-  core_stays : (e : RunError) (s : List ℕ) → fold (entered (counted k n)) (Err e) s ≡ Err e
+  pub core_stays : (e : RunError) (s : List ℕ) → fold (entered (counted k n)) (Err e) s ≡ Err e
   core_stays e [] = refl
   core_stays e (f ∷ s) = core_stays e s
 
@@ -291,7 +291,7 @@ module _ (k : Limits) (n : ℕ) (some : 0 < k.count) where
       (same_fully w f (entered (counted k n) (Ok w) f) (stepped (bare_place w) f) (omega arith) (step_same k n some w f (λ g e. h.reached f g e)))
 
 -- ---- the first world
-first_lawful : (code : Tree) (k : Limits) → Reached (begins 0 code) → Lawful (first_world code k)
+pub first_lawful : (code : Tree) (k : Limits) → Reached (begins 0 code) → Lawful (first_world code k)
 first_lawful code k h = record {
   reached = λ f g e. let one = one_alone (begins 0 code) g f e in subst Reached one.1 h;
   own = λ f g e. let one = one_alone (begins 0 code) g f e in ap (λ (y : Fiber). y.number) (sym one.1) ∙ sym one.0;

@@ -1,5 +1,6 @@
 -- What a search promises of its answers holds of the answers that are listed.
-use Rattle.std.proofs.Common.{◌≡◌, ◌≢◌, inl, inr, ℕ, ◌+◌, ◌<◌, List, [], ◌∷◌, ◌++◌, length, map, refl, Option, Result, Ok, Err, sym, ap, ◌∙◌, subst, arith, get_or}
+use Rattle.std.proofs.Common.{true, ◌≡◌, ◌≢◌, inl, inr, ℕ, ◌+◌, ◌<◌, List, [], ◌∷◌, ◌++◌, length, map}
+use Rattle.std.proofs.Common.{refl, Option, Result, Ok, Err, sym, ap, ◌∙◌, subst, arith, get_or}
 use Rattle.std.specs.Prelude.{Some}
 use Rattle.std.specs.List.{All, fold, slice_get}
 use Rattle.std.proofs.lemmas.Option.{get_or_from_slice_get, same_Some, slice_get-get_or, slice_get_cases, slice_get_within}
@@ -31,9 +32,8 @@ use Rattle.every_outcome.specs.Private.Telling.{AreTold, IsEnd, IsTold, IsWithin
 use Rattle.every_outcome.proofs.Stepping.{outcomes_stay}
 use Rattle.every_outcome.proofs.Running.{Fully, Lawful, Led, bare_place, core_fully, core_lawful, core_led, fully, led}
 use Rattle.every_outcome.proofs.Cells.{some_bound}
-use Rattle.every_outcome.proofs.Commuting.{IsFree, own_are_free}
 use Rattle.every_outcome.proofs.Growing.{outcomes_grow, size}
-use Rattle.every_outcome.proofs.Leaps.{leaps}
+use Rattle.every_outcome.proofs.Leaps.{MayFree, leaps, may_are_free}
 
 pub all_at : {A : Type 0} (P : A → Type 0) (xs : List A) (i : ℕ) (x : A) → slice_get xs i ≡ Some x → All P xs → P x
 all_at P xs i x e h = subst P (get_or_from_slice_get xs i x x e) (All-get_or P xs i x (slice_get_within xs i x e) h)
@@ -48,14 +48,14 @@ at_within xs i h = elim ((slice_get_cases xs i).1) [
 ]
 
 -- the end of a right answer of a search is a world or fault of the store
-within : (kept : Kept) (first : Place) (s : List ℕ) (l : Landing) → search.LeadsTo leapt outcomes_at kept.places kept.faults first s l → IsWithin kept l
+within : (kept : Kept) (first : Place) (s : List ℕ) (l : Landing) → search.LeadsTo (leapt true) outcomes_at kept.places kept.faults first s l → IsWithin kept l
 within kept first s (to.World j) h = slice_get_within kept.places j h.0 h.1
 within kept first s (to.Fault j) h = slice_get_within kept.faults j h.0 h.1
 
-pub all_within : (kept : Kept) (first : Place) (found : List Found) → All (search.IsRight leapt outcomes_at kept.places kept.faults first) found →
+pub all_within : (kept : Kept) (first : Place) (found : List Found) → All (search.IsRight (leapt true) outcomes_at kept.places kept.faults first) found →
     All (λ a. IsWithin kept a.end) found
 all_within kept first found right = all_from (λ a. IsWithin kept a.end) found (λ i f e.
-    within kept first f.schedule.items f.end (all_at (search.IsRight leapt outcomes_at kept.places kept.faults first) found i f e right))
+    within kept first f.schedule.items f.end (all_at (search.IsRight (leapt true) outcomes_at kept.places kept.faults first) found i f e right))
 
 -- ---- ends that are apart are listed differently
 same_ok : (r s : List (Option Outcome)) → (let x : Result (List (Option Outcome)) RunError = Ok r in x) ≡ Ok s → r ≡ s
@@ -166,14 +166,16 @@ module _ (kept : Kept) (start : Place) (found : List Found) (answers : List Outc
 
 -- answers that cover the search cover all single entries
 every_entry : (kept : Kept) (start : Place) (found : List Found) →
-    ((t : List ℕ) → search.IsCovered leapt outcomes_at kept.places kept.faults found (systems.run leapt (Ok start) t)) →
+    ((t : List ℕ) → search.IsCovered (leapt true) outcomes_at kept.places kept.faults found (systems.run (leapt true) (Ok start) t)) →
     (s : List ℕ) → search.IsCovered stepped outcomes_at kept.places kept.faults found (systems.run stepped (Ok start) s)
-every_entry kept start found = covers stepped IsFree own_are_free leapt leaps outcomes_at size outcomes_grow kept.places kept.faults found start
+every_entry kept start found =
+    covers stepped (MayFree true) (may_are_free true) (leapt true) (leaps true) outcomes_at size outcomes_grow kept.places kept.faults found start
 
 -- the schedule of an answer, entry by entry
-each_entry : (kept : Kept) (start : Place) (s t : List ℕ) (l : Landing) → systems.run stepped (Ok start) s ≡ systems.run leapt (Ok start) t →
-    search.LeadsTo leapt outcomes_at kept.places kept.faults start t l → search.LeadsTo stepped outcomes_at kept.places kept.faults start s l
-each_entry kept start s t l = leads_up stepped IsFree own_are_free leapt leaps outcomes_at size outcomes_grow kept.places kept.faults start s t l
+each_entry : (kept : Kept) (start : Place) (s t : List ℕ) (l : Landing) → systems.run stepped (Ok start) s ≡ systems.run (leapt true) (Ok start) t →
+    search.LeadsTo (leapt true) outcomes_at kept.places kept.faults start t l → search.LeadsTo stepped outcomes_at kept.places kept.faults start s l
+each_entry kept start s t l =
+    leads_up stepped (MayFree true) (may_are_free true) (leapt true) (leaps true) outcomes_at size outcomes_grow kept.places kept.faults start s t l
 
 module _ (kept : Kept) (code : Tree) (k : Limits) (found : List Found) (answers : List OutcomeAnswer)
     (told : AreTold kept (first_place code k) found answers) where
@@ -188,7 +190,7 @@ module _ (kept : Kept) (code : Tree) (k : Limits) (found : List Found) (answers 
     Covers y = search.IsCovered stepped outcomes_at kept.places kept.faults found y
 
     abbrev AllCovered : Type 0
-    AllCovered = (t : List ℕ) → search.IsCovered leapt outcomes_at kept.places kept.faults found (systems.run leapt (Ok start) t)
+    AllCovered = (t : List ℕ) → search.IsCovered (leapt true) outcomes_at kept.places kept.faults found (systems.run (leapt true) (Ok start) t)
 
     -- outcomes that stay are listed
     listed_at : (n : ℕ) (w : World) (y : Result Place RunError) → y ≡ Ok (bare_place k n some w) → Covers y →
@@ -267,12 +269,12 @@ module _ (kept : Kept) (code : Tree) (k : Limits) (found : List Found) (answers 
     stays_at n s more l end h e (Err (run.Lost g)) f = tt
     stays_at n s more l end h e (Err run.NoWorker) f = tt
 
-    pub reached : All (search.IsRight leapt outcomes_at kept.places kept.faults start) found → All (IsReached code k) answers
+    pub reached : All (search.IsRight (leapt true) outcomes_at kept.places kept.faults start) found → All (IsReached code k) answers
     reached right = all_from (IsReached code k) answers (λ i a e.
         let it = found_at kept start found answers told i a e in
         let s = a.schedule in
         let h = each_entry kept start s it.0.schedule.items it.0.end it.2.schedule.leads
-        (all_at (search.IsRight leapt outcomes_at kept.places kept.faults start) found i it.0 it.1 right) in
+        (all_at (search.IsRight (leapt true) outcomes_at kept.places kept.faults start) found i it.0 it.1 right) in
         record {
           leads = λ n l. leads_at n s it.0.end a.end h it.2.ends (core code (counted k n) s) (core_fully code k some first n s l);
           stays = λ n more. stays_at n s more it.0.end a.end h it.2.ends (core code (counted k n) (s ++ more)) (core_led code k some first n (s ++ more));

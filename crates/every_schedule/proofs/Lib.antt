@@ -28,3 +28,4 @@ pub mod SeenRows
 pub mod SeenLeaps
 pub mod RefValues
 pub mod Prefixes
+pub mod Certified

@@ -11,7 +11,7 @@ returns-then-from-few_born-clause-goes c =
     let w = c.args.world.now in
     let born = c.few_born.ensures.born in
     let past : length w.world.fibers ≤ c.args.fiber = omega arith in
-    leapt_rests w.limits w.world c.args.fiber past
+    leapt_rests c.args.stores w.limits w.world c.args.fiber past
 
 pub returns-then-from-few_born-clause-trail : goal.returns-then-from-few_born-clause-trail
 returns-then-from-few_born-clause-trail c = trail_none c.args.trail.now.items (unmarked_place c.args.world.now)
@@ -22,7 +22,8 @@ returns-clause-goes c =
     let born = c.few_born.ensures.born in
     let low : c.args.fiber < length w.world.fibers = omega arith in
     let g = get_low w.world.fibers c.args.fiber low in
-    leapt_born w.limits w.world c.args.fiber g.0 g.1 ∙ ap behind c.in_ok-enter.ensures.goes ∙ ap Ok (sym c.in_ok-push.ensures.goes)
+    leapt_born c.args.stores w.limits w.world c.args.fiber g.0 g.1 ∙ ap (behind c.args.stores) c.in_ok-enter.ensures.goes ∙
+    ap Ok (sym c.in_ok-push.ensures.goes)
 
 pub returns-clause-trail : goal.returns-clause-trail
 returns-clause-trail c =

@@ -11,6 +11,6 @@ use Rattle.every_outcome.proofs.unfolding.unfold.Given as goal
 abbrev pub invariant-loop-fiber : goal.invariant-loop-fiber
 invariant-loop-fiber l = record {
   fits : AllFit l.world.world;
-  goes : run leapt (Ok (first_place (code_of (source_of l.program)) l.fn.limits)) (take l.fiber-index l.schedule) ≡ Ok (unmarked_place l.world);
+  goes : run (leapt l.stores) (Ok (first_place (code_of (source_of l.program)) l.fn.limits)) (take l.fiber-index l.schedule) ≡ Ok (unmarked_place l.world);
   trail : IsTrail [] l.trail.items (first_place (code_of (source_of l.program)) l.fn.limits) (Ok (unmarked_place l.world));
 }

@@ -1,6 +1,6 @@
 use Rattle.std.proofs.Common.{leb, length, rules}
 use Rattle.std.proofs.lemmas.Fn.{filter_same}
-use Rattle.model_runs.proofs.outcomes.shortened.Goals as goal
+use Rattle.every_outcome.proofs.outcomes.shortened.Goals as goal
 
 pub returns-clause-answers : goal.returns-clause-answers
 returns-clause-answers c =
