@@ -19,14 +19,16 @@ use Rattle.scheduled_core.proofs.Lists.{slice_get-set_other}
 use Rattle.world_search.specs.Free.{AreFree, Commutes, Leads, Leaps}
 use Rattle.world_search.specs.Free.Leads.{Here, On}
 use Rattle.world_search.specs.Systems.{run}
+use Rattle.world_search.proofs.Free.{early}
 use Rattle.world_search.proofs.Views.{unmet_up}
 use Rattle.every_schedule.specs.declared.claims.ClaimWord.{ClaimWord}
 use Rattle.every_schedule.specs.declared.claims.ClaimWord.TheVariants.{Compare, Not, And, Or}
 use Rattle.every_schedule.specs.Claims.{View, are_seen, holds, is_met, last_of, noted, seeing, stored_by, stored_in, viewed, worded}
 use Rattle.every_schedule.specs.Places.{Place, placed, stepped}
-use Rattle.every_schedule.specs.Reduced.{MayOwn, has_own, hundred_still, is_own, is_own_call, leapt, may_be}
+use Rattle.every_schedule.specs.Reduced.{IsMade, MayOwn, has_own, hundred_still, is_own, is_own_call, leapt, may_be}
 use Rattle.every_schedule.proofs.Bare.{enters}
 use Rattle.every_schedule.proofs.Bare.Enters.{Stays, Goes}
+use Rattle.every_schedule.proofs.Births.{no_births}
 use Rattle.every_schedule.proofs.Leaps.{leaps}
 use Rattle.every_schedule.proofs.Still.{may_are_free, other_stays}
 
@@ -190,13 +192,14 @@ free_views = record {
       commute_by v f g x h e apart (stepped v.place g) ((may_are_free false).commutes v.place f x.place h is.0 g apart);
 }
 
-led_views : (seen : List ℕ) (a b : Place) → Leads stepped (MayOwn false) a b →
+led_views : (seen : List ℕ) (a b : Place) → Leads stepped (IsMade hundred_still) a b →
     Leads (viewed stepped) IsFree (record { place = a; seen = seen }) (record { place = b; seen = seen })
 led_views seen a b (Here x y same) = Here _ _ (ap (λ (p : Place). let v : View = record { place = p; seen = seen } in v) same)
 led_views seen a b (On x f y z h e on) =
-    On _ f (record { place = y; seen = seen }) _ h (free_step (record { place = x; seen = seen }) f h ∙ ap (seeing seen) e) (led_views seen y z on)
+    let own = no_births hundred_still refl x f h in
+    On _ f (record { place = y; seen = seen }) _ own (free_step (record { place = x; seen = seen }) f own ∙ ap (seeing seen) e) (led_views seen y z on)
 
-leaps_seeing : (seen : List ℕ) (y z : Result Place RunError) → Leaps stepped (MayOwn false) y z → Leaps (viewed stepped) IsFree (seeing seen y) (seeing seen z)
+leaps_seeing : (seen : List ℕ) (y z : Result Place RunError) → Leaps stepped (IsMade hundred_still) y z → Leaps (viewed stepped) IsFree (seeing seen y) (seeing seen z)
 leaps_seeing seen (Ok x) z h =
     (record { place = h.0; seen = seen }, led_views seen x h.0 h.1, ap (seeing seen) h.2)
 leaps_seeing seen (Err d) z h = ap (seeing seen) h
@@ -217,4 +220,4 @@ pub unmet_all : (words : List ClaimWord) (first : View) →
     ((t : List ℕ) (w : View) → run (viewed (leapt hundred_still)) (Ok first) t ≡ Ok w → is_met w words ≡ false) →
     (s : List ℕ) (w : View) → run (viewed stepped) (Ok first) s ≡ Ok w → is_met w words ≡ false
 unmet_all words first none s w led =
-    unmet_up (viewed stepped) IsFree free_views (viewed (leapt hundred_still)) leaps_views (λ v. is_met v words) (keeps_claims words) first none s w led
+    unmet_up (viewed stepped) IsFree (early (viewed stepped) IsFree free_views) (viewed (leapt hundred_still)) leaps_views (λ v. is_met v words) (keeps_claims words) first none s w led
