@@ -1,16 +1,15 @@
 -- A birth commutes with each move of another fiber that is born before it. So births can be made early.
-use Rattle.std.proofs.Common.{◌≡◌, ◌≢◌, ◌⊎◌, inl, inr, ℕ, zero, suc, Bool, true, false, ◌&&◌, List, [], ◌∷◌, ◌++◌, set, Some, None, Option, Result, Ok, Err, refl, sym, ap, ap₂, ◌∙◌, subst, arith, append_assoc, append-nil}
+use Rattle.std.proofs.Common.{◌≡◌, ◌≢◌, ◌⊎◌, inl, inr, ℕ, Bool, true, false, List, [], ◌∷◌, ◌++◌, set, Some, None, Option, Result, Ok, Err, refl, sym, ap, ◌∙◌, subst, arith, append_assoc, append-nil}
 use Rattle.std.specs.List.{slice_get}
 use Rattle.effect_term.specs.declared.reply.Reply.{Reply}
 use Rattle.effect_term.specs.declared.reply.Reply.TheVariants as reply
-use Rattle.derived_ops.specs.Naming.{A_deferred, A_fiber, A_ref, Place as Kind}
 use Rattle.fiber_frames.specs.declared.ask.Ask.{Ask}
 use Rattle.fiber_frames.specs.declared.ask.Ask.TheVariants as ask
 use Rattle.fiber_frames.specs.declared.uses.Use.{Use}
 use Rattle.fiber_frames.specs.declared.uses.Use.TheVariants.{MakesDeferreds, MakesRefs, Starts}
 use Rattle.fiber_frames.specs.Fiber.{Fiber, ask_of, move, silent_move}
 use Rattle.fiber_frames.specs.Rows.{number_in}
-use Rattle.fiber_frames.specs.Uses.{AskApart, NumberApart, used_place}
+use Rattle.fiber_frames.specs.Uses.{AskApart, NumberApart}
 use Rattle.cell_registry.specs.declared.limits.Limits.{Limits}
 use Rattle.cell_registry.specs.declared.limits.Band.TheVariants.{Deferreds, Fibers, Refs}
 use Rattle.cell_registry.specs.declared.limits.CellError.{CellError}
@@ -25,7 +24,7 @@ use Rattle.scheduled_core.proofs.Lists.{slice_get-set_other}
 use Rattle.scheduled_core.proofs.Standing.Lists.{get_early}
 use Rattle.world_search.specs.Free.{AreEarly, AreFree, Commutes}
 use Rattle.every_schedule.specs.declared.leaping.AtOnce.{AtOnce}
-use Rattle.every_schedule.specs.Places.{Place, bare, bared, entering, moves_at, placed, stepped, stepped_if, unnoted}
+use Rattle.every_schedule.specs.Places.{Place, bare, bared, entering, moves_at, placed, stepped, unnoted, wants}
 use Rattle.every_schedule.specs.Reduced.{IsBirth, IsMade, MayOwn, has_birth, is_birth, is_birth_call, keeps, others}
 use Rattle.every_schedule.proofs.Bare.{bare_step, entering_bare, goes_bare, idle_stays, moves_step}
 use Rattle.every_schedule.proofs.Commuting.{set_apart, set_early}
@@ -341,7 +340,7 @@ birth_bare p f h =
 
 -- a fiber whose next move is a birth has a next move
 birth_wants : (w : World) (f : ℕ) (g : Fiber) (x : Wish) → wish_of (ask_of g) ≡ x → is_birth w f x ≡ true → (wish_of (ask_of g) ≢ Nothing) × (moves_at (Some g) ≡ true)
-birth_wants w f g (Shared c) e birth = (λ none. let no : Shared c ≡ Nothing = sym e ∙ none in cc, ap Rattle.every_schedule.specs.Places.wants e)
+birth_wants w f g (Shared c) e birth = (λ none. let no : Shared c ≡ Nothing = sym e ∙ none in cc, ap wants e)
 birth_wants w f g Alone e birth = absurd (cc)
 birth_wants w f g Nothing e birth = absurd (cc)
 
@@ -375,12 +374,14 @@ module _ (p : Place) (f : ℕ) (h : IsBirth p f) (g : ℕ) (apart : g ≢ f) whe
   by_fiber (Some b) at moves =
       by_entry (entering p g) (at_fiber p.limits p.world f h.next g apart b at (slice_get p.world.fibers f) refl h.birth h.goes)
 
-  -- an entry that changes nothing need not commute: it can be that of the fiber that is started
-  by_moves : (t : Bool) → moves_at (slice_get p.world.fibers g) ≡ t → (stepped_if t p g ≡ Ok p) ⊎ Commutes stepped IsBirth f (bare h.next) g (stepped_if t p g)
-  by_moves true e = inr (by_fiber (slice_get p.world.fibers g) refl e)
-  by_moves false e = inl refl
+  -- the entry of a fiber without a next move need not commute: it can be that of the fiber that is started
+  by_moves : (t : Bool) → moves_at (slice_get p.world.fibers g) ≡ t →
+      (moves_at (slice_get p.world.fibers g) ≡ false) ⊎ Commutes stepped IsBirth f (bare h.next) g (stepped p g)
+  by_moves true e =
+      inr (subst (Commutes stepped IsBirth f (bare h.next) g) (sym (moves_step p g e)) (by_fiber (slice_get p.world.fibers g) refl e))
+  by_moves false e = inl e
 
-  early_at : (stepped p g ≡ Ok p) ⊎ Commutes stepped IsBirth f (bare h.next) g (stepped p g)
+  early_at : (moves_at (slice_get p.world.fibers g) ≡ false) ⊎ Commutes stepped IsBirth f (bare h.next) g (stepped p g)
   early_at = by_moves (moves_at (slice_get p.world.fibers g)) refl
 
 -- ---- moves made at once
@@ -397,16 +398,23 @@ made_goes : (n : AtOnce) (p : Place) (f : ℕ) → IsMade n p f → (x : Place) 
 made_goes n p f (inl own) = (may_are_free n.stores).goes p f own
 made_goes n p f (inr birth) = (bare birth.1.next, here p f birth.1)
 
-made_commutes : (n : AtOnce) (p : Place) (f : ℕ) (y : Place) → IsMade n p f → stepped p f ≡ Ok y → (g : ℕ) → g ≢ f →
-    (stepped p g ≡ Ok p) ⊎ Commutes stepped (IsMade n) f y g (stepped p g)
-made_commutes n p f y (inl own) is g apart = inr (from_own n f g y (stepped p g) ((may_are_free n.stores).commutes p f y own is g apart))
-made_commutes n p f y (inr birth) is g apart =
+pub made_pairs : (n : AtOnce) (p : Place) (f : ℕ) (y : Place) → IsMade n p f → stepped p f ≡ Ok y → (g : ℕ) → g ≢ f →
+    (moves_at (slice_get p.world.fibers g) ≡ false) ⊎ Commutes stepped (IsMade n) f y g (stepped p g)
+made_pairs n p f y (inl own) is g apart = inr (from_own n f g y (stepped p g) ((may_are_free n.stores).commutes p f y own is g apart))
+made_pairs n p f y (inr birth) is g apart =
     let led : Ok (bare birth.1.next) ≡ Ok y = sym (here p f birth.1) ∙ is in
     let same : bare birth.1.next ≡ y = cc in
     elim (early_at p f birth.1 g apart) [
-      | inl idle ↦ inl idle
+      | inl none ↦ inl none
       | inr pair ↦ inr (from_birth n f g y birth.0 (stepped p g) (subst (λ v. Commutes stepped IsBirth f v g (stepped p g)) same pair))
     ]
+
+made_commutes : (n : AtOnce) (p : Place) (f : ℕ) (y : Place) → IsMade n p f → stepped p f ≡ Ok y → (g : ℕ) → g ≢ f →
+    (stepped p g ≡ Ok p) ⊎ Commutes stepped (IsMade n) f y g (stepped p g)
+made_commutes n p f y h is g apart = elim (made_pairs n p f y h is g apart) [
+  | inl none ↦ inl (idle_stays p g none)
+  | inr pair ↦ inr pair
+]
 
 -- own moves and births can be made early
 pub made_early : (n : AtOnce) → AreEarly stepped (IsMade n)

@@ -196,9 +196,9 @@ hundred = record { most = 100; stores = true; births = true }
 abbrev pub hundred_own : AtOnce
 hundred_own = record { most = 100; stores = true; births = false }
 
--- up to 100 own moves of each fiber, none of which sets or changes a ref
+-- up to 100 own moves and births of each fiber, none of which sets or changes a ref
 abbrev pub hundred_still : AtOnce
-hundred_still = record { most = 100; stores = false; births = false }
+hundred_still = record { most = 100; stores = false; births = true }
 
 -- no own moves
 abbrev pub none_at_once : AtOnce

@@ -27,7 +27,7 @@ use world_search::{Claims, Entered, Landing, Worlds};
 pub(crate) const STILL: AtOnce = AtOnce {
     most: 100,
     stores: false,
-    births: false,
+    births: true,
 };
 
 /// All worlds and faults that were found. A world of the core can be kept several times, with different refs.

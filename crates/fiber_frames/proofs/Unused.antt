@@ -259,7 +259,7 @@ module _ (u : Use) (n : ℕ) where
 
   -- what makes nothing of a kind isn't a word that makes it
   made_apart : (v : Use) → of_use u v 1 ≡ 0 → u ≢ v
-  made_apart v z e = let one : 1 ≡ 0 = sym (of_same v 1) ∙ subst (λ w. of_use w v 1 ≡ 0) e z in absurd (cc)
+  made_apart v z e = let one : ◌≡◌ {A = ℕ} 1 0 = sym (of_same v 1) ∙ subst (λ w. of_use w v 1 ≡ 0) e z in absurd (omega (arith, one))
 
   module _ (i next : ℕ) (r : Reply) where
     -- a row that runs on so, and uses nothing
