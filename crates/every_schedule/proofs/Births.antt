@@ -70,32 +70,32 @@ module _ (s : Cells) (f g : ℕ) (d : Call) where
   birth_room k _ h = absurd h
 
 started_reply : (s : Cells) (f g : ℕ) (d : Call) → d ≢ Start → reply_of (after s f Start) g d ≡ reply_of s g d
-unfolding after, reply_of
+unfolding after reply_of
 started_reply s f g Start h = absurd (h refl)
 started_reply s f g _ h = refl
 
 ref_reply : (s : Cells) (f g : ℕ) (d : Call) → d ≢ NewRef → reply_of (after s f NewRef) g d ≡ reply_of s g d
-unfolding after, reply_of
+unfolding after reply_of
 ref_reply s f g NewRef h = absurd (h refl)
 ref_reply s f g _ h = refl
 
 deferred_reply : (s : Cells) (f g : ℕ) (d : Call) → d ≢ NewDeferred → reply_of (after s f NewDeferred) g d ≡ reply_of s g d
-unfolding after, reply_of
+unfolding after reply_of
 deferred_reply s f g NewDeferred h = absurd (h refl)
 deferred_reply s f g _ h = refl
 
 started_room : (k : Limits) (s : Cells) (f g : ℕ) (d : Call) → d ≢ Start → refusal k (after s f Start) g d ≡ refusal k s g d
-unfolding after, refusal
+unfolding after refusal
 started_room k s f g Start h = absurd (h refl)
 started_room k s f g _ h = refl
 
 ref_room : (k : Limits) (s : Cells) (f g : ℕ) (d : Call) → d ≢ NewRef → refusal k (after s f NewRef) g d ≡ refusal k s g d
-unfolding after, refusal
+unfolding after refusal
 ref_room k s f g NewRef h = absurd (h refl)
 ref_room k s f g _ h = refl
 
 deferred_room : (k : Limits) (s : Cells) (f g : ℕ) (d : Call) → d ≢ NewDeferred → refusal k (after s f NewDeferred) g d ≡ refusal k s g d
-unfolding after, refusal
+unfolding after refusal
 deferred_room k s f g NewDeferred h = absurd (h refl)
 deferred_room k s f g _ h = refl
 
