@@ -1,6 +1,6 @@
 -- The reduced exploration makes only own moves after each entry.
 use Rattle.std.proofs.Common.{◌≡◌, ◌≢◌, ◌⊎◌, inl, inr, ℕ, zero, suc, ◌<◌, ◌≤◌, Bool, true, false, ◌&&◌, ◌||◌, length, Some, None}
-use Rattle.std.proofs.Common.{Option, Result, Ok, Err, refl, sym, ap, ◌∙◌, subst}
+use Rattle.std.proofs.Common.{Option, Result, Ok, Err, refl, sym, ap, ap₂, ◌∙◌, subst}
 use Rattle.std.specs.List.{slice_get}
 use Rattle.std.proofs.lemmas.Option.{slice_get_past, same_Some}
 use Rattle.cell_registry.specs.declared.limits.RunError.{RunError}
@@ -55,6 +55,30 @@ made_as n w f e =
       | inr birth ↦ inr (two_true n.births (has_birth w f o) birth)
     ]
 
+-- which moves are made
+pub made_allowed : (n : AtOnce) (w : World) (f : ℕ) → is_own_at_once n.stores w f ≡ true → is_made n w f ≡ true
+made_allowed n w f own = ap (λ (t : Bool). t || (n.births && has_birth w f (slice_get w.fibers f))) own
+
+pub made_neither : (n : AtOnce) (w : World) (f : ℕ) → is_own_at_once n.stores w f ≡ false → n.births ≡ false → is_made n w f ≡ false
+made_neither n w f own none = ap₂ (λ (s t : Bool). s || (t && has_birth w f (slice_get w.fibers f))) own none
+
+pub made_birth : (n : AtOnce) (p q : Place) (f : ℕ) → q ≡ p → is_own_at_once n.stores p.world f ≡ false → n.births ≡ true →
+    is_made n p.world f ≡ has_birth q.world f (slice_get q.world.fibers f)
+made_birth n p q f same own births =
+    ap₂ (λ (s t : Bool). s || (t && has_birth p.world f (slice_get p.world.fibers f))) own births
+    ∙ ap (λ (x : Place). has_birth x.world f (slice_get x.world.fibers f)) (sym same)
+
+pub made_unborn : (n : AtOnce) (p : Place) (f : ℕ) → length p.world.fibers ≤ f → is_made n p.world f ≡ false
+made_unborn n p f past = by (slice_get p.world.fibers f) (slice_get_past p.world.fibers f past)
+  where
+    neither : (t : Bool) → false || (t && false) ≡ false
+    neither true = refl
+    neither false = refl
+
+    by : (o : Option Fiber) → o ≡ None → (has_own p.world f o && may_be n.stores o) || (n.births && has_birth p.world f o) ≡ false
+    by None e = neither n.births
+    by (Some g) e = absurd (cc)
+
 module _ (b : AtOnce) (p : Place) (f : ℕ) where
   pub fiber_none : is_made b p.world f ≡ false → after_own p (own_of b p f) ≡ p
   fiber_none e = ap (λ t. after_own p (if_own t f)) e
@@ -66,15 +90,7 @@ module _ (b : AtOnce) (p : Place) (f : ℕ) where
   fiber_refused d e stops = ap (λ t. after_own p (if_own t f)) e ∙ ap (or_stays p) stops
 
   pub fiber_unborn : length p.world.fibers ≤ f → after_own p (own_of b p f) ≡ p
-  fiber_unborn past = fiber_none (none_made p.world (slice_get p.world.fibers f) (slice_get_past p.world.fibers f past))
-    where
-      neither : (t : Bool) → false || (t && false) ≡ false
-      neither true = refl
-      neither false = refl
-
-      none_made : (w : World) (o : Option Fiber) → o ≡ None → (has_own w f o && may_be b.stores o) || (b.births && has_birth w f o) ≡ false
-      none_made w None e = neither b.births
-      none_made w (Some g) e = absurd (cc)
+  fiber_unborn past = fiber_none (made_unborn b p f past)
 
 -- a move that is made can be made early
 pub may_own : (b : AtOnce) (p : Place) (f : ℕ) (q : Place) → is_made b p.world f ≡ true → stepped p f ≡ Ok q → IsMade b p f

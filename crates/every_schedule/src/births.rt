@@ -3,7 +3,7 @@ ghost use Rattle.std.specs.Prelude.{◌≡◌, ◌<◌, length};
 ghost use Rattle.std.specs.List.{slice_get};
 ghost use Rattle.scheduled_core.specs.Fitting.{AllFit};
 ghost use Rattle.every_schedule.specs.Private.Standing.{IsSame, here};
-ghost use Rattle.every_schedule.specs.Reduced.{has_birth, keeps, others};
+ghost use Rattle.every_schedule.specs.Reduced.{has_birth, is_birth_call as is_so, keeps, others};
 
 use crate::current::Current;
 use crate::own_moves::spares;
@@ -19,10 +19,26 @@ pub(crate) fn is_birth(current: &mut Current, by: u16) -> bool
     ensures birth { result ≡ has_birth (here current.old).world by (slice_get (here current.old).world.fibers by) }
 {
     match current.wish(usize::from(by)) {
-        Wish::Shared(Call::Start) => is_alone(current, Use::Starts, by),
-        Wish::Shared(Call::NewRef) => is_alone(current, Use::MakesRefs, by),
-        Wish::Shared(Call::NewDeferred) => is_alone(current, Use::MakesDeferreds, by),
-        _ => false,
+        Wish::Shared(call) => is_birth_call(current, by, call),
+        Wish::Alone | Wish::Nothing => false,
+    }
+}
+
+// Whether this call of fiber `by` is a birth.
+fn is_birth_call(current: &mut Current, by: u16, call: Call) -> bool
+    requires { AllFit (here current.old).world }
+    ensures same { IsSame current.old current.new }
+    ensures birth { result ≡ is_so (here current.old).world by call }
+{
+    match call {
+        Call::Start => is_alone(current, Use::Starts, by),
+        Call::NewRef => is_alone(current, Use::MakesRefs, by),
+        Call::NewDeferred => is_alone(current, Use::MakesDeferreds, by),
+        Call::Look | Call::Mask | Call::Unmask | Call::Cut | Call::Finish(_) => false,
+        Call::Cancel(_) | Call::Join(_) | Call::Get(_) | Call::Set(_, _) | Call::Modify(_, _) => {
+            false
+        }
+        Call::Complete(_, _) | Call::Read(_) => false,
     }
 }
 

@@ -175,7 +175,13 @@ fn has_own_move(current: &mut Current, at_once: AtOnce, fiber: u16) -> bool
     if usize::from(fiber) >= few_born(&*current) {
         return false;
     }
-    is_allowed(&mut *current, at_once.stores, fiber) || at_once.births && is_birth(current, fiber)
+    if is_allowed(&mut *current, at_once.stores, fiber) {
+        return true;
+    }
+    if !at_once.births {
+        return false;
+    }
+    is_birth(current, fiber)
 }
 
 // Whether the next move of a fiber is an own move that is allowed at once.
