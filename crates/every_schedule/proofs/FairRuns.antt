@@ -17,7 +17,7 @@ use Rattle.every_schedule.specs.Places.{Place, bare, bared, first_place, moves_a
 use Rattle.every_schedule.specs.Reduced.{IsMade, hundred_own}
 use Rattle.every_schedule.proofs.Bare.{bare_step, idle_stays, moves_step}
 use Rattle.every_schedule.proofs.Placed.{core_run}
-use Rattle.every_schedule.proofs.Births.{own_free}
+use Rattle.every_schedule.proofs.EarlyMoves.{own_free}
 use Rattle.every_schedule.proofs.Unrest.{final_bare, final_noted}
 
 -- in this place no fiber can go on

@@ -6,7 +6,7 @@ use Rattle.every_schedule.specs.Places.{report_at, stepped}
 use Rattle.every_schedule.specs.declared.leaping.AtOnce.{AtOnce}
 use Rattle.every_schedule.specs.Reduced.{IsMade, leapt}
 use Rattle.every_schedule.proofs.Bare.{reports_grow}
-use Rattle.every_schedule.proofs.Births.{made_early}
+use Rattle.every_schedule.proofs.EarlyMoves.{made_early}
 use Rattle.every_schedule.proofs.Growing.{size}
 use Rattle.every_schedule.proofs.Leaps.{leaps}
 use Rattle.std.specs.Prelude.{Ok}

@@ -27,7 +27,7 @@ use Rattle.every_schedule.specs.Places.{Place, moves_at, placed, stepped, wants}
 use Rattle.every_schedule.specs.Reduced.{IsMade, has_birth, hundred_still, is_birth, is_birth_call, leapt, may_be}
 use Rattle.every_schedule.proofs.Bare.{enters, idle_stays}
 use Rattle.every_schedule.proofs.Bare.Enters.{Stays, Goes}
-use Rattle.every_schedule.proofs.Births.{made_early, made_pairs}
+use Rattle.every_schedule.proofs.EarlyMoves.{made_early, made_pairs}
 use Rattle.every_schedule.proofs.Leaps.{leaps}
 use Rattle.every_schedule.proofs.Still.{other_stays}
 

@@ -30,7 +30,7 @@ use Rattle.fair_ends.proofs.Ahead.{led_append, led_run}
 use Rattle.every_schedule.specs.Private.Trails.{AreMade, AreSorted, AreUnfolded, EndApart, EndsAlone, IsFirstOf, IsKeptIn}
 use Rattle.every_schedule.specs.Private.Trails.{IsLeapTrail, IsOwnTrail, IsTrail, IsUnfolded, IsUnfoldedOf, MakesAtOnce, rank_of}
 use Rattle.every_schedule.proofs.Bare.{reports_grow, unborn_stays}
-use Rattle.every_schedule.proofs.Births.{made_early}
+use Rattle.every_schedule.proofs.EarlyMoves.{made_early}
 use Rattle.every_schedule.proofs.Growing.{size}
 use Rattle.every_schedule.proofs.Leaps.{leaps, leapt_rests}
 use Rattle.every_schedule.proofs.Told.{all_at, all_from}
