@@ -1,4 +1,4 @@
-use Rattle.std.proofs.Common.{◌≡◌, sym, ap, ◌∙◌, subst}
+use Rattle.std.proofs.Common.{◌≡◌, inl, inr, sym, ap, ◌∙◌, subst}
 use Rattle.std.specs.Prelude.{Some}
 use Rattle.std.specs.List.{slice_get}
 use Rattle.fiber_frames.specs.Fiber.{ask_of}
@@ -26,16 +26,11 @@ returns-in-Alone-clause-birth c =
     let w = (here c.args.current.now).world in
     let b = get_low w.fibers c.args.by c.requires.born in
     let at = subst (λ i. slice_get w.fibers i ≡ Some b.0) (sym c.from.ensures) b.1 in
-    let wish : wish_of (ask_of b.0) ≡ Alone = sym (c.wish.ensures b.0 at) ∙ c.in-Alone.is in
-    sym (ap (has_birth w c.args.by) b.1 ∙ ap (is_birth w c.args.by) wish)
-
-pub returns-in-Nothing-clause-same : goal.returns-in-Nothing-clause-same
-returns-in-Nothing-clause-same c = same_none c.args.current.now
-
-pub returns-in-Nothing-clause-birth : goal.returns-in-Nothing-clause-birth
-returns-in-Nothing-clause-birth c =
-    let w = (here c.args.current.now).world in
-    let b = get_low w.fibers c.args.by c.requires.born in
-    let at = subst (λ i. slice_get w.fibers i ≡ Some b.0) (sym c.from.ensures) b.1 in
-    let wish : wish_of (ask_of b.0) ≡ Nothing = sym (c.wish.ensures b.0 at) ∙ c.in-Nothing.is in
-    sym (ap (has_birth w c.args.by) b.1 ∙ ap (is_birth w c.args.by) wish)
+    elim c.in-Alone.is [
+      | inl is ↦
+          let wish : wish_of (ask_of b.0) ≡ Alone = sym (c.wish.ensures b.0 at) ∙ is in
+          sym (ap (has_birth w c.args.by) b.1 ∙ ap (is_birth w c.args.by) wish)
+      | inr is ↦
+          let wish : wish_of (ask_of b.0) ≡ Nothing = sym (c.wish.ensures b.0 at) ∙ is in
+          sym (ap (has_birth w c.args.by) b.1 ∙ ap (is_birth w c.args.by) wish)
+    ]

@@ -20,12 +20,12 @@ pub returns-then-is_allowed-clause-own : goal.returns-then-is_allowed-clause-own
 returns-then-is_allowed-clause-own c =
     sym (made_allowed c.args.at_once (here c.args.current.now).world c.args.fiber (sym c.is_allowed.ensures.allowed ∙ c.if-is_allowed.true))
 
-pub returns-then-not-births-clause-same : goal.returns-then-not-births-clause-same
-returns-then-not-births-clause-same c = c.is_allowed.ensures.same
+pub returns-then-not-at_once-clause-same : goal.returns-then-not-at_once-clause-same
+returns-then-not-at_once-clause-same c = c.is_allowed.ensures.same
 
-pub returns-then-not-births-clause-own : goal.returns-then-not-births-clause-own
-returns-then-not-births-clause-own c =
-    sym (made_neither c.args.at_once (here c.args.current.now).world c.args.fiber (sym c.is_allowed.ensures.allowed ∙ c.if-is_allowed.false) c.if-not-births.true)
+pub returns-then-not-at_once-clause-own : goal.returns-then-not-at_once-clause-own
+returns-then-not-at_once-clause-own c =
+    sym (made_neither c.args.at_once (here c.args.current.now).world c.args.fiber (sym c.is_allowed.ensures.allowed ∙ c.if-is_allowed.false) c.if-not-at_once.true)
 
 pub is_birth-requires-clause-born : goal.is_birth-requires-clause-born
 is_birth-requires-clause-born c =
@@ -42,4 +42,4 @@ pub returns-clause-own : goal.returns-clause-own
 returns-clause-own c =
     c.is_birth.ensures.birth
     ∙ sym (made_birth c.args.at_once (here c.args.current.now) (here c.is_allowed.new.current) c.args.fiber c.is_allowed.ensures.same.here
-    (sym c.is_allowed.ensures.allowed ∙ c.if-is_allowed.false) c.if-not-births.false)
+    (sym c.is_allowed.ensures.allowed ∙ c.if-is_allowed.false) c.if-not-at_once.false)
