@@ -168,12 +168,14 @@ module _ (kept : Kept) (start : Place) (found : List Found) (answers : List Outc
 every_entry : (kept : Kept) (start : Place) (found : List Found) →
     ((t : List ℕ) → search.IsCovered leapt outcomes_at kept.places kept.faults found (systems.run leapt (Ok start) t)) →
     (s : List ℕ) → search.IsCovered stepped outcomes_at kept.places kept.faults found (systems.run stepped (Ok start) s)
-every_entry kept start found = covers stepped IsFree (early stepped IsFree own_are_free) leapt leaps outcomes_at size outcomes_grow kept.places kept.faults found start
+every_entry kept start found =
+    covers stepped IsFree (early stepped IsFree own_are_free) leapt leaps outcomes_at size outcomes_grow kept.places kept.faults found start
 
 -- the schedule of an answer, entry by entry
 each_entry : (kept : Kept) (start : Place) (s t : List ℕ) (l : Landing) → systems.run stepped (Ok start) s ≡ systems.run leapt (Ok start) t →
     search.LeadsTo leapt outcomes_at kept.places kept.faults start t l → search.LeadsTo stepped outcomes_at kept.places kept.faults start s l
-each_entry kept start s t l = leads_up stepped IsFree (early stepped IsFree own_are_free) leapt leaps outcomes_at size outcomes_grow kept.places kept.faults start s t l
+each_entry kept start s t l =
+    leads_up stepped IsFree (early stepped IsFree own_are_free) leapt leaps outcomes_at size outcomes_grow kept.places kept.faults start s t l
 
 module _ (kept : Kept) (code : Tree) (k : Limits) (found : List Found) (answers : List OutcomeAnswer)
     (told : AreTold kept (first_place code k) found answers) where

@@ -1,5 +1,6 @@
 -- A birth commutes with each move of another fiber that is born before it. So births can be made early.
-use Rattle.std.proofs.Common.{◌≡◌, ◌≢◌, ◌⊎◌, inl, inr, ℕ, Bool, true, false, List, [], ◌∷◌, ◌++◌, set, Some, None, Option, Result, Ok, Err, refl, sym, ap, ◌∙◌, subst, arith, append_assoc, append-nil}
+use Rattle.std.proofs.Common.{◌≡◌, ◌≢◌, ◌⊎◌, inl, inr, ℕ, Bool, true, false, List, [], ◌++◌, set, Some, None, Option, Result, Ok, Err}
+use Rattle.std.proofs.Common.{refl, sym, ap, ◌∙◌, subst, arith, append_assoc, append-nil}
 use Rattle.std.specs.List.{slice_get}
 use Rattle.effect_term.specs.declared.reply.Reply.{Reply}
 use Rattle.effect_term.specs.declared.reply.Reply.TheVariants as reply
@@ -263,7 +264,8 @@ module _ (k : Limits) (f : ℕ) (a : Fiber) (c : Call) (is : wish_of (ask_of a) 
           birth_free y here birth' room',
           place z,
           birth_step y here room'
-              ∙ ap (λ s. Ok (place (record { fibers = set y.fibers f (move a s) ++ born a c s; cells = after y.cells f c }))) (birth_reply w.cells f g d c clear)
+              ∙ ap (λ s. Ok (place (record { fibers = set y.fibers f (move a s) ++ born a c s; cells = after y.cells f c })))
+              (birth_reply w.cells f g d c clear)
               ∙ ap (λ l. Ok (place (record { fibers = l; cells = after y.cells f c }))) (turn_over (move b q) (born b d q) (children_swap a b c d r q clear))
               ∙ ap (λ s. Ok (place (record { fibers = z.fibers; cells = s }))) (sym (births_swap w.cells f g d c clear)),
           goes ∙ ap (λ s. Ok (place (called on g b d s))) (other_reply w.cells f g d c clear),
@@ -282,7 +284,8 @@ module _ (k : Limits) (f : ℕ) (a : Fiber) (c : Call) (is : wish_of (ask_of a) 
           birth_free y here birth' room,
           place (record { fibers = set on.fibers g (silent_move b); cells = on.cells }),
           birth_step y here room
-              ∙ ap (λ l. Ok (place (record { fibers = set l f (move a r) ++ born a c r; cells = on.cells }))) (sym (append-nil (set w.fibers g (silent_move b))))
+              ∙ ap (λ l. Ok (place (record { fibers = set l f (move a r) ++ born a c r; cells = on.cells })))
+              (sym (append-nil (set w.fibers g (silent_move b))))
               ∙ ap (λ l. Ok (place (record { fibers = l; cells = on.cells }))) over
               ∙ ap (λ l. Ok (place (record { fibers = l; cells = on.cells }))) (append-nil (set on.fibers g (silent_move b))),
           goes,
@@ -339,12 +342,14 @@ birth_bare p f h =
     record { birth = has_birth_bare p.world f (slice_get p.world.fibers f) ∙ h.birth; next = on.0; goes = on.1 }
 
 -- a fiber whose next move is a birth has a next move
-birth_wants : (w : World) (f : ℕ) (g : Fiber) (x : Wish) → wish_of (ask_of g) ≡ x → is_birth w f x ≡ true → (wish_of (ask_of g) ≢ Nothing) × (moves_at (Some g) ≡ true)
+birth_wants : (w : World) (f : ℕ) (g : Fiber) (x : Wish) → wish_of (ask_of g) ≡ x → is_birth w f x ≡ true →
+    (wish_of (ask_of g) ≢ Nothing) × (moves_at (Some g) ≡ true)
 birth_wants w f g (Shared c) e birth = (λ none. let no : Shared c ≡ Nothing = sym e ∙ none in cc, ap wants e)
 birth_wants w f g Alone e birth = absurd (cc)
 birth_wants w f g Nothing e birth = absurd (cc)
 
-pub birth_moves : (w : World) (f : ℕ) (o : Option Fiber) → has_birth w f o ≡ true → (g : Fiber) × (o ≡ Some g) × (wish_of (ask_of g) ≢ Nothing) × (moves_at o ≡ true)
+pub birth_moves : (w : World) (f : ℕ) (o : Option Fiber) → has_birth w f o ≡ true →
+    (g : Fiber) × (o ≡ Some g) × (wish_of (ask_of g) ≢ Nothing) × (moves_at o ≡ true)
 birth_moves w f None e = absurd (cc)
 birth_moves w f (Some g) e = let both = birth_wants w f g (wish_of (ask_of g)) refl e in (g, refl, both.0, both.1)
 

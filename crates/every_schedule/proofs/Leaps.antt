@@ -14,7 +14,8 @@ use Rattle.scheduled_core.specs.Core.{World, wish_of}
 use Rattle.every_schedule.specs.Explored.{HasMove}
 use Rattle.every_schedule.specs.Places.{Place, moves_at, stepped, wants}
 use Rattle.every_schedule.specs.declared.leaping.AtOnce.{AtOnce}
-use Rattle.every_schedule.specs.Reduced.{IsMade, after_own, behind, has_birth, has_own, if_own, is_made, is_own, is_own_at_once, leapt, leapt_by, may_be, none_at_once, or_stays, own_of, pushed, pushed_once, swept}
+use Rattle.every_schedule.specs.Reduced.{IsMade, after_own, behind, has_birth, has_own, if_own, is_made, is_own, is_own_at_once, leapt, leapt_by}
+use Rattle.every_schedule.specs.Reduced.{may_be, none_at_once, or_stays, own_of, pushed, pushed_once, swept}
 use Rattle.every_schedule.proofs.Bare.{idle_stays, own_from, unborn_stays}
 use Rattle.every_schedule.proofs.EarlyMoves.{birth_from, birth_moves, made_early}
 use Rattle.every_schedule.proofs.OwnKept.{or_cases}

@@ -144,7 +144,8 @@ fn push_fiber(
     requires few { fiber < 1000 }
     requires fits { AllFit (here current.old).world }
     ensures onward { IsOnward current.old current.new }
-    ensures goes { OnOk result (here current.new ≡ after_own (here current.old) (own_of at_once (here current.old) fiber)) }
+    ensures goes { OnOk result (here current.new ≡
+        after_own (here current.old) (own_of at_once (here current.old) fiber)) }
     ensures stays { IfOk result (λ it. it ≡ false → here current.new ≡ here current.old) }
     ensures fits { OnOk result (AllFit (here current.new).world) }
     ensures trail { OnOk result (IsOwnTrail at_once trail.old.items trail.new.items (here current.old)

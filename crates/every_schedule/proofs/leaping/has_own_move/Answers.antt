@@ -33,7 +33,8 @@ returns-then-not-at_once-clause-same c = c.is_allowed.ensures.same
 
 pub returns-then-not-at_once-clause-own : goal.returns-then-not-at_once-clause-own
 returns-then-not-at_once-clause-own c =
-    sym (made_neither c.args.at_once (here c.args.current.now).world c.args.fiber (sym c.is_allowed.ensures.allowed ∙ c.if-is_allowed.false) (not_true c.args.at_once.births c.if-not-at_once.true))
+    sym (made_neither c.args.at_once (here c.args.current.now).world c.args.fiber (sym c.is_allowed.ensures.allowed ∙ c.if-is_allowed.false)
+    (not_true c.args.at_once.births c.if-not-at_once.true))
 
 pub is_birth-requires-clause-born : goal.is_birth-requires-clause-born
 is_birth-requires-clause-born c =
