@@ -12,14 +12,14 @@ use Rattle.fiber_frames.specs.declared.ask.Ask.TheVariants as ask
 use Rattle.fiber_frames.specs.declared.ask.Look.{Look}
 use Rattle.fiber_frames.specs.declared.ask.Look.TheVariants.{Clear, Due, Seen}
 use Rattle.fiber_frames.specs.declared.uses.Use.{Use}
-use Rattle.fiber_frames.specs.declared.uses.Use.TheVariants.{Awaits, Cancels, Completes, Gets, Joins, Stores}
+use Rattle.fiber_frames.specs.declared.uses.Use.TheVariants.{Awaits, Cancels, Completes, Gets, Joins, Starts, Stores}
 use Rattle.fiber_frames.specs.Path.{At_final, At_term, Broken, Final, In_guarded, In_handle, In_let, In_masked, In_polled, In_seq, Over, PathStep, Root, Running, Runs}
 use Rattle.fiber_frames.specs.Path.{focus, is_effective, masks_at_root, masks_in}
 use Rattle.fiber_frames.specs.Rows.{Born, Ceded, Ended, Plain, Row, RowKind, Waited, action_row, row_at, word_row}
 use Rattle.fiber_frames.specs.Fiber.{Cuts, Fiber, Looks, Move_case, Reduces, Rests, active_of, ask_in, ask_of, case_in, case_under, is_silent, is_waited, kind_in, kind_of, move_case}
 use Rattle.fiber_frames.specs.Fiber.{row_of, waits_alone}
 use Rattle.fiber_frames.specs.Unmarked.{all_renumbered, masks_of, placed_in, renumbered, run_renumbered, unmarked}
-use Rattle.fiber_frames.specs.Uses.{Scope, all_open, all_uses, handle_count, is_some, of_use, tree_uses, under as bound_under, used_place, uses_in}
+use Rattle.fiber_frames.specs.Uses.{Scope, all_open, all_uses, handle_count, is_some, making, of_use, tree_uses, under as bound_under, used_place, uses_in}
 use Rattle.fiber_frames.specs.Reached.{Reached}
 use Rattle.fiber_frames.proofs.Freshness.{reached_fresh}
 use Rattle.fiber_frames.proofs.Marks.Runs.{live_run}
@@ -60,8 +60,9 @@ module _ (u : Use) (n i : ℕ) (to : ℕ → ℕ → Mask) where
   tree_same b (Join f x s y e c) =
       ap (plus (of_use u Joins (handle_count n b f)))
       (ap₂ plus (tree_same b s) (ap₂ plus (tree_same b e) (tree_same b c)))
-  tree_same b (Make m x k) = tree_same (bound_under u (naming.made_by m) x b) k
-  tree_same b (Start x e k) = ap₂ plus (tree_same b e) (tree_same (bound_under u naming.A_fiber x b) k)
+  tree_same b (Make m x k) = ap (plus (of_use u (making m) 1)) (tree_same (bound_under u (naming.made_by m) x b) k)
+  tree_same b (Start x e k) =
+      ap (plus (of_use u Starts 1)) (ap₂ plus (tree_same b e) (tree_same (bound_under u naming.A_fiber x b) k))
   tree_same b (Loop t e) = tree_same b e
   tree_same b (Uncancelable x e) = tree_same b e
   tree_same b (Poll q e) = tree_same b e

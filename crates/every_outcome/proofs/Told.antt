@@ -22,7 +22,7 @@ use Rattle.world_search.specs.declared.landings.Landing.TheVariants as to
 use Rattle.world_search.specs.Answers as search
 use Rattle.world_search.specs.Systems as systems
 use Rattle.world_search.proofs.Closed.{run-append}
-use Rattle.world_search.proofs.Free.{covers, leads_up}
+use Rattle.world_search.proofs.Free.{covers, early, leads_up}
 use Rattle.every_outcome.specs.declared.outcomes.OutcomeAnswer.{OutcomeAnswer}
 use Rattle.every_outcome.specs.Outcomes.{Agrees, IsCovered, IsListed, IsReached, KeepsOutcomes, ListOnce, counted, outcomes}
 use Rattle.every_outcome.specs.Places.{Kept, Place, first_place, outcomes_at, stepped}
@@ -169,13 +169,15 @@ every_entry : (kept : Kept) (start : Place) (found : List Found) →
     ((t : List ℕ) → search.IsCovered (leapt true) outcomes_at kept.places kept.faults found (systems.run (leapt true) (Ok start) t)) →
     (s : List ℕ) → search.IsCovered stepped outcomes_at kept.places kept.faults found (systems.run stepped (Ok start) s)
 every_entry kept start found =
-    covers stepped (MayFree true) (may_are_free true) (leapt true) (leaps true) outcomes_at size outcomes_grow kept.places kept.faults found start
+    covers stepped (MayFree true) (early stepped (MayFree true) (may_are_free true)) (leapt true) (leaps true)
+    outcomes_at size outcomes_grow kept.places kept.faults found start
 
 -- the schedule of an answer, entry by entry
 each_entry : (kept : Kept) (start : Place) (s t : List ℕ) (l : Landing) → systems.run stepped (Ok start) s ≡ systems.run (leapt true) (Ok start) t →
     search.LeadsTo (leapt true) outcomes_at kept.places kept.faults start t l → search.LeadsTo stepped outcomes_at kept.places kept.faults start s l
 each_entry kept start s t l =
-    leads_up stepped (MayFree true) (may_are_free true) (leapt true) (leaps true) outcomes_at size outcomes_grow kept.places kept.faults start s t l
+    leads_up stepped (MayFree true) (early stepped (MayFree true) (may_are_free true)) (leapt true) (leaps true)
+    outcomes_at size outcomes_grow kept.places kept.faults start s t l
 
 module _ (kept : Kept) (code : Tree) (k : Limits) (found : List Found) (answers : List OutcomeAnswer)
     (told : AreTold kept (first_place code k) found answers) where

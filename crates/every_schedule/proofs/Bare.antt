@@ -49,7 +49,7 @@ module _ (k : Limits) (w : World) (f : ℕ) where
   turned_bare None = cells_bare w.fibers
   turned_bare (Some g) = wished_bare g (wish_of (ask_of g))
 
-entering_bare : (p : Place) (f : ℕ) → bared (entering (bare p) f) ≡ bared (entering p f)
+pub entering_bare : (p : Place) (f : ℕ) → bared (entering (bare p) f) ≡ bared (entering p f)
 entering_bare p f = turned_bare p.limits p.world f (slice_get p.world.fibers f)
 
 -- the entry of a fiber without a next move changes nothing
@@ -164,7 +164,7 @@ has_own_bare : (w : World) (f : ℕ) (o : Option Fiber) → has_own (unnoted w) 
 has_own_bare w f None = refl
 has_own_bare w f (Some g) = is_own_bare w f g (wish_of (ask_of g))
 
-goes_bare : (y : Result Place RunError) (q : Place) → bared y ≡ Ok q → (x : Place) × (y ≡ Ok x)
+pub goes_bare : (y : Result Place RunError) (q : Place) → bared y ≡ Ok q → (x : Place) × (y ≡ Ok x)
 goes_bare (Ok x) q e = (x, refl)
 goes_bare (Err d) q e = absurd (cc)
 

@@ -23,12 +23,12 @@ use Rattle.every_schedule.proofs.OwnKept.{calm_called, kept_called, kept_silent}
 
 -- ---- lists
 -- changes of elements, and further elements at the end, in either order
-set_early : {A : Type 0} (xs ys : List A) (f : ℕ) (a b : A) → slice_get xs f ≡ Some a → set (xs ++ ys) f b ≡ set xs f b ++ ys
+pub set_early : {A : Type 0} (xs ys : List A) (f : ℕ) (a b : A) → slice_get xs f ≡ Some a → set (xs ++ ys) f b ≡ set xs f b ++ ys
 set_early [] ys f a b e = absurd (cc)
 set_early (x ∷ xs) ys zero a b e = refl
 set_early (x ∷ xs) ys (suc f) a b e = ap (λ l. x ∷ l) (set_early xs ys f a b e)
 
-set_apart : {A : Type 0} (xs : List A) (f g : ℕ) (a b : A) → f ≢ g → set (set xs f a) g b ≡ set (set xs g b) f a
+pub set_apart : {A : Type 0} (xs : List A) (f g : ℕ) (a b : A) → f ≢ g → set (set xs f a) g b ≡ set (set xs g b) f a
 set_apart [] f g a b apart = refl
 set_apart (x ∷ xs) zero zero a b apart = absurd (apart refl)
 set_apart (x ∷ xs) zero (suc g) a b apart = refl

@@ -44,20 +44,20 @@ once_limits p (Some f) = by (stepped p f) refl
     by (Ok q) e = stepped_limits p f q e
     by (Err d) e = refl
 
-swept_limits : (b : Bool) (n : ℕ) (p : Place) → (swept b n p).limits ≡ p.limits
+swept_limits : (b : AtOnce) (n : ℕ) (p : Place) → (swept b n p).limits ≡ p.limits
 unfolding swept
 swept_limits b zero p = refl
 swept_limits b (suc n) p = swept_limits b n (after_own p (own_of b p n)) ∙ once_limits p (own_of b p n)
 
-pushed_limits : (b : Bool) (n : ℕ) (p : Place) → (pushed b n p).limits ≡ p.limits
+pushed_limits : (b : AtOnce) (n : ℕ) (p : Place) → (pushed b n p).limits ≡ p.limits
 unfolding pushed
 pushed_limits b zero p = refl
 pushed_limits b (suc n) p = pushed_limits b n (pushed_once b p) ∙ swept_limits b (length p.world.fibers) p
 
 behind_limits : (n : AtOnce) (p : Place) (f : ℕ) (y : Result Place RunError) (q : Place) → stepped p f ≡ y → behind n y ≡ Ok q → q.limits ≡ p.limits
 behind_limits n p f (Ok x) q is e =
-    let same : pushed n.stores n.most x ≡ q = cc in
-    ap (λ (r : Place). r.limits) (sym same) ∙ pushed_limits n.stores n.most x ∙ stepped_limits p f x is
+    let same : pushed n n.most x ≡ q = cc in
+    ap (λ (r : Place). r.limits) (sym same) ∙ pushed_limits n n.most x ∙ stepped_limits p f x is
 behind_limits n p f (Err d) q is e = absurd (cc)
 
 leapt_limits : (n : AtOnce) (p : Place) (f : ℕ) (q : Place) (o : Option Fiber) → leapt_by n p f o ≡ Ok q → q.limits ≡ p.limits

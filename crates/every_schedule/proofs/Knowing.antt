@@ -7,7 +7,7 @@ use mathlib.Core.Logic.{dite}
 use native.Mathlib.Decide.{ℕ_discrete}
 use Rattle.derived_ops.specs.Naming.{Given}
 use Rattle.fiber_frames.specs.declared.uses.Use.{Use}
-use Rattle.fiber_frames.specs.declared.uses.Use.TheVariants.{Awaits, Cancels, Completes, Gets, Joins, Stores}
+use Rattle.fiber_frames.specs.declared.uses.Use.TheVariants.{Awaits, Cancels, Completes, Gets, Joins, MakesDeferreds, MakesRefs, Starts, Stores}
 use Rattle.fiber_frames.specs.Fiber.{Fiber}
 use Rattle.fiber_frames.specs.Naming.{NamedRun}
 use Rattle.fiber_frames.specs.Uses.{is_some, uses_in}
@@ -23,7 +23,10 @@ use_of (suc zero) = Joins
 use_of (suc (suc zero)) = Gets
 use_of (suc (suc (suc zero))) = Stores
 use_of (suc (suc (suc (suc zero)))) = Completes
-use_of (suc (suc (suc (suc (suc n))))) = Awaits
+use_of (suc (suc (suc (suc (suc zero))))) = Awaits
+use_of (suc (suc (suc (suc (suc (suc zero)))))) = Starts
+use_of (suc (suc (suc (suc (suc (suc (suc zero))))))) = MakesRefs
+use_of (suc (suc (suc (suc (suc (suc (suc (suc n)))))))) = MakesDeferreds
 
 decoded : (u : Use) → use_of (use_code u) ≡ u
 unfolding use_of
@@ -33,14 +36,20 @@ decoded Gets = refl
 decoded Stores = refl
 decoded Completes = refl
 decoded Awaits = refl
+decoded Starts = refl
+decoded MakesRefs = refl
+decoded MakesDeferreds = refl
 
-few_uses : (u : Use) → use_code u < 6
+few_uses : (u : Use) → use_code u < 9
 few_uses Cancels = lit< tt
 few_uses Joins = lit< tt
 few_uses Gets = lit< tt
 few_uses Stores = lit< tt
 few_uses Completes = lit< tt
 few_uses Awaits = lit< tt
+few_uses Starts = lit< tt
+few_uses MakesRefs = lit< tt
+few_uses MakesDeferreds = lit< tt
 
 same_use : (u v : Use) (m n : ℕ) → use_place u m ≡ use_place v n → (u ≡ v) × (m ≡ n)
 same_use u v m n e =

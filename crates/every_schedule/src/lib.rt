@@ -20,11 +20,13 @@
 //! ```
 #![tactic(auto)]
 
+mod births;
 mod claimed;
 mod claims;
 mod core_world;
 mod core_worlds;
 mod current;
+mod ending_worlds;
 mod exploration;
 mod explored;
 mod fair_endings;

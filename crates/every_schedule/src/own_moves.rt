@@ -158,9 +158,9 @@ fn all_spare(current: &mut Current, what: Use, by: u16, number: u16) -> bool
     true
 }
 
-// Whether the fiber at this place is `by`, or can no longer use the number in this way.
+/// Whether the fiber at this place is `by`, or can no longer use the number in this way.
 #[inline(always)]
-fn spares(current: &mut Current, what: Use, by: u16, number: u16, place: usize) -> bool
+pub(crate) fn spares(current: &mut Current, what: Use, by: u16, number: u16, place: usize) -> bool
     requires place { place < length (here current.old).world.fibers }
     requires fits { AllFit (here current.old).world }
     ensures same { IsSame current.old current.new }

@@ -40,8 +40,8 @@ module _ (u : Use) (n : ℕ) (es : List EnvEntry) (level : ℕ) where
         let y = first (omega arith) (m + 1) in
         let z = next (omega arith) (m + 1) in
         (m, omega (arith, own, y, z))
-    word_front (word.Make k) some own first next = (m + 1, refl)
-    word_front (word.Start j) some own first next = let z = first (omega arith) m in (m + 1, omega (arith, z))
+    word_front (word.Make k) some own first next = (m + 1, omega (arith, own))
+    word_front (word.Start j) some own first next = let z = first (omega arith) m in (m + 1, omega (arith, own, z))
     word_front (word.Loop t) some own first next = (m, refl)
     word_front word.Uncancelable some own first next = (m + 1, refl)
     word_front (word.Poll q) some own first next = (m, refl)
@@ -51,6 +51,8 @@ module _ (u : Use) (n : ℕ) (es : List EnvEntry) (level : ℕ) where
     word_own (word.Act o) own = own
     word_own (word.Cancel f) own = own
     word_own (word.Join f j l) own = omega (arith, own)
+    word_own (word.Make k) own = omega (arith, own)
+    word_own (word.Start j) own = omega (arith, own)
     word_own _ own = absurd (omega (arith, own))
 
     word_first : (w : CoreWord) → 1 < many_parts w → ((j : ℕ) → 0 < hits (a j)) → 0 < hits (word_tree w m a b c)

@@ -2,7 +2,7 @@ use Rattle.std.proofs.lemmas.Result.{IfOk-weaker}
 use Rattle.std.proofs.Common.{subst}
 use Rattle.world_search.specs.Landings.{EntersAt}
 use Rattle.every_schedule.proofs.Leaps.{leapt_none}
-use Rattle.every_schedule.proofs.reduced_worlds.ReducedWorlds.alone.Goals as goal
+use Rattle.every_schedule.proofs.ending_worlds.EndingWorlds.alone.Goals as goal
 
 pub returns-clause-lands : goal.returns-clause-lands
 returns-clause-lands c =
