@@ -25,7 +25,6 @@ mod judging;
 mod leaf;
 mod moment;
 mod names;
-mod nearness;
 mod numbering;
 mod parts;
 mod reader;

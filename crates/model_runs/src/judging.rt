@@ -49,13 +49,7 @@ pub(crate) fn judge_claim(
     ensures { IfOk result (λ it. IsJudgedBy source.now claim.now search.now it.shown it.verdict) }
 {
     let truths = truths_of(alloc, source, claim, search.answers.as_slice())?;
-    Ok(judge(
-        truths.as_slice(),
-        claim.rule,
-        claim.fails,
-        search.complete,
-        claim.blind,
-    ))
+    Ok(judge(truths.as_slice(), claim.rule, claim.fails, search.complete))
 }
 
 /// Returns the result of a claim, with the replay of the answer that decides the claim.

@@ -22,6 +22,7 @@
 
 mod binder;
 mod condition;
+mod effect_names;
 mod file_fault;
 mod form;
 mod look;
@@ -33,6 +34,7 @@ mod reading;
 mod refused;
 mod row;
 mod scope;
+mod shapes;
 mod source;
 mod spelling;
 mod task;
@@ -47,6 +49,7 @@ mod wrong;
 
 pub use binder::{Binder, BinderName, NameKind, WordPlace};
 pub use name_says::is_name;
+pub use nearness::{distance, least_apart};
 pub use refused::{Refused, SourceFault};
 pub use source::{Source, prelude, read_source};
 pub use translation::{LATE, ModelTerm, Probe, Said, translate};

@@ -53,7 +53,7 @@ pub struct ModelTerm {
     pub binders: Vec<Binder>,
     /// The places in the file that its forms come from, in the order of the text.
     pub places: Vec<WordPlace>,
-    /// The forms of the file that read a ref and then change it with the value. Another fiber can move in between.
+    /// The forms of the file that read a ref whose value then changes the ref. Another fiber can move in between.
     pub torn: Vec<usize>,
 }
 
