@@ -293,6 +293,10 @@ fn end_suite<R: Files + Clock, O: TextOut, E: TextOut>(
     let Ok(text) = suite.ending(&mut told) else {
         return progress.tell_fault(TextFault::NoMemory);
     };
+    let Ok(missing) = suite.missing() else {
+        return progress.tell_fault(TextFault::NoMemory);
+    };
+    progress.write(missing.as_slice());
     match write_text(text.as_slice(), out) {
         Ok(()) => match write_reports(rt, &told, reports) {
             Ok(()) => told.status(),

@@ -34,11 +34,11 @@ mod truth;
 mod words;
 
 pub use answer::{FiberName, Seen, SeenFiber};
-pub use bounds::{Settings, read_settings};
+pub use bounds::{Settings, check_defaults, read_settings};
 pub use claim::{Claim, Want};
 pub use condition::{Comparison, Condition, Wanted, Who, Word};
 pub use judging::{Judged, Rule, Truth, Verdict, judge, under};
-pub use leaf::is_wanted;
+pub use leaf::{is_wanted, speaks_of};
 pub use moment::MomentWord;
 pub use reader::read_claims;
 pub use truth::{truth_in, truth_of};

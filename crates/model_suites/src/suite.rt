@@ -11,6 +11,7 @@ use crate::terms::push_terms;
 use crate::tested::Tested;
 use crate::told::Told;
 use itoa::Buffer;
+use model_claims::check_defaults;
 use model_forms::form_bytes;
 use model_reports::{NamedFile, fault_text, tap_head, unread_text};
 use model_runs::check_model;
@@ -126,6 +127,22 @@ impl<'a> Suite<'a> {
     /// The number of models that are tested.
     pub fn len(&self) -> usize {
         self.models.entries.len()
+    }
+
+    /// Returns a line for standard error that no model's name contains the filter; empty if one does. `AllocError` if
+    /// memory runs out.
+    pub fn missing(&self) -> Result<Vec<u8>, AllocError> {
+        let mut line = Vec::new(self.alloc);
+        let Some(part) = self.models.order.filter else {
+            return Ok(line);
+        };
+        if !self.models.entries.is_empty() {
+            return Ok(line);
+        }
+        line.extend_from_slice(b"no model is tested: no name contains `")?;
+        line.extend_from_slice(part.as_bytes())?;
+        line.extend_from_slice(b"`\n")?;
+        Ok(line)
     }
 
     /// Returns what is printed before all models. `AllocError` if memory runs out.
@@ -276,6 +293,13 @@ fn add_source<'a>(
     models: &mut Models<'a>,
     file: SuiteFile<'a>,
 ) -> Result<(), AllocError> {
+    match check_defaults(alloc, &file.source) {
+        Ok(()) => {}
+        Err(Refused::NoMemory) => return Err(AllocError),
+        Err(Refused::Fault(fault)) => {
+            return add_fault(alloc, &mut models.faults, named(&file), &fault);
+        }
+    }
     let number = models.files.len();
     for item in file.source.file.items.iter() {
         match item {
