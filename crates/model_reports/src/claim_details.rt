@@ -16,19 +16,19 @@ use std::alloc::{AllocError, Global};
 const SHOWN: usize = 60;
 
 /// Returns the details of a model, which a report has after the lines of all models: its warnings, a line each, and for
-/// each claim that didn't pass its place, what was found, and a timeline. If the model is tested `alone`, each `fails`
-/// that passed has these, too. `AllocError` if memory runs out.
+/// each claim that didn't pass its place, what was found, and a timeline. If `all` is set, each `fails` that passed has
+/// these, too. `AllocError` if memory runs out.
 pub fn model_details(
     alloc: Global,
     judged: JudgedModel,
-    alone: bool,
+    all: bool,
 ) -> Result<Vec<u8>, AllocError> {
     let mut told = Vec::new(alloc);
     for warning in judged.result.warnings.iter() {
         push_warning(&mut told, alloc, judged, *warning)?;
     }
     for claim in judged.result.claims.iter() {
-        if claim.verdict != Verdict::Passed || (alone && claim.fails) {
+        if claim.verdict != Verdict::Passed || (all && claim.fails) {
             push_claim(&mut told, alloc, judged, claim)?;
         }
     }
