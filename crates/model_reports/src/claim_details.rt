@@ -18,11 +18,7 @@ const SHOWN: usize = 60;
 /// Returns the details of a model, which a report has after the lines of all models: its warnings, a line each, and for
 /// each claim that didn't pass its place, what was found, and a timeline. If `all` is set, each `fails` that passed has
 /// these, too. `AllocError` if memory runs out.
-pub fn model_details(
-    alloc: Global,
-    judged: JudgedModel,
-    all: bool,
-) -> Result<Vec<u8>, AllocError> {
+pub fn model_details(alloc: Global, judged: JudgedModel, all: bool) -> Result<Vec<u8>, AllocError> {
     let mut told = Vec::new(alloc);
     for warning in judged.result.warnings.iter() {
         push_warning(&mut told, alloc, judged, *warning)?;
@@ -112,7 +108,7 @@ fn push_why(
 }
 
 /// Adds why a claim has its verdict, in lines: for a failed claim what refutes it, for an undecided claim the bound
-/// that was met, and for a passed claim the answer that decides it, if any. `AllocError` if memory runs out.
+/// that was met, and for a passed claim the answer that decides it, if any, or that no schedule meets what had to fail. `AllocError` if memory runs out.
 pub(crate) fn push_reasons(
     told: &mut Vec<u8>,
     alloc: Global,
@@ -126,6 +122,7 @@ pub(crate) fn push_reasons(
                 push_word(told, refuted_words(claim.fails))?;
                 push_shown_answer(told, alloc, judged, claim, search, answer)
             }
+            None if claim.fails => push_none_meets(told, judged, claim, search),
             None => Ok(()),
         },
         Verdict::Undecided => push_undecided(told, claim.rule, search),
