@@ -16,8 +16,8 @@ use std::{fs, thread};
 
 /// Tests the models of files. Returns `Status::Succeeded` if all passed, `Status::Errored` if one failed or there is
 /// none, `Status::Unended` if none failed and one is undecided, `Status::Refused` if a file has a fault, which is
-/// written to `err`, and `Status::Fault` if a device failed or memory ran out. While models are explored, progress goes to
-/// `err` if the words ask for it or `err` is a terminal.
+/// written to `err`, and `Status::Fault` if a device failed or memory ran out. While models are explored, progress goes
+/// to `err` if the words ask for it or `err` is a terminal.
 pub fn obey_test<R: Files + Clock + Threads + Wait + Sync, O: TextOut, E: TextOut>(
     rt: &R,
     alloc: Global,

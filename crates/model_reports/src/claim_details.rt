@@ -108,7 +108,8 @@ fn push_why(
 }
 
 /// Adds why a claim has its verdict, in lines: for a failed claim what refutes it, for an undecided claim the bound
-/// that was met, and for a passed claim the answer that decides it, if any, or that no schedule meets what had to fail. `AllocError` if memory runs out.
+/// that was met, and for a passed claim the answer that decides it, if any, or that no schedule meets what had to fail.
+/// `AllocError` if memory runs out.
 pub(crate) fn push_reasons(
     told: &mut Vec<u8>,
     alloc: Global,

@@ -8,8 +8,8 @@ use std::alloc::{AllocError, Global};
 /// A warning about a model. No verdict depends on it.
 #[derive(Clone, Copy, PartialEq, Eq, Debug)]
 pub enum Warning {
-    /// The form of this number reads a ref whose value then changes the ref, in two moves: another fiber can move between
-    /// them.
+    /// The form of this number reads a ref whose value then changes the ref, in two moves: another fiber can move in
+    /// between.
     Torn(usize),
     /// The form of this number is a wanted outcome to which no schedule leads.
     Unmet(usize),

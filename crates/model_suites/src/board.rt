@@ -101,7 +101,8 @@ impl Board {
         self.left.lock(rt).has(index)
     }
 
-    /// Waits at most a second until the result of a model is here or a thread ran out of memory. Returns whether it did.
+    /// Waits at most a second until the result of a model is here or a thread ran out of memory. Returns whether one of
+    /// the two has happened.
     pub(crate) fn waits_a_second<R: Clock + Wait>(&self, rt: &R, index: usize) -> bool {
         let left = self.left.lock(rt);
         let second = Duration::from_secs(1);

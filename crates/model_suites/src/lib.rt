@@ -4,8 +4,8 @@
 //! [`Suite::open`] finds all faults of all files before any model is explored. Then one thread, or several that share a
 //! [`Board`], explore each model ([`Suite::help`], [`Suite::tested`]), and [`Suite::tell`] reports the models in the
 //! order of the files. Meanwhile [`Progress`] shows which models are being explored. The crate promises that the status
-//! follows from the verdicts of the models ([`Told::status`]), and that each verdict is the worst of its model's claims'
-//! verdicts. Tests show what is printed.
+//! follows from the verdicts of the models ([`Told::status`]), and that each verdict is the worst of its model's
+//! claims' verdicts. Tests show what is printed.
 #![tactic(auto)]
 
 mod board;

@@ -16,9 +16,9 @@
 //! exceeds one of these limits has fault `E23`.
 //!
 //! Proved are five facts. The file of a source is the one that the grammar of `model_text` gives for its text. The text
-//! behind the prelude is the file that was read. The text of a translation is one that the grammar of terms spells, as a
-//! term that is closed and well kinded. It has at most 65,536 bytes, and its binders and places are within it. No call
-//! fails at run time, and each returns. That the term means what the file says is only tested.
+//! behind the prelude is the file that was read. The text of a translation is one that the grammar of terms spells, as
+//! a term that is closed and well kinded. It has at most 65,536 bytes, and its binders and places are within it. No
+//! call fails at run time, and each returns. That the term means what the file says is only tested.
 #![tactic(auto)]
 
 mod binder;
