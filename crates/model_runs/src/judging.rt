@@ -49,13 +49,7 @@ pub(crate) fn judge_claim(
     ensures { IfOk result (λ it. IsJudgedBy source.now claim.now search.now it.shown it.verdict) }
 {
     let truths = truths_of(alloc, source, claim, search.answers.as_slice())?;
-    Ok(judge(
-        truths.as_slice(),
-        claim.rule,
-        claim.fails,
-        search.complete,
-        claim.blind,
-    ))
+    Ok(judge(truths.as_slice(), claim.rule, claim.fails, search.complete))
 }
 
 /// Returns the result of a claim, with the replay of the answer that decides the claim.
@@ -87,6 +81,7 @@ pub(crate) fn claim_result(
         plan,
         judged.shown,
         answers,
+        search.marked,
     )?;
     Ok(ClaimResult {
         form: claim.form,
@@ -129,6 +124,7 @@ pub(crate) fn moment_result(
         plan,
         judged.shown,
         answers,
+        false,
     )?;
     Ok(ClaimResult {
         form: claim.form,
@@ -155,7 +151,8 @@ fn decisive_answers<'a>(
     }
 }
 
-// The replay of the answer of this number, if there is one, in the term with this probe.
+// The replay of the answer of this number, if there is one, in the term with this probe. If `waits` is set, each fiber
+// that hasn't ended has one more entry, at which it waits.
 fn replay_of(
     alloc: Global,
     source: &Source,
@@ -164,6 +161,7 @@ fn replay_of(
     plan: Plan,
     shown: Option<usize>,
     answers: &[NamedAnswer],
+    waits: bool,
 ) -> Result<Option<Named>, Refused>
     requires limits { AreLimits plan.limits }
 {
@@ -174,6 +172,23 @@ fn replay_of(
         return Ok(None);
     };
     let prepared = prepare(alloc, source, model, probe)?;
-    let replay = replay_named(alloc, &prepared, answer.schedule.as_slice(), plan.limits)?;
+    let entries = shown_entries(alloc, answer, waits)?;
+    let replay = replay_named(alloc, &prepared, entries.as_slice(), plan.limits)?;
     Ok(Some(replay))
+}
+
+// The entries of an answer, and if `waits` is set and the answer is no fault, one of each fiber that hasn't ended.
+fn shown_entries(alloc: Global, answer: &NamedAnswer, waits: bool) -> Result<Vec<u16>, AllocError> {
+    let mut entries = Vec::from_slice(alloc, answer.schedule.as_slice())?;
+    if !waits || answer.fault.is_some() {
+        return Ok(entries);
+    }
+    for (number, fiber) in answer.seen.fibers.iter().enumerate() {
+        if fiber.outcome.is_none()
+            && let Ok(number) = u16::try_from(number)
+        {
+            entries.push(number)?;
+        }
+    }
+    Ok(entries)
 }

@@ -91,6 +91,7 @@ pub fn run_model_watched<V: Watcher>(
     )?;
     let warnings = warnings_of(
         alloc,
+        source,
         &term,
         claims.as_slice(),
         results.as_slice(),

@@ -131,7 +131,7 @@ impl Told {
     {
         match order.form {
             SuiteForm::Report => {
-                let details = model_details(alloc, judged)?;
+                let details = model_details(alloc, judged, order.filter.is_some())?;
                 self.details.extend_from_slice(details.as_slice())?;
                 model_line(alloc, judged, order.color)
             }
