@@ -1,10 +1,7 @@
 -- Numbers of masks that are changed twice, and the masks on the path of what came of it.
-use Rattle.std.proofs.Common.{◌≡◌, ℕ, List, [], ◌∷◌, map, refl, ap, ap₂, ◌∙◌}
-use Rattle.std.proofs.Math.Path.{fun_ext}
-use Rattle.derived_ops.specs.Tree.{Act, Cancel, Guarded, Handled, If0, Join, Let, Loop, Make, Mask, Masked, Named}
-use Rattle.derived_ops.specs.Tree.{Note, On_cancel, Pair, Poll, Polled, Pure, Raise, Seq, Start, Tree, Uncancelable}
-use Rattle.fiber_frames.specs.Path.{Broken, Final, Over, Running, Runs}
-use Rattle.fiber_frames.specs.Unmarked.{all_renumbered, mask_to, masks_first, masks_of, masks_on, number_to, renumbered, run_renumbered}
+use Rattle.fiber_frames.proofs.Prelude.{◌≡◌, ℕ, List, [], ◌∷◌, map, refl, ap, ap₂, ◌∙◌, fun_ext, Act, Cancel, Guarded, Handled, If0, Join, Let, Loop, Make}
+use Rattle.fiber_frames.proofs.Prelude.{Mask, Masked, Named, Note, On_cancel, Pair, Poll, Polled, Pure, Raise, Seq, Start, Tree, Uncancelable, Broken, Final}
+use Rattle.fiber_frames.proofs.Prelude.{Over, Running, Runs, all_renumbered, mask_to, masks_first, masks_of, masks_on, number_to, renumbered, run_renumbered}
 
 -- first those of fiber i, and then, where it is all in fiber c
 module _ (i c : ℕ) (one two : ℕ → ℕ → Mask) where

@@ -1,20 +1,13 @@
 -- What a fiber runs names no mask that isn't entered yet: neither its own next one, nor one of a fiber that it may start.
-use Rattle.std.proofs.Common.{◌≡◌, ◌≢◌, inl, inr, ◌<◌, ◌≤◌, ℕ, ◌+◌, Bool, true, false, if◌then◌else◌, nat_eq, nat_lt, List, [], ◌∷◌, map, suc, refl, sym, ap, ap₂, ◌∙◌, subst, arith}
-use Rattle.std.specs.Prelude.{◌&&◌}
-use Rattle.std.proofs.lemmas.Bool.{eq-eqb, eqb-false, eqb-true, ltb-false, ltb-true, ne_eqb, lt-ltb}
-use Rattle.derived_ops.specs.Codes.{IsCode}
-use Rattle.derived_ops.specs.Reading.{source_of}
+use Rattle.fiber_frames.proofs.Prelude.{◌≡◌, ◌≢◌, inl, inr, ◌<◌, ◌≤◌, ℕ, ◌+◌, Bool, true, false, if◌then◌else◌, nat_eq, nat_lt, List, [], ◌∷◌, map, suc, refl}
+use Rattle.fiber_frames.proofs.Prelude.{sym, ap, ap₂, ◌∙◌, subst, arith, ◌&&◌, eq-eqb, eqb-false, eqb-true, ltb-false, ltb-true, ne_eqb, lt-ltb, IsCode}
+use Rattle.fiber_frames.proofs.Prelude.{source_of, Put, mask_at, Act, Cancel, Guarded, Handled, If0, Join, Let, Loop, Make, Mask, Masked, Named, Note}
+use Rattle.fiber_frames.proofs.Prelude.{On_cancel, Pair, Poll, Polled, Pure, Raise, Seq, Start, Tree, Uncancelable, Reply, Running, Runs, Born, Ceded, Ended}
+use Rattle.fiber_frames.proofs.Prelude.{Plain, RowKind, Waited, Cuts, Fiber, Looks, Move_case, Reduces, Rests, begins, child, lost, move, move_case, move_in}
+use Rattle.fiber_frames.proofs.Prelude.{term_born, Reached, born, broken, moved, root, mask_to, masks_of, renumbered, run_renumbered}
 use Rattle.derived_ops.proofs.ReadBack.{expansion_has, has_words}
-use Rattle.derived_ops.specs.Put.{Put, mask_at}
-use Rattle.derived_ops.specs.Tree.{Act, Cancel, Guarded, Handled, If0, Join, Let, Loop, Make, Mask, Masked, Named}
-use Rattle.derived_ops.specs.Tree.{Note, On_cancel, Pair, Poll, Polled, Pure, Raise, Seq, Start, Tree, Uncancelable}
-use Rattle.effect_term.specs.declared.reply.Reply.{Reply}
 use Rattle.effect_term.specs.declared.reply.Reply.TheVariants as reply
-use Rattle.fiber_frames.specs.Path.{Running, Runs}
-use Rattle.fiber_frames.specs.Rows.{Born, Ceded, Ended, Plain, RowKind, Waited}
-use Rattle.fiber_frames.specs.Fiber.{Cuts, Fiber, Looks, Move_case, Reduces, Rests, begins, child, kind_of, lost, move, move_case, move_in, term_born}
-use Rattle.fiber_frames.specs.Reached.{Reached, born, broken, moved, root}
-use Rattle.fiber_frames.specs.Unmarked.{mask_to, masks_of, renumbered, run_renumbered}
+use Rattle.fiber_frames.specs.Fiber.{kind_of}
 use Rattle.fiber_frames.proofs.Marks.Cutting.{Static}
 use Rattle.fiber_frames.proofs.Marks.Runs.{LiveRun, live_run}
 use Rattle.fiber_frames.proofs.Reaching.{reached_kept}

@@ -1,8 +1,7 @@
 -- The masks of frames, gathered one frame after another.
-use Rattle.std.proofs.Common.{◌≡◌, ◌<◌, ℕ, zero, suc, ◌+◌, List, [], ◌∷◌, ◌++◌, get_or, length, take, refl, sym, ap, ◌∙◌, arith, append_assoc}
-use Rattle.fiber_frames.specs.declared.frame.Frame.{Frame}
+use Rattle.fiber_frames.proofs.Prelude.{◌≡◌, ◌<◌, ℕ, zero, suc, ◌+◌, List, [], ◌∷◌, ◌++◌, get_or, length, take, refl, sym, ap, ◌∙◌, arith, append_assoc, Frame}
+use Rattle.fiber_frames.proofs.Prelude.{numbers_in}
 use Rattle.fiber_frames.specs.declared.frame.Frame.TheVariants as frame
-use Rattle.fiber_frames.specs.Shapes.{numbers_in}
 
 before : (f : Frame) (xs : List Frame) → numbers_in (f ∷ xs) ≡ numbers_in (f ∷ []) ++ numbers_in xs
 before (frame.Let k n) xs = refl

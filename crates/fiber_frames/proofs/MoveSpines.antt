@@ -1,12 +1,10 @@
 -- What a move leaves on the focus path: masks that were there, and the one that it enters.
-use Rattle.std.proofs.Common.{◌≡◌, ◌⊎◌, inl, inr, ℕ, ◌+◌, List, [], ◌∷◌, ◌++◌, refl, sym, subst}
-use Rattle.derived_ops.specs.Tree.{Guarded, Handled, Let, Masked, Pair, Polled, Seq, Tree}
-use Rattle.effect_term.specs.declared.reply.Reply.{Reply}
+use Rattle.fiber_frames.proofs.Prelude.{◌≡◌, ◌⊎◌, inl, inr, ℕ, ◌+◌, List, [], ◌∷◌, ◌++◌, refl, sym, subst, Guarded, Handled, Let, Masked, Pair, Polled, Seq}
+use Rattle.fiber_frames.proofs.Prelude.{Tree, Reply, At_final, At_term, Broken, Final, Over, Running, Runs, focus, path, pending, pending_at, Born, Ceded}
+use Rattle.fiber_frames.proofs.Prelude.{Ended, Plain, Row, RowKind, Waited, row_at, Cuts, Fiber, Looks, Move_case, Reduces, Rests, kind_in, move, move_case}
+use Rattle.fiber_frames.proofs.Prelude.{move_in, term_born, masks_first, masks_of}
 use Rattle.effect_term.specs.declared.reply.Reply.TheVariants as reply
-use Rattle.fiber_frames.specs.Path.{At_final, At_term, Broken, Final, Over, Running, Runs, focus, path, pending, pending_at}
-use Rattle.fiber_frames.specs.Rows.{Born, Ceded, Ended, Plain, Row, RowKind, Waited, row_at}
-use Rattle.fiber_frames.specs.Fiber.{Cuts, Fiber, Looks, Move_case, Reduces, Rests, kind_in, kind_of, move, move_case, move_in, term_born}
-use Rattle.fiber_frames.specs.Unmarked.{masks_first, masks_of}
+use Rattle.fiber_frames.specs.Fiber.{kind_of}
 use Rattle.fiber_frames.proofs.Walk.{End, Gives, Throws, Works, end_of, finalizers_below, pending_root, root_row, row_root, walk}
 use Rattle.fiber_frames.proofs.Marks.Actions.{If_born}
 use Rattle.fiber_frames.proofs.Marks.Cutting.{Live, Static}

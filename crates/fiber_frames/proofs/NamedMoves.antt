@@ -1,27 +1,22 @@
 -- What a fiber names, over its moves.
-use Rattle.std.proofs.Common.{◌≡◌, ℕ, ◌+◌, ◌≤◌, List, [], ◌∷◌, ◌++◌, refl, sym, ap, ◌∙◌, subst, arith, replicate, length}
-use Rattle.derived_ops.specs.Tree.{Act, Action, Add, Await, Cancel, Canceled, Cede, Complete, Ending, Get}
-use Rattle.derived_ops.specs.Tree.{Guarded, Handle, Handled, If0, Join, Known, Let, Loop, Make, Mask, Masked}
-use Rattle.derived_ops.specs.Tree.{Modify, Never, Note, On_cancel, Open_slot, Pair, Poll, Polled, Pure, Raise}
-use Rattle.derived_ops.specs.Tree.{Request, Say, Seq, Set, Start, Tree, Uncancelable}
-use Rattle.effect_term.specs.declared.reply.Reply.{Reply}
+use Rattle.fiber_frames.proofs.Prelude.{◌≡◌, ℕ, ◌+◌, ◌≤◌, List, [], ◌∷◌, ◌++◌, refl, sym, ap, ◌∙◌, subst, arith, replicate, length, Act, Action, Add, Await}
+use Rattle.fiber_frames.proofs.Prelude.{Cancel, Canceled, Cede, Complete, Ending, Get, Guarded, Handle, Handled, If0, Join, Known, Let, Loop, Make, Mask}
+use Rattle.fiber_frames.proofs.Prelude.{Masked, Modify, Never, Note, On_cancel, Open_slot, Pair, Poll, Polled, Pure, Raise, Request, Say, Seq, Set, Start, Tree}
+use Rattle.fiber_frames.proofs.Prelude.{Uncancelable, Reply, At_final, At_term, Broken, Final, Over, Running, Runs, focus, Born, Ceded, Ended, RowKind, Plain}
+use Rattle.fiber_frames.proofs.Prelude.{Row, Waited, row_at, Cuts, Fiber, Looks, Move_case, Reduces, Rests, ask_in, ask_of, begins, child, cut, kind_in, move}
+use Rattle.fiber_frames.proofs.Prelude.{move_case, move_in, row_of, term_born, Reached, IsCode, ActionFits, AllClosed, A_deferred, A_fiber, A_ref, Closed}
+use Rattle.fiber_frames.proofs.Prelude.{Given, HandleFits, IsMore, No_handle, Place, given_of, made_by, AskNamed, NamedBeginning, NamedLive, NamedRun}
+use Rattle.fiber_frames.proofs.Prelude.{NumberGiven}
 use Rattle.effect_term.specs.declared.reply.Reply.TheVariants as reply
-use Rattle.fiber_frames.specs.Path.{At_final, At_term, Broken, Final, Over, Running, Runs, focus}
-use Rattle.fiber_frames.specs.Rows.{Born, Ceded, Ended, RowKind, Plain, Row, Waited, row_at}
-use Rattle.fiber_frames.specs.Fiber.{Cuts, Fiber, Looks, Move_case, Reduces, Rests, ask_in, ask_of, begins}
-use Rattle.fiber_frames.specs.Fiber.{child, cut, kind_in, kind_of, move, move_case, move_in, row_of, term_born}
+use Rattle.fiber_frames.specs.Fiber.{kind_of}
 use Rattle.fiber_frames.proofs.CallBeforeReply.{call_same}
 use Rattle.fiber_frames.proofs.Walk.{End, Gives, Throws, Works, active_root, end_of, finalizers_below, masks_below, root_row, row_root, walk}
 use Rattle.fiber_frames.proofs.Marks.Actions.{If_born}
 use Rattle.fiber_frames.proofs.Marks.Kept.{Kept, cut_once}
 use Rattle.fiber_frames.proofs.Marks.Moves.{cut_run, noted}
 use Rattle.fiber_frames.proofs.Reaching.{reached_kept}
-use Rattle.fiber_frames.specs.Reached.{Reached}
-use Rattle.derived_ops.specs.Codes.{IsCode}
 use Rattle.derived_ops.proofs.Coded.{named_code}
-use Rattle.derived_ops.specs.Naming.{ActionFits, AllClosed, A_deferred, A_fiber, A_ref, Closed, Given}
-use Rattle.derived_ops.specs.Naming.{HandleFits, IsMore, Named, No_handle, Place, given_of, made_by}
-use Rattle.fiber_frames.specs.Naming.{AskNamed, NamedBeginning, NamedLive, NamedRun, NumberGiven}
+use Rattle.derived_ops.specs.Naming.{Named}
 use Rattle.fiber_frames.proofs.Names.{RowNamed, closed_live, row_named}
 
 -- ---- more numbers

@@ -1,28 +1,18 @@
 -- A move names only what its fiber named, and the number that it was answered.
-use Rattle.std.proofs.Common.{◌≡◌, ◌≢◌, inl, inr, ℕ, zero, suc, ◌+◌, ◌<◌, Bool, true, false, if◌then◌else◌}
-use Rattle.std.proofs.Common.{nat_eq, List, [], ◌∷◌, ◌++◌, length, get_or, replicate, Option, Some, None, refl}
-use Rattle.std.proofs.Common.{sym, ap, ◌∙◌, subst, arith, append_assoc, length-append}
-use Rattle.std.specs.Prelude.{pos, ◌+ℤ◌, ℤ}
-use Rattle.std.proofs.lemmas.Bool.{eqb-true, eqb-false}
-use Rattle.std.proofs.lemmas.List.{replicate_more}
-use Rattle.derived_ops.specs.Put.{Put, Put_handle, Put_mask, Put_value, handle_at, put}
-use Rattle.derived_ops.specs.Tree.{Act, Action, Add, Always, Await, Cancel, Canceled, Cede, Complete, Ending}
-use Rattle.derived_ops.specs.Tree.{Get, Guarded, Handle, Handled, If0, Join, Known, Last, Let, Loop, Make}
-use Rattle.derived_ops.specs.Tree.{Maker, Mask, Masked, Modify, Never, New_deferred, New_ref, Note, Number}
-use Rattle.derived_ops.specs.Tree.{On_cancel, Open_slot, Pair, Poll, Polled, Pure, Raise, Request, Rest, Say}
-use Rattle.derived_ops.specs.Tree.{Seq, Set, Start, Times, Tree, Turns, Uncancelable}
-use Rattle.effect_term.specs.declared.reply.Outcome.{Outcome}
+use Rattle.fiber_frames.proofs.Prelude.{◌≡◌, ◌≢◌, inl, inr, ℕ, zero, suc, ◌+◌, ◌<◌, Bool, true, false, if◌then◌else◌, nat_eq, List, [], ◌∷◌, ◌++◌, length}
+use Rattle.fiber_frames.proofs.Prelude.{get_or, replicate, Option, Some, None, refl, sym, ap, ◌∙◌, subst, arith, append_assoc, length-append, pos, ◌+ℤ◌, ℤ}
+use Rattle.fiber_frames.proofs.Prelude.{eqb-true, eqb-false, replicate_more, Put, Put_handle, Put_mask, Put_value, handle_at, put, Act, Action, Add, Always}
+use Rattle.fiber_frames.proofs.Prelude.{Await, Cancel, Canceled, Cede, Complete, Ending, Get, Guarded, Handle, Handled, If0, Join, Known, Last, Let, Loop, Make}
+use Rattle.fiber_frames.proofs.Prelude.{Maker, Mask, Masked, Modify, Never, New_deferred, New_ref, Note, Number, On_cancel, Open_slot, Pair, Poll, Polled, Pure}
+use Rattle.fiber_frames.proofs.Prelude.{Raise, Request, Rest, Say, Seq, Set, Start, Times, Tree, Turns, Uncancelable, Outcome, Reply, Ask, In_guarded}
+use Rattle.fiber_frames.proofs.Prelude.{In_handle, In_let, In_masked, In_polled, In_seq, undone, Row, action_row, after_end, after_read, branch, fits, is_ended}
+use Rattle.fiber_frames.proofs.Prelude.{is_positive, is_zero, looped, number_in, number_of, one_less, outcome_in, read_in, unit, ActionFits, A_deferred}
+use Rattle.fiber_frames.proofs.Prelude.{A_fiber, A_ref, Closed, Given, HandleFits, No_handle, Place, given_of, made_by, AskNamed, NamedLive, NumberGiven}
 use Rattle.effect_term.specs.declared.reply.Outcome.TheVariants as outcome
-use Rattle.effect_term.specs.declared.reply.Reply.{Reply}
-use Rattle.fiber_frames.specs.declared.ask.Ask.{Ask}
 use Rattle.fiber_frames.specs.declared.ask.Ask.TheVariants as ask
-use Rattle.fiber_frames.specs.Path.{In_guarded, In_handle, In_let, In_masked, In_polled, In_seq, undone}
-use Rattle.fiber_frames.specs.Rows.{Row, action_row, after_end, after_read, branch, fits, is_ended, is_positive}
-use Rattle.fiber_frames.specs.Rows.{is_zero, looped, number_in, number_of, one_less, outcome_in, read_in, unit}
 use Rattle.fiber_frames.proofs.Walk.{End, Gives, Throws, Works, end_of, under, walk}
 use Rattle.fiber_frames.proofs.Marks.Actions.{If_born, none_born, wait_none}
-use Rattle.derived_ops.specs.Naming.{ActionFits, A_deferred, A_fiber, A_ref, Closed, Given, HandleFits, Named, No_handle, Place, given_of, made_by}
-use Rattle.fiber_frames.specs.Naming.{AskNamed, NamedLive, NumberGiven}
+use Rattle.derived_ops.specs.Naming.{Named}
 
 -- ---- scopes
 pub get_other : (g d : List Place) (c e : Place) (s : ℕ) → s ≢ length g → get_or (g ++ c ∷ d) s No_handle ≡ get_or (g ++ e ∷ d) s No_handle

@@ -1,15 +1,7 @@
 -- What a fiber at a place uses is what its leaf, its frames and its finalizers use.
-use Rattle.std.proofs.Common.{◌≡◌, ◌<◌, ◌≤◌, ℕ, zero, suc, ◌+◌, List, [], ◌∷◌, map, take, length, reverse, get_or, refl, ap, ◌∙◌, arith}
-use mathlib.Core.List.{reverse_aux}
-use Rattle.derived_ops.specs.Tree.{Tree}
-use Rattle.fiber_frames.specs.declared.uses.Use.{Use}
-use Rattle.fiber_frames.specs.declared.frame.Frame.{Frame}
-use Rattle.fiber_frames.specs.declared.frame.Pending.{Pending}
-use Rattle.fiber_frames.specs.declared.machine.Machine.{Machine}
-use Rattle.fiber_frames.specs.Frames.{finalizer_of, finalizers_of, leaf_tree, step_of, steps_of}
-use Rattle.fiber_frames.specs.Machines.{state_of}
-use Rattle.fiber_frames.specs.Path.{PathStep, In_let, In_seq, In_handle, In_guarded, In_masked, In_polled, around, whole}
-use Rattle.fiber_frames.specs.Hits.{all_hits, path_hits, step_hits, tree_hits}
+use Rattle.fiber_frames.proofs.Prelude.{◌≡◌, ◌<◌, ◌≤◌, ℕ, zero, suc, ◌+◌, List, [], ◌∷◌, map, take, length, reverse, get_or, refl, ap, ◌∙◌, arith, reverse_aux}
+use Rattle.fiber_frames.proofs.Prelude.{Tree, Use, Frame, Pending, Machine, finalizer_of, finalizers_of, leaf_tree, step_of, steps_of, state_of, PathStep}
+use Rattle.fiber_frames.proofs.Prelude.{In_let, In_seq, In_handle, In_guarded, In_masked, In_polled, around, whole, all_hits, path_hits, step_hits, tree_hits}
 
 -- ---- sums over lists
 abbrev pub total : {A : Type 0} → (A → ℕ) → List A → ℕ

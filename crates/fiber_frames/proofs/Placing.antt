@@ -1,13 +1,7 @@
 -- The places of masks: each of those that are listed has one of its own, and who is renumbered so keeps the places.
-use Rattle.std.proofs.Common.{◌≡◌, ◌≢◌, ◌<◌, ℕ, zero, suc, Bool, true, false, if◌then◌else◌, nat_eq, List, [], ◌∷◌, ◌++◌, length, map, refl, sym, ap, ap₂, ◌∙◌, subst, arith}
-use Rattle.std.specs.Prelude.{◌&&◌}
-use Rattle.std.proofs.lemmas.Bool.{eq-eqb, eqb-false, eqb-true, ne_eqb}
-use Rattle.std.proofs.lemmas.List.{length-map}
-use Rattle.derived_ops.specs.Tree.{Mask, Named, Pair}
-use Rattle.fiber_frames.specs.declared.ask.Look.{Look}
-use Rattle.fiber_frames.specs.Path.{Running, same_mask}
-use Rattle.fiber_frames.specs.Fiber.{Fiber}
-use Rattle.fiber_frames.specs.Unmarked.{mask_to, masks_of, one_on, own_place, place_in, placed_in, run_renumbered, run_unmarked, unmarked}
+use Rattle.fiber_frames.proofs.Prelude.{◌≡◌, ◌≢◌, ◌<◌, ℕ, zero, suc, Bool, true, false, if◌then◌else◌, nat_eq, List, [], ◌∷◌, ◌++◌, length, map, refl, sym, ap}
+use Rattle.fiber_frames.proofs.Prelude.{ap₂, ◌∙◌, subst, arith, ◌&&◌, eq-eqb, eqb-false, eqb-true, ne_eqb, length-map, Mask, Named, Pair, Look, Running}
+use Rattle.fiber_frames.proofs.Prelude.{same_mask, Fiber, mask_to, masks_of, one_on, own_place, place_in, placed_in, run_renumbered, run_unmarked, unmarked}
 use Rattle.fiber_frames.proofs.Composing.{both, masks_of_to, run_twice, same_to}
 use Rattle.fiber_frames.proofs.Renumbering.{Each}
 

@@ -1,23 +1,11 @@
 -- What is reached keeps lawful marks and few masks; and children are reached.
-use Rattle.std.proofs.Common.{◌≡◌, ◌<◌, ◌≤◌, ℕ, List, length, sym, ap, ◌∙◌, subst}
-use Rattle.effect_term.specs.declared.reply.Reply.{Reply}
+use Rattle.fiber_frames.proofs.Prelude.{◌≡◌, ◌<◌, ◌≤◌, ℕ, List, length, sym, ap, ◌∙◌, subst, Reply, Tree, Ask, RowEnd, number_in, Fiber, begins, Reduces}
+use Rattle.fiber_frames.proofs.Prelude.{move_case, row_of, ask_of, kind_in, term_born, active_of, outcome_of, Answers, AreLawful, Reached, root, moved, born}
+use Rattle.fiber_frames.proofs.Prelude.{broken, Look, Mark, Broken, State, fiber_of, kind_of_row_end, BornReached}
 use Rattle.effect_term.specs.declared.reply.Reply.TheVariants as reply
-use Rattle.derived_ops.specs.Tree.{Tree}
-use Rattle.fiber_frames.specs.declared.ask.Ask.{Ask}
 use Rattle.fiber_frames.specs.declared.ask.Ask.TheVariants as ask
-use Rattle.fiber_frames.specs.declared.frame.RowEnd.{RowEnd}
 use Rattle.fiber_frames.specs.declared.frame.RowEnd.TheVariants as row_end
-use Rattle.fiber_frames.specs.Rows.{number_in}
-use Rattle.fiber_frames.specs.Fiber.{Fiber, begins, Reduces, move_case, row_of, ask_of, kind_in, term_born, active_of, outcome_of}
-use Rattle.fiber_frames.specs.Answers.{Answers}
-use Rattle.fiber_frames.specs.Marks.{AreLawful}
-use Rattle.fiber_frames.specs.Reached.{Reached, root, moved, born, broken}
 use Rattle.fiber_frames.specs.declared.frame.RunStage.TheVariants as stage
-use Rattle.fiber_frames.specs.declared.ask.Look.{Look}
-use Rattle.fiber_frames.specs.declared.mark.Mark.{Mark}
-use Rattle.fiber_frames.specs.Path.{Broken}
-use Rattle.fiber_frames.specs.Frames.{State, fiber_of}
-use Rattle.fiber_frames.specs.Told.{kind_of_row_end, BornReached}
 use Rattle.fiber_frames.proofs.CallBeforeReply.{row_of_call}
 use Rattle.fiber_frames.proofs.Children.{born_same, born_asks}
 use Rattle.fiber_frames.proofs.Marks.Kept.{Kept, kept_root, kept_moved, kept_born, kept_lost, kept_marks, kept_active}

@@ -1,14 +1,11 @@
 -- A move does the same, whatever numbers the masks have.
-use Rattle.std.proofs.Common.{◌≡◌, ℕ, ◌+◌, List, [], ◌∷◌, ◌++◌, refl, sym, ap, ap₂, ◌∙◌, subst}
-use Rattle.derived_ops.specs.Put.{Put, mask_at}
-use Rattle.derived_ops.specs.Tree.{Guarded, Handled, Let, Mask, Masked, Pair, Polled, Seq, Tree}
-use Rattle.effect_term.specs.declared.reply.Reply.{Reply}
+use Rattle.fiber_frames.proofs.Prelude.{◌≡◌, ℕ, ◌+◌, List, [], ◌∷◌, ◌++◌, refl, sym, ap, ap₂, ◌∙◌, subst, Put, mask_at, Guarded, Handled, Let, Mask, Masked}
+use Rattle.fiber_frames.proofs.Prelude.{Pair, Polled, Seq, Tree, Reply, Look, At_final, At_term, Broken, Final, Over, Root, Running, Runs, active_at, focus}
+use Rattle.fiber_frames.proofs.Prelude.{path, pending, pending_at, Row, mask_number, row_at, Cuts, Fiber, Looks, Move_case, Reduces, Rests, active_of, ask_in}
+use Rattle.fiber_frames.proofs.Prelude.{ask_of, case_in, case_under, kind_in, move, move_case, move_in, row_of, all_renumbered, masks_first, masks_of, masks_on}
+use Rattle.fiber_frames.proofs.Prelude.{number_to, renumbered, run_renumbered}
 use Rattle.effect_term.specs.declared.reply.Reply.TheVariants as reply
-use Rattle.fiber_frames.specs.declared.ask.Look.{Look}
-use Rattle.fiber_frames.specs.Path.{At_final, At_term, Broken, Final, Over, Root, Running, Runs, active_at, focus, path, pending, pending_at}
-use Rattle.fiber_frames.specs.Rows.{Row, mask_number, row_at}
-use Rattle.fiber_frames.specs.Fiber.{Cuts, Fiber, Looks, Move_case, Reduces, Rests, active_of, ask_in, ask_of, case_in, case_under, kind_in, kind_of, move, move_case, move_in, row_of}
-use Rattle.fiber_frames.specs.Unmarked.{all_renumbered, masks_first, masks_of, masks_on, number_to, renumbered, run_renumbered}
+use Rattle.fiber_frames.specs.Fiber.{kind_of}
 use Rattle.fiber_frames.proofs.Walk.{End, Gives, Throws, Works, active_path, active_root, end_of, finalizers_below, masks_below, pending_root, root_row, row_root, walk}
 use Rattle.fiber_frames.proofs.Renumbering.{AlikeRow, Each, IsKept, end_to, kind_renumbered, kept_undone, masks_to, undone_to, walk_alike}
 

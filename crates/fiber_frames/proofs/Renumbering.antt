@@ -1,21 +1,15 @@
 -- A row does the same, whatever numbers the masks have.
-use Rattle.std.proofs.Common.{◌≡◌, ℕ, ◌+◌, Bool, true, false, if◌then◌else◌, List, [], ◌∷◌, Option, Some, None, refl, sym, ap, ap₂, ◌∙◌, subst}
-use Rattle.std.specs.Prelude.{ℤ, pos, ◌+ℤ◌}
-use Rattle.derived_ops.specs.Put.{Put, Put_handle, Put_mask, Put_value, action_at, handle_at, maker_at, mask_at, put, turns_at, value_at}
-use Rattle.derived_ops.specs.Tree.{Act, Action, Add, Always, Await, Cancel, Canceled, Cede, Complete, Ending}
-use Rattle.derived_ops.specs.Tree.{Get, Guarded, Handle, Handled, If0, Join, Known, Last, Let, Loop, Make}
-use Rattle.derived_ops.specs.Tree.{Maker, Mask, Masked, Modify, Named, Never, New_deferred, New_ref, Note, Number}
-use Rattle.derived_ops.specs.Tree.{On_cancel, Open_slot, Operand, Pair, Poll, Polled, Pure, Raise, Request, Say}
-use Rattle.derived_ops.specs.Tree.{Seq, Set, Slot, Start, Times, Tree, Turns, Uncancelable}
-use Rattle.effect_term.specs.declared.reply.Outcome.{Outcome}
+use Rattle.fiber_frames.proofs.Prelude.{◌≡◌, ℕ, ◌+◌, Bool, true, false, if◌then◌else◌, List, [], ◌∷◌, Option, Some, None, refl, sym, ap, ap₂, ◌∙◌, subst, ℤ}
+use Rattle.fiber_frames.proofs.Prelude.{pos, ◌+ℤ◌, Put, Put_handle, Put_mask, Put_value, action_at, handle_at, maker_at, mask_at, put, turns_at, value_at, Act}
+use Rattle.fiber_frames.proofs.Prelude.{Action, Add, Always, Await, Cancel, Canceled, Cede, Complete, Ending, Get, Guarded, Handle, Handled, If0, Join, Known}
+use Rattle.fiber_frames.proofs.Prelude.{Last, Let, Loop, Make, Maker, Mask, Masked, Modify, Named, Never, New_deferred, New_ref, Note, Number, On_cancel}
+use Rattle.fiber_frames.proofs.Prelude.{Open_slot, Operand, Pair, Poll, Polled, Pure, Raise, Request, Say, Seq, Set, Slot, Start, Times, Tree, Turns}
+use Rattle.fiber_frames.proofs.Prelude.{Uncancelable, Outcome, Reply, Ask, In_guarded, In_handle, In_let, In_masked, In_polled, In_seq, PathStep, around}
+use Rattle.fiber_frames.proofs.Prelude.{is_effective, same_mask, undone, without_first, Born, Ceded, Ended, Plain, Row, RowKind, Waited, action_row, after_end}
+use Rattle.fiber_frames.proofs.Prelude.{after_read, branch, fits, is_ended, is_positive, is_zero, looped, mask_number, number_in, number_of, one_less}
+use Rattle.fiber_frames.proofs.Prelude.{outcome_in, read_in, unit, wait, mask_to, masks_on, number_to, renumbered}
 use Rattle.effect_term.specs.declared.reply.Outcome.TheVariants as outcome
-use Rattle.effect_term.specs.declared.reply.Reply.{Reply}
-use Rattle.fiber_frames.specs.declared.ask.Ask.{Ask}
 use Rattle.fiber_frames.specs.declared.ask.Ask.TheVariants as ask
-use Rattle.fiber_frames.specs.Path.{In_guarded, In_handle, In_let, In_masked, In_polled, In_seq, PathStep, around, is_effective, same_mask, undone, without_first}
-use Rattle.fiber_frames.specs.Rows.{Born, Ceded, Ended, Plain, Row, RowKind, Waited, action_row, after_end, after_read, branch, fits, is_ended, is_positive}
-use Rattle.fiber_frames.specs.Rows.{is_zero, looped, mask_number, number_in, number_of, one_less, outcome_in, read_in, unit, wait}
-use Rattle.fiber_frames.specs.Unmarked.{mask_to, masks_on, number_to, renumbered}
 use Rattle.fiber_frames.proofs.Walk.{End, Gives, Throws, Works, end_of, under, walk}
 
 -- what a kind of move starts, with its masks' numbers changed

@@ -1,17 +1,8 @@
 -- Fibers that are at the same, but for what is bound where neither looks any more, are one.
-use Rattle.std.proofs.Common.{◌≡◌, ℕ, List, [], ◌∷◌, map, reverse, refl, sym, ap, ap₂, ◌∙◌}
-use mathlib.Core.List.{reverse_aux}
-use Rattle.derived_ops.specs.Tree.{Tree}
-use Rattle.derived_ops.specs.declared.core_word.CoreWord.{CoreWord}
-use Rattle.fiber_frames.specs.declared.frame.Frame.{Frame}
-use Rattle.fiber_frames.specs.declared.frame.Pending.{Pending}
-use Rattle.fiber_frames.specs.declared.frame.RunStage.{RunStage}
+use Rattle.fiber_frames.proofs.Prelude.{◌≡◌, ℕ, List, [], ◌∷◌, map, reverse, refl, sym, ap, ap₂, ◌∙◌, reverse_aux, Tree, CoreWord, Frame, Pending, RunStage}
+use Rattle.fiber_frames.proofs.Prelude.{Machine, Leaf, PathStep, whole, finalizer_of, finalizers_of, leaf_of, leaf_tree, running_in, running_of, step_of}
+use Rattle.fiber_frames.proofs.Prelude.{steps_of, IsOver, SameCourse, SameParts, fiber_in, state_of}
 use Rattle.fiber_frames.specs.declared.frame.RunStage.TheVariants as stage
-use Rattle.fiber_frames.specs.declared.machine.Machine.{Machine}
-use Rattle.fiber_frames.specs.Leaf.{Leaf}
-use Rattle.fiber_frames.specs.Path.{PathStep, whole}
-use Rattle.fiber_frames.specs.Frames.{finalizer_of, finalizers_of, leaf_of, leaf_tree, running_in, running_of, step_of, steps_of}
-use Rattle.fiber_frames.specs.Machines.{IsOver, SameCourse, SameParts, fiber_in, state_of}
 
 map_onto : {A B : Type 0} (to : A → B) (xs ys : List A) → map to (reverse_aux xs ys) ≡ reverse_aux (map to xs) (map to ys)
 map_onto to [] ys = refl

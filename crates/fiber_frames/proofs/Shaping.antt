@@ -1,36 +1,22 @@
 -- A machine in which each mask has its place on the path for its number is that of the fiber without its marks.
-use Rattle.std.proofs.Common.{◌≡◌, ℕ, zero, suc, ◌+◌, true, false, if◌then◌else◌, nat_lt, List, [], ◌∷◌, ◌++◌, Option, Some, None, length, map, reverse, slice_get, refl, sym, ap, ap₂, ◌∙◌}
-use Rattle.std.specs.Prelude.{pos}
-use mathlib.Core.List.{reverse_aux}
-use Rattle.std.proofs.Math.Path.{fun_ext}
-use Rattle.std.proofs.lemmas.List.{append-nil}
-use Rattle.derived_ops.specs.Tree.{Act, Action, Always, Cancel, Guarded, Handle, Handled, If0, Join, Last, Let, Loop, Make, Maker, Mask, Masked}
-use Rattle.derived_ops.specs.Tree.{Add, Await, Canceled, Cede, Complete, Ending, Get, Known, Modify, Named, Never, New_deferred, New_ref, Note, Number, On_cancel}
-use Rattle.derived_ops.specs.Tree.{Open_slot, Operand, Pair, Poll, Polled, Pure, Raise, Request, Say, Seq, Set, Slot, Start, Times, Tree, Turns, Uncancelable}
-use Rattle.derived_ops.specs.Words.{second, third, tree_at, word_tree}
-use Rattle.derived_ops.specs.declared.core_word.CoreWord.{CoreWord}
+use Rattle.fiber_frames.proofs.Prelude.{◌≡◌, ℕ, zero, suc, ◌+◌, true, false, if◌then◌else◌, nat_lt, List, [], ◌∷◌, ◌++◌, Option, Some, None, length, map}
+use Rattle.fiber_frames.proofs.Prelude.{reverse, slice_get, refl, sym, ap, ap₂, ◌∙◌, pos, reverse_aux, fun_ext, append-nil, Act, Action, Always, Cancel}
+use Rattle.fiber_frames.proofs.Prelude.{Guarded, Handle, Handled, If0, Join, Last, Let, Loop, Make, Maker, Mask, Masked, Add, Await, Canceled, Cede, Complete}
+use Rattle.fiber_frames.proofs.Prelude.{Ending, Get, Known, Modify, Named, Never, New_deferred, New_ref, Note, Number, On_cancel, Open_slot, Operand, Pair}
+use Rattle.fiber_frames.proofs.Prelude.{Poll, Polled, Pure, Raise, Request, Say, Seq, Set, Slot, Start, Times, Tree, Turns, Uncancelable, second, third}
+use Rattle.fiber_frames.proofs.Prelude.{tree_at, word_tree, CoreWord, EnvEntry, Frame, Pending, RunStage, Machine, The_mark, Look, Env, close, close_action}
+use Rattle.fiber_frames.proofs.Prelude.{close_handle, close_maker, close_mask, close_turns, close_value, env_of, handle_or, mask_or, value_or, Fiber}
+use Rattle.fiber_frames.proofs.Prelude.{finalizer_of, finalizers_of, leaf_of, running_in, running_of, step_of, Leaf, leaf_in, fiber_in, state_of, In_guarded}
+use Rattle.fiber_frames.proofs.Prelude.{In_handle, In_let, In_masked, In_polled, In_seq, PathStep, Running, around, whole, entry_placed, frame_placed}
+use Rattle.fiber_frames.proofs.Prelude.{numbers_in, path_masks, stage_placed, all_renumbered, mask_to, masks_of, masks_on, number_to, placed_in, renumbered}
+use Rattle.fiber_frames.proofs.Prelude.{run_renumbered, run_unmarked, unmarked}
 use Rattle.derived_ops.specs.declared.core_word.CoreWord.TheVariants as word
-use Rattle.fiber_frames.specs.declared.env.EnvEntry.{EnvEntry}
 use Rattle.fiber_frames.specs.declared.env.EnvEntry.TheVariants as entry
-use Rattle.fiber_frames.specs.declared.frame.Frame.{Frame}
 use Rattle.fiber_frames.specs.declared.frame.Frame.TheVariants as frame
-use Rattle.fiber_frames.specs.declared.frame.Pending.{Pending}
-use Rattle.fiber_frames.specs.declared.frame.RunStage.{RunStage}
 use Rattle.fiber_frames.specs.declared.frame.RunStage.TheVariants as stage
 use Rattle.fiber_frames.specs.declared.operand.Mask.TheVariants as mask
-use Rattle.fiber_frames.specs.declared.machine.Machine.{Machine}
 use Rattle.fiber_frames.specs.declared.frame.Place.{Place}
-use Rattle.fiber_frames.specs.declared.mark.Mark.{Mark as The_mark}
-use Rattle.fiber_frames.specs.declared.ask.Look.{Look}
-use Rattle.fiber_frames.specs.Env.{Env, close, close_action, close_handle, close_maker, close_mask, close_turns, close_value, env_of, handle_or, mask_or, value_or}
-use Rattle.fiber_frames.specs.Fiber.{Fiber}
-use Rattle.fiber_frames.specs.Frames.{finalizer_of, finalizers_of, leaf_of, running_in, running_of, step_of}
 use Rattle.fiber_frames.specs.Leaf as leaf
-use Rattle.fiber_frames.specs.Leaf.{Leaf, leaf_in}
-use Rattle.fiber_frames.specs.Machines.{fiber_in, state_of}
-use Rattle.fiber_frames.specs.Path.{In_guarded, In_handle, In_let, In_masked, In_polled, In_seq, PathStep, Running, around, whole}
-use Rattle.fiber_frames.specs.Shapes.{entry_placed, frame_placed, numbers_in, path_masks, stage_placed}
-use Rattle.fiber_frames.specs.Unmarked.{all_renumbered, mask_to, masks_of, masks_on, number_to, placed_in, renumbered, run_renumbered, run_unmarked, unmarked}
 
 -- ---- terms without numbers of masks, and without the forms that only a running fiber has
 abbrev Unnumbered : Mask → Type 0

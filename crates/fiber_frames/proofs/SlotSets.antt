@@ -1,28 +1,21 @@
 -- Sets of slots by the bits of a number, and what terms need of them.
-use Rattle.std.proofs.Common.{◌≡◌, ◌≢◌, inl, inr, ◌<◌, ◌≤◌, ℕ, ◌+◌, ◌-◌, ◌*◌, ◌%◌, ◌^◌, List, [], ◌∷◌, ◌++◌, map, take, length, set, get_or, get_or-set_same, get_or-set_other, refl, sym, ap, ap₂, ◌∙◌, subst, arith}
+use Rattle.fiber_frames.proofs.Prelude.{◌≡◌, ◌≢◌, inl, inr, ◌<◌, ◌≤◌, ℕ, ◌+◌, ◌-◌, ◌*◌, ◌%◌, ◌^◌, List, [], ◌∷◌, ◌++◌, map, take, length, set, get_or}
+use Rattle.fiber_frames.proofs.Prelude.{get_or-set_same, get_or-set_other, refl, sym, ap, ap₂, ◌∙◌, subst, arith, cases_lt, lt-ltb, le-ltb, max, min}
+use Rattle.fiber_frames.proofs.Prelude.{slice_index, map_more, Tree, Act, Let, Seq, Handled, Start, Uncancelable, On_cancel, Never, CoreWord, rest_of, second}
+use Rattle.fiber_frames.proofs.Prelude.{third, tree_at, word_at, word_tree, tree_past_end, tree_word, EnvEntry, Env, close, env_of, WordKind, leaf_by, Agree}
+use Rattle.fiber_frames.proofs.Prelude.{AreSameAt, Names, Needs, NeedsAt, many_parts}
 use mathlib.Core.Logic.{dite}
 use native.Mathlib.Decide.{ℕ_discrete}
-use Rattle.std.proofs.lemmas.Bool.{cases_lt, lt-ltb, le-ltb}
-use Rattle.std.specs.Prelude.{max, min, slice_index}
 use Rattle.std.specs.Int.{bit_at}
 use Rattle.std.specs.Int.RustNames.{bit_and, bit_or}
 use Rattle.std.specs.List.{slice_get}
-use Rattle.std.proofs.lemmas.List.{map_more}
 use Rattle.std.proofs.lemmas.Nat.{one_shl}
 use Rattle.std.proofs.lemmas.Nat.Bits.{bit_at-lt, bit_at-pow_same, bit_at_and, bit_at_ones, bit_at_or}
-use Rattle.derived_ops.specs.Tree.{Tree, Act, Let, Seq, Handled, Start, Uncancelable, On_cancel, Never}
-use Rattle.derived_ops.specs.declared.core_word.CoreWord.{CoreWord}
 use Rattle.derived_ops.specs.declared.core_word.CoreWord.TheVariants as word
-use Rattle.derived_ops.specs.Words.{rest_of, second, third, tree_at, word_at, word_tree}
-use Rattle.derived_ops.proofs.Words.{tree_past_end, tree_word}
-use Rattle.fiber_frames.specs.declared.env.EnvEntry.{EnvEntry}
-use Rattle.fiber_frames.specs.Env.{Env, close, env_of}
 use Rattle.fiber_frames.specs.declared.frame.Place.{Place}
-use Rattle.fiber_frames.specs.declared.kind.WordKind.{WordKind}
 use Rattle.fiber_frames.specs.declared.kind.WordKind.TheVariants as kind
 use Rattle.fiber_frames.specs.Leaf as leaf
-use Rattle.fiber_frames.specs.Leaf.{leaf_by}
-use Rattle.fiber_frames.specs.SlotNames.{Agree, AreSameAt, Has, Names, Needs, NeedsAt, many_parts}
+use Rattle.fiber_frames.specs.SlotNames.{Has}
 
 -- ---- sets
 max_one : (x y z : ℕ) → z ≡ max x y → x ≡ 1 → y < 2 → z ≡ 1

@@ -1,14 +1,10 @@
 -- What a row leaves on the focus path: masks that were there, and the one that it enters.
-use Rattle.std.proofs.Common.{◌≡◌, ◌⊎◌, inl, inr, ℕ, ◌+◌, true, false, if◌then◌else◌, List, [], ◌∷◌, Option, Some, None, refl, sym, subst}
-use Rattle.derived_ops.specs.Put.{Put, Put_handle, Put_mask, Put_value, put}
-use Rattle.derived_ops.specs.Tree.{Act, Always, Cancel, Guarded, Handle, Handled, If0, Join, Last, Let, Loop, Make, Mask, Masked}
-use Rattle.derived_ops.specs.Tree.{New_deferred, New_ref, Note, On_cancel, Pair, Poll, Polled, Pure, Raise, Seq, Start, Times, Tree, Turns, Uncancelable}
-use Rattle.effect_term.specs.declared.reply.Outcome.{Outcome}
+use Rattle.fiber_frames.proofs.Prelude.{◌≡◌, ◌⊎◌, inl, inr, ℕ, ◌+◌, true, false, if◌then◌else◌, List, [], ◌∷◌, Option, Some, None, refl, sym, subst, Put}
+use Rattle.fiber_frames.proofs.Prelude.{Put_handle, Put_mask, Put_value, put, Act, Always, Cancel, Guarded, Handle, Handled, If0, Join, Last, Let, Loop, Make}
+use Rattle.fiber_frames.proofs.Prelude.{Mask, Masked, New_deferred, New_ref, Note, On_cancel, Pair, Poll, Polled, Pure, Raise, Seq, Start, Times, Tree, Turns}
+use Rattle.fiber_frames.proofs.Prelude.{Uncancelable, Outcome, Reply, In_guarded, In_handle, In_let, In_masked, In_polled, In_seq, PathStep, undone, Row}
+use Rattle.fiber_frames.proofs.Prelude.{branch, is_positive, is_zero, looped, number_in, number_of, one_less, outcome_in, unit, masks_on}
 use Rattle.effect_term.specs.declared.reply.Outcome.TheVariants as outcome
-use Rattle.effect_term.specs.declared.reply.Reply.{Reply}
-use Rattle.fiber_frames.specs.Path.{In_guarded, In_handle, In_let, In_masked, In_polled, In_seq, PathStep, undone}
-use Rattle.fiber_frames.specs.Rows.{Row, branch, is_positive, is_zero, looped, number_in, number_of, one_less, outcome_in, unit}
-use Rattle.fiber_frames.specs.Unmarked.{masks_on}
 use Rattle.fiber_frames.proofs.Walk.{End, Gives, Throws, Works, end_of, under, walk}
 use Rattle.fiber_frames.proofs.Marks.Actions.{If_born, Simple, a_value, action_case, an_action, an_error, none_born, wait_none}
 use Rattle.fiber_frames.proofs.Marks.Cutting.{Live, Static}

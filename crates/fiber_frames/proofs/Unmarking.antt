@@ -1,15 +1,11 @@
 -- How a fiber goes on depends neither on its marks nor on the numbers of its masks.
-use Rattle.std.proofs.Common.{◌≡◌, ◌≢◌, ◌<◌, ℕ, zero, suc, ◌+◌, Bool, true, false, if◌then◌else◌, nat_eq, List, [], ◌∷◌, ◌++◌, Option, length, refl, sym, ap, ap₂, ◌∙◌, subst, arith}
-use Rattle.std.proofs.lemmas.Bool.{eq-eqb}
-use Rattle.derived_ops.specs.Put.{Put, mask_at}
-use Rattle.derived_ops.specs.Tree.{Mask, Pair, Tree}
-use Rattle.effect_term.specs.declared.reply.Reply.{Reply}
+use Rattle.fiber_frames.proofs.Prelude.{◌≡◌, ◌≢◌, ◌<◌, ℕ, zero, suc, ◌+◌, Bool, true, false, if◌then◌else◌, nat_eq, List, [], ◌∷◌, ◌++◌, Option, length, refl}
+use Rattle.fiber_frames.proofs.Prelude.{sym, ap, ap₂, ◌∙◌, subst, arith, eq-eqb, Put, mask_at, Mask, Pair, Tree, Reply, Broken, Final, Over, Running, Runs}
+use Rattle.fiber_frames.proofs.Prelude.{Born, Ceded, Ended, Plain, RowKind, Waited, Cuts, Fiber, Looks, Move_case, Reduces, Rests, ask_of, begins, child, move}
+use Rattle.fiber_frames.proofs.Prelude.{move_case, move_in, outcome_of, term_born, Reached, masks_of, masks_on, number_to, own_place, place_in, placed_in}
+use Rattle.fiber_frames.proofs.Prelude.{renumbered, run_renumbered, run_unmarked, unmarked}
 use Rattle.effect_term.specs.declared.reply.Reply.TheVariants as reply
-use Rattle.fiber_frames.specs.Path.{Broken, Final, Over, Running, Runs}
-use Rattle.fiber_frames.specs.Rows.{Born, Ceded, Ended, Plain, RowKind, Waited}
-use Rattle.fiber_frames.specs.Fiber.{Cuts, Fiber, Looks, Move_case, Reduces, Rests, ask_of, begins, child, kind_of, move, move_case, move_in, outcome_of, outcome_in, term_born}
-use Rattle.fiber_frames.specs.Reached.{Reached}
-use Rattle.fiber_frames.specs.Unmarked.{masks_of, masks_on, number_to, own_place, place_in, placed_in, renumbered, run_renumbered, run_unmarked, unmarked}
+use Rattle.fiber_frames.specs.Fiber.{kind_of, outcome_in}
 use Rattle.fiber_frames.proofs.Marks.Cutting.{Static}
 use Rattle.fiber_frames.proofs.Marks.Runs.{LiveRun, live_run}
 use Rattle.fiber_frames.proofs.Reaching.{reached_kept}

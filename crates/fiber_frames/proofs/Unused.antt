@@ -1,25 +1,17 @@
 -- What uses nothing so goes on to what uses nothing so: a put, and a row.
-use Rattle.std.proofs.Common.{◌≡◌, ◌≢◌, ◌⊎◌, inl, inr, ℕ, ◌+◌, Bool, true, false, if◌then◌else◌, nat_eq, List, ◌∷◌, Option, Some, None, refl, sym, ap, ◌∙◌, subst, arith}
-use Rattle.std.specs.Prelude.{ℤ, pos, ◌+ℤ◌}
-use Rattle.std.proofs.lemmas.Bool.{eqb-true, eqb-false, eq-eqb}
-use Rattle.derived_ops.specs.Put.{Put, Put_handle, Put_mask, Put_value, action_at, handle_at, put}
-use Rattle.derived_ops.specs.Tree.{Act, Action, Add, Always, Await, Cancel, Canceled, Cede, Complete, Ending}
-use Rattle.derived_ops.specs.Tree.{Get, Guarded, Handle, Handled, If0, Join, Known, Last, Let, Loop, Make}
-use Rattle.derived_ops.specs.Tree.{Mask, Masked, Modify, Never, New_deferred, New_ref, Note, Number}
-use Rattle.derived_ops.specs.Tree.{On_cancel, Open_slot, Pair, Poll, Polled, Pure, Raise, Request, Rest, Say}
-use Rattle.derived_ops.specs.Tree.{Seq, Set, Start, Times, Tree, Turns, Uncancelable}
-use Rattle.derived_ops.specs.Naming.{A_deferred, A_fiber, A_ref, No_handle, Place}
-use Rattle.effect_term.specs.declared.reply.Outcome.{Outcome}
+use Rattle.fiber_frames.proofs.Prelude.{◌≡◌, ◌≢◌, ◌⊎◌, inl, inr, ℕ, ◌+◌, Bool, true, false, if◌then◌else◌, nat_eq, List, ◌∷◌, Option, Some, None, refl, sym, ap}
+use Rattle.fiber_frames.proofs.Prelude.{◌∙◌, subst, arith, ℤ, pos, ◌+ℤ◌, eqb-true, eqb-false, eq-eqb, Put, Put_handle, Put_mask, Put_value, action_at}
+use Rattle.fiber_frames.proofs.Prelude.{handle_at, put, Act, Action, Add, Always, Await, Cancel, Canceled, Cede, Complete, Ending, Get, Guarded, Handle}
+use Rattle.fiber_frames.proofs.Prelude.{Handled, If0, Join, Known, Last, Let, Loop, Make, Mask, Masked, Modify, Never, New_deferred, New_ref, Note, Number}
+use Rattle.fiber_frames.proofs.Prelude.{On_cancel, Open_slot, Pair, Poll, Polled, Pure, Raise, Request, Rest, Say, Seq, Set, Start, Times, Tree, Turns}
+use Rattle.fiber_frames.proofs.Prelude.{Uncancelable, A_deferred, A_fiber, A_ref, No_handle, Place, Outcome, Reply, Ask, Use, In_guarded, In_handle, In_let}
+use Rattle.fiber_frames.proofs.Prelude.{In_masked, In_polled, In_seq, undone, Row, action_row, after_end, after_read, branch, fits, handle_number, is_ended}
+use Rattle.fiber_frames.proofs.Prelude.{is_positive, is_zero, looped, number_in, number_of, one_less, outcome_in, read_in, unit, Apart, AskApart, Bound}
+use Rattle.fiber_frames.proofs.Prelude.{NumberApart, By_none, By_other, Scope, action_uses, all_open, bound_by, handle_count, of_use, open_count, tree_uses}
+use Rattle.fiber_frames.proofs.Prelude.{under_binder, used_place}
 use Rattle.effect_term.specs.declared.reply.Outcome.TheVariants as outcome
-use Rattle.effect_term.specs.declared.reply.Reply.{Reply}
-use Rattle.fiber_frames.specs.declared.ask.Ask.{Ask}
 use Rattle.fiber_frames.specs.declared.ask.Ask.TheVariants as ask
-use Rattle.fiber_frames.specs.declared.uses.Use.{Use}
 use Rattle.fiber_frames.specs.declared.uses.Use.TheVariants as use_of
-use Rattle.fiber_frames.specs.Path.{In_guarded, In_handle, In_let, In_masked, In_polled, In_seq, undone}
-use Rattle.fiber_frames.specs.Rows.{Row, action_row, after_end, after_read, branch, fits, handle_number, is_ended, is_positive}
-use Rattle.fiber_frames.specs.Rows.{is_zero, looped, number_in, number_of, one_less, outcome_in, read_in, unit}
-use Rattle.fiber_frames.specs.Uses.{Apart, AskApart, Bound, NumberApart, By_none, By_other, Scope, action_uses, all_open, bound_by, handle_count, of_use, open_count, tree_uses, under as under_binder, used_place}
 use Rattle.fiber_frames.proofs.Walk.{End, Gives, Throws, Works, end_of, under, walk}
 use Rattle.fiber_frames.proofs.Marks.Actions.{If_born, none_born, wait_none}
 

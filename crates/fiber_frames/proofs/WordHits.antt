@@ -1,15 +1,7 @@
 -- What the term at a word uses is what the word itself and its parts use.
-use Rattle.std.proofs.Common.{◌≡◌, ◌<◌, ◌≤◌, ℕ, ◌+◌, List, length, refl, sym, ap, ◌∙◌, subst, arith}
-use Rattle.derived_ops.specs.Tree.{Tree}
-use Rattle.derived_ops.specs.declared.core_word.CoreWord.{CoreWord}
+use Rattle.fiber_frames.proofs.Prelude.{◌≡◌, ◌<◌, ◌≤◌, ℕ, ◌+◌, List, length, refl, sym, ap, ◌∙◌, subst, arith, Tree, CoreWord, second, third, tree_at, word_at}
+use Rattle.fiber_frames.proofs.Prelude.{word_tree, tree_past_end, tree_word, EnvEntry, Use, close, env_of, last_of, own_hits, term_hits, tree_hits, many_parts}
 use Rattle.derived_ops.specs.declared.core_word.CoreWord.TheVariants as word
-use Rattle.derived_ops.specs.Words.{second, third, tree_at, word_at, word_tree}
-use Rattle.derived_ops.proofs.Words.{tree_past_end, tree_word}
-use Rattle.fiber_frames.specs.declared.env.EnvEntry.{EnvEntry}
-use Rattle.fiber_frames.specs.declared.uses.Use.{Use}
-use Rattle.fiber_frames.specs.Env.{close, env_of}
-use Rattle.fiber_frames.specs.Hits.{last_of, own_hits, term_hits, tree_hits}
-use Rattle.fiber_frames.specs.SlotNames.{many_parts}
 
 -- the last part of a word
 abbrev last_part : CoreWord → (a b c : ℕ → Tree) → ℕ → Tree

@@ -1,8 +1,6 @@
 -- The balanced words are those that a stack takes from empty to empty.
-use Rattle.std.proofs.Common.{◌≡◌, ℕ, ◌+◌, ◌≤◌, Bool, true, false, if◌then◌else◌, nat_eq, List, [], ◌∷◌, ◌++◌}
-use Rattle.std.proofs.Common.{Option, Some, None, refl, sym, ap, ◌∙◌, subst, arith, append_assoc}
-use Rattle.std.proofs.lemmas.Bool.{eqb-true, eq-eqb}
-use Rattle.fiber_frames.specs.Marks.{Bracket_step, IsOpenBalanced, Nested, bracket, empty, times_acquired, two}
+use Rattle.fiber_frames.proofs.Prelude.{◌≡◌, ℕ, ◌+◌, ◌≤◌, Bool, true, false, if◌then◌else◌, nat_eq, List, [], ◌∷◌, ◌++◌, Option, Some, None, refl, sym, ap, ◌∙◌}
+use Rattle.fiber_frames.proofs.Prelude.{subst, arith, append_assoc, eqb-true, eq-eqb, Bracket_step, IsOpenBalanced, Nested, bracket, empty, times_acquired, two}
 use Rattle.fiber_frames.specs.Marks as steps
 
 pub data Held_number : Type 0 where

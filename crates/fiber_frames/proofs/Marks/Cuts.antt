@@ -1,12 +1,10 @@
 -- A cut leaves a chain of finalizers.
-use Rattle.std.proofs.Common.{◌≡◌, ℕ, inl, inr, List, [], ◌∷◌, ◌++◌, Option, Some, None, refl, sym, ap, subst}
-use Rattle.derived_ops.specs.Tree.{Act, Cancel, Guarded, Handled, If0, Join, Let, Loop, Make, Mask, Masked}
-use Rattle.derived_ops.specs.Tree.{Note, On_cancel, Pair, Poll, Polled, Pure, Raise, Seq, Start, Tree}
-use Rattle.derived_ops.specs.Tree.{Uncancelable}
+use Rattle.fiber_frames.proofs.Prelude.{◌≡◌, ℕ, inl, inr, List, [], ◌∷◌, ◌++◌, Option, Some, None, refl, sym, ap, subst, Act, Cancel, Guarded, Handled, If0}
+use Rattle.fiber_frames.proofs.Prelude.{Join, Let, Loop, Make, Mask, Masked, Note, On_cancel, Pair, Poll, Polled, Pure, Raise, Seq, Start, Tree, Uncancelable}
+use Rattle.fiber_frames.proofs.Prelude.{undone}
 use Rattle.fiber_frames.proofs.Marks.Typed.{Fine, If_ends, In, Leads, Masks, Stack, Typed, Weaker}
 use Rattle.fiber_frames.proofs.Marks.Weaken.{weaker_in}
 use Rattle.fiber_frames.proofs.Walk.{finalizers_below, masks_below}
-use Rattle.fiber_frames.specs.Path.{undone}
 
 module _ (i : ℕ) (P : Masks) where
   -- a finalizer leads from one stack to another, below any mask that isn't known

@@ -1,13 +1,13 @@
 -- No state has more active masks than were counted on its program.
-use Rattle.std.proofs.Common.{◌≡◌, ℕ, ◌+◌, ◌≤◌, true, false, if◌then◌else◌, List, [], ◌∷◌, ◌++◌, length, Option, Some, None, refl, sym, ap, subst, arith}
-use Rattle.std.specs.Prelude.{max}
+use Rattle.fiber_frames.proofs.Prelude.{◌≡◌, ℕ, ◌+◌, ◌≤◌, true, false, if◌then◌else◌, List, [], ◌∷◌, ◌++◌, length, Option, Some, None, refl, sym, ap, subst}
+use Rattle.fiber_frames.proofs.Prelude.{arith, max, Put, Put_handle, Put_mask, Put_value, put, Act, Action, Always, Cancel, Guarded, Handle, Handled, If0, Join}
+use Rattle.fiber_frames.proofs.Prelude.{Last, Let, Loop, Make, Mask, Masked, New_deferred, New_ref, Note, On_cancel, Pair, Poll, Polled, Pure, Raise, Rest, Seq}
+use Rattle.fiber_frames.proofs.Prelude.{Start, Times, Tree, Turns, Uncancelable, Outcome, Reply, Cuts, Fiber, Looks, Move_case, Reduces, Rests, begins, child}
+use Rattle.fiber_frames.proofs.Prelude.{cut, kind_in, move, move_case, term_born, At_final, At_term, Broken, Final, In_guarded, In_handle, In_let, In_masked}
+use Rattle.fiber_frames.proofs.Prelude.{In_polled, In_seq, Over, Running, Runs, active_at, focus, is_effective, same_mask, undone, without_first, Born, Ceded}
+use Rattle.fiber_frames.proofs.Prelude.{Ended, RowKind, Plain, Row, Waited, action_row, branch, is_positive, is_zero, looped, number_in, number_of, one_less}
+use Rattle.fiber_frames.proofs.Prelude.{outcome_in, row_at, unit}
 use Rattle.derived_ops.specs.Counts.{masks}
-use Rattle.derived_ops.specs.Put.{Put, Put_handle, Put_mask, Put_value, put}
-use Rattle.derived_ops.specs.Tree.{Act, Action, Always, Cancel, Guarded, Handle, Handled, If0, Join, Last, Let}
-use Rattle.derived_ops.specs.Tree.{Loop, Make, Mask, Masked, New_deferred, New_ref, Note, On_cancel, Pair, Poll}
-use Rattle.derived_ops.specs.Tree.{Polled, Pure, Raise, Rest, Seq, Start, Times, Tree, Turns, Uncancelable}
-use Rattle.effect_term.specs.declared.reply.Outcome.{Outcome}
-use Rattle.effect_term.specs.declared.reply.Reply.{Reply}
 use Rattle.fiber_frames.proofs.Marks.Actions.{ActionRow, If_born, action_case, none_born, simple_case, wait_none}
 use Rattle.fiber_frames.proofs.Marks.Cutting.{Live, Static}
 use Rattle.fiber_frames.proofs.Marks.Lawful.{Lawful, final_masked}
@@ -17,13 +17,7 @@ use Rattle.fiber_frames.proofs.Marks.Runs.{AllStatic, LiveRun, born_root, pendin
 use Rattle.fiber_frames.proofs.Marks.Spending.{handle_runtime, mask_runtime, value_runtime}
 use Rattle.fiber_frames.proofs.Walk.{End, Gives, Throws, Works, active_path, active_root, end_of}
 use Rattle.fiber_frames.proofs.Walk.{finalizers_below, masks_below, root_row, row_root, under, walk}
-use Rattle.fiber_frames.specs.Fiber.{Cuts, Fiber, Looks, Move_case, Reduces, Rests, begins, child, cut, kind_in, kind_of, move, move_case, term_born}
-use Rattle.fiber_frames.specs.Path.{At_final, At_term, Broken, Final, In_guarded, In_handle, In_let, In_masked}
-use Rattle.fiber_frames.specs.Path.{In_polled, In_seq, Over, Running, Runs, active_at, focus, is_effective}
-use Rattle.fiber_frames.specs.Path.{same_mask, undone, without_first}
-use Rattle.fiber_frames.specs.Rows.{Born, Ceded, Ended, RowKind, Plain, Row, Waited, action_row, branch}
-use Rattle.fiber_frames.specs.Rows.{is_positive, is_zero, looped, number_in, number_of, one_less, outcome_in}
-use Rattle.fiber_frames.specs.Rows.{row_at, unit}
+use Rattle.fiber_frames.specs.Fiber.{kind_of}
 use Rattle.fiber_frames.specs.declared.mark.Mark.TheVariants as mark
 use Rattle.effect_term.specs.declared.reply.Outcome.TheVariants as outcome
 use Rattle.effect_term.specs.declared.reply.Reply.TheVariants as reply

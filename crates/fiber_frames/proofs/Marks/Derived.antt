@@ -1,14 +1,11 @@
 -- A bracket is typed: it leaves open what was open.
-use Rattle.std.proofs.Common.{◌≡◌, ◌≢◌, ℕ, ◌+◌, ◌≤◌, ◌⊎◌, inl, inr, pos, if◌then◌else◌, List, [], ◌∷◌, Option, Some, None, refl, sym, ap, subst, arith}
-use Rattle.std.proofs.lemmas.Bool.{eq-eqb}
-use Rattle.derived_ops.specs.Expansion.{bracket_case, in_order}
-use Rattle.derived_ops.specs.Tree.{Handled, Last, Mask, More, Named, Note, Number, On_cancel, Pair, Poll, Pure}
-use Rattle.derived_ops.specs.Tree.{Raise, Released, Releasing, Rest, Seq, Slot, Tree, Operand}
+use Rattle.fiber_frames.proofs.Prelude.{◌≡◌, ◌≢◌, ℕ, ◌+◌, ◌≤◌, ◌⊎◌, inl, inr, pos, if◌then◌else◌, List, [], ◌∷◌, Option, Some, None, refl, sym, ap, subst}
+use Rattle.fiber_frames.proofs.Prelude.{arith, eq-eqb, bracket_case, in_order, Handled, Last, Mask, More, Named, Note, Number, On_cancel, Pair, Poll, Pure}
+use Rattle.fiber_frames.proofs.Prelude.{Raise, Released, Releasing, Rest, Seq, Slot, Tree, Operand, undone}
 use Rattle.fiber_frames.proofs.Marks.Cutting.{Active}
 use Rattle.fiber_frames.proofs.Marks.Opened.{Freeing, Held}
 use Rattle.fiber_frames.proofs.Marks.Typed.{Fine, If_ends, In, Leads, Masks, Stack, Typed, with_slot}
 use Rattle.fiber_frames.proofs.Marks.Weaken.{in_more}
-use Rattle.fiber_frames.specs.Path.{undone}
 
 -- an active mask that a term can't undo: it isn't in sight, nor bound inside
 pub record Bars (V : Masks) (d : ℕ) (up : List Mask) (b : Mask) : Type 0 where

@@ -1,15 +1,11 @@
 -- A row of the table keeps a term typed.
-use Rattle.std.proofs.Common.{◌≡◌, ◌≢◌, ℕ, ◌+◌, ◌≤◌, inl, inr, Bool, true, false, if◌then◌else◌, nat_eq, List}
-use Rattle.std.proofs.Common.{[], ◌∷◌, Option, Some, None, refl, sym, ap, ◌∙◌, subst, arith}
-use Rattle.std.proofs.lemmas.Bool.{eq-eqb}
-use Rattle.std.specs.Prelude.{◌&&◌, ℤ}
-use Rattle.derived_ops.specs.Put.{Put_handle, Put_value, put}
-use Rattle.derived_ops.specs.Tree.{Acquired, Act, Action, Always, Bracket_mark, Cancel, Guarded, Handle}
-use Rattle.derived_ops.specs.Tree.{Handled, If0, Join, Last, Let, Loop, Make, Mask, Masked, Named, New_deferred}
-use Rattle.derived_ops.specs.Tree.{New_ref, Note, On_cancel, Pair, Poll, Polled, Pure, Raise, Released}
-use Rattle.derived_ops.specs.Tree.{Releasing, Rest, Seq, Start, Times, Tree, Turns, Uncancelable}
-use Rattle.effect_term.specs.declared.reply.Outcome.{Outcome}
-use Rattle.effect_term.specs.declared.reply.Reply.{Reply}
+use Rattle.fiber_frames.proofs.Prelude.{◌≡◌, ◌≢◌, ℕ, ◌+◌, ◌≤◌, inl, inr, Bool, true, false, if◌then◌else◌, nat_eq, List, [], ◌∷◌, Option, Some, None, refl, sym}
+use Rattle.fiber_frames.proofs.Prelude.{ap, ◌∙◌, subst, arith, eq-eqb, ◌&&◌, ℤ, Put_handle, Put_value, put, Acquired, Act, Action, Always, Bracket_mark, Cancel}
+use Rattle.fiber_frames.proofs.Prelude.{Guarded, Handle, Handled, If0, Join, Last, Let, Loop, Make, Mask, Masked, Named, New_deferred, New_ref, Note, On_cancel}
+use Rattle.fiber_frames.proofs.Prelude.{Pair, Poll, Polled, Pure, Raise, Released, Releasing, Rest, Seq, Start, Times, Tree, Turns, Uncancelable, Outcome}
+use Rattle.fiber_frames.proofs.Prelude.{Reply, In_guarded, In_handle, In_let, In_masked, In_polled, In_seq, is_effective, same_mask, undone, RowKind, Plain}
+use Rattle.fiber_frames.proofs.Prelude.{Row, action_row, branch, calls, enters, is_positive, is_zero, looped, mask_number, note_mark, number_in, number_of}
+use Rattle.fiber_frames.proofs.Prelude.{one_less, outcome_in, unit, Ask, Mark}
 use Rattle.fiber_frames.proofs.Marks.Actions.{ActionRow, If_born, NoBirth, Says, action_case, none_born, said, silent, simple_case, wait_none}
 use Rattle.fiber_frames.proofs.Marks.Opened.{Freeing, Held, after_marks, and_then}
 use Rattle.fiber_frames.proofs.Marks.Putting.{AllOf-undone}
@@ -17,12 +13,6 @@ use Rattle.fiber_frames.proofs.Marks.RowPuts.{Around, handle_no_mask, other_know
 use Rattle.fiber_frames.proofs.Marks.Typed.{AllOf, Fine, If_ends, In, Leads, Leaves, Masks, Opens, Stack, Typed, Weaker}
 use Rattle.fiber_frames.proofs.Marks.Weaken.{Grows, if_ends_more, in_more, leads_more, typed_more, weaker_in}
 use Rattle.fiber_frames.proofs.Walk.{End, Gives, Throws, Works, end_of, under, walk}
-use Rattle.fiber_frames.specs.Path.{In_guarded, In_handle, In_let, In_masked, In_polled, In_seq, is_effective, same_mask, undone}
-use Rattle.fiber_frames.specs.Rows.{RowKind, Plain, Row, action_row, branch, calls, enters, is_positive, is_zero}
-use Rattle.fiber_frames.specs.Rows.{looped, mask_number, note_mark, number_in, number_of, one_less, outcome_in}
-use Rattle.fiber_frames.specs.Rows.{unit}
-use Rattle.fiber_frames.specs.declared.ask.Ask.{Ask}
-use Rattle.fiber_frames.specs.declared.mark.Mark.{Mark}
 use Rattle.fiber_frames.specs.declared.mark.Mark.TheVariants as mark
 use Rattle.effect_term.specs.declared.reply.Outcome.TheVariants as outcome
 

@@ -1,20 +1,13 @@
 -- What each state of a fiber keeps: its marks are lawful, and few masks are active. One lemma for each way in which a
 -- state comes about.
-use Rattle.std.proofs.Common.{◌≡◌, ℕ, ◌<◌, ◌≤◌, List, [], ◌∷◌, length, refl, sym, subst, arith}
+use Rattle.fiber_frames.proofs.Prelude.{◌≡◌, ℕ, ◌<◌, ◌≤◌, List, [], ◌∷◌, length, refl, sym, subst, arith, IsCode, code_of, source_of, Mask, Tree, Reply, Cuts}
+use Rattle.fiber_frames.proofs.Prelude.{Fiber, active_of, begins, case_in, child, lost, move, move_case, outcome_of, AreLawful, Broken, Final, Over, Running}
+use Rattle.fiber_frames.proofs.Prelude.{Runs, Look}
 use Rattle.derived_ops.proofs.Counts.{masks_code}
-use Rattle.derived_ops.specs.Codes.{IsCode}
-use Rattle.derived_ops.specs.Expansion.{code_of}
-use Rattle.derived_ops.specs.Reading.{source_of}
-use Rattle.derived_ops.specs.Tree.{Mask, Tree}
-use Rattle.effect_term.specs.declared.reply.Reply.{Reply}
 use Rattle.fiber_frames.proofs.Marks.Depths.{RoomOf, active_room, child_room, move_room, small_room}
 use Rattle.fiber_frames.proofs.Marks.Lawful.{final_masked}
 use Rattle.fiber_frames.proofs.Marks.Programs.{code_part}
 use Rattle.fiber_frames.proofs.Marks.Runs.{Holds, child_holds, holds_lawful, live_run, lost_holds, move_holds, root_holds}
-use Rattle.fiber_frames.specs.Fiber.{Cuts, Fiber, active_of, begins, case_in, child, lost, move, move_case, outcome_of}
-use Rattle.fiber_frames.specs.Marks.{AreLawful}
-use Rattle.fiber_frames.specs.Path.{Broken, Final, Over, Running, Runs}
-use Rattle.fiber_frames.specs.declared.ask.Look.{Look}
 
 -- The state holds by the types of its terms, and at most 250 masks are active in it and later on.
 pub record Kept (f : Fiber) : Type 0 where

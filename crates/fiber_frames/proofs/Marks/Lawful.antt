@@ -1,7 +1,7 @@
 -- A lawful fiber: its term is typed by the brackets that its marks leave open. Each move keeps that.
-use Rattle.std.proofs.Common.{◌≡◌, ◌≢◌, ℕ, ◌+◌, ◌<◌, ◌≤◌, List, [], ◌∷◌, ◌++◌, Option, Some, None, refl, sym, ap, ◌∙◌, subst, arith}
-use Rattle.derived_ops.specs.Tree.{Mask, Named, Pair, Tree}
-use Rattle.effect_term.specs.declared.reply.Reply.{Reply}
+use Rattle.fiber_frames.proofs.Prelude.{◌≡◌, ◌≢◌, ℕ, ◌+◌, ◌<◌, ◌≤◌, List, [], ◌∷◌, ◌++◌, Option, Some, None, refl, sym, ap, ◌∙◌, subst, arith, Mask, Named}
+use Rattle.fiber_frames.proofs.Prelude.{Pair, Tree, Reply, Fiber, active_of, begins, cut, looked, lost, move, reduced, At_final, At_term, Broken, Final, Over}
+use Rattle.fiber_frames.proofs.Prelude.{Running, Runs, focus, Row, row_at, Mark}
 use Rattle.fiber_frames.proofs.Marks.Cuts.{Chain, chain_none, cut_chain}
 use Rattle.fiber_frames.proofs.Marks.Keeping.{EndsAs, Keeps, Own, typed_end, walk_keeps}
 use Rattle.fiber_frames.proofs.Marks.Moves.{active_run, cut_run, move_by, noted}
@@ -9,10 +9,6 @@ use Rattle.fiber_frames.proofs.Marks.Opened.{after_mark, after_marks, and_then}
 use Rattle.fiber_frames.proofs.Marks.Typed.{In, Masks, Stack, Typed}
 use Rattle.fiber_frames.proofs.Marks.Weaken.{Grows, in_more, typed_more}
 use Rattle.fiber_frames.proofs.Walk.{End, Gives, Throws, Works, active_path, end_of, finalizers_below, masks_below, root_row, row_root, walk}
-use Rattle.fiber_frames.specs.Fiber.{Fiber, active_of, begins, cut, looked, lost, move, reduced}
-use Rattle.fiber_frames.specs.Path.{At_final, At_term, Broken, Final, Over, Running, Runs, focus}
-use Rattle.fiber_frames.specs.Rows.{Row, row_at}
-use Rattle.fiber_frames.specs.declared.mark.Mark.{Mark}
 use Rattle.fiber_frames.specs.declared.mark.Mark.TheVariants as mark
 
 -- the masks that a fiber may name: its own below the next, and those of older fibers

@@ -1,19 +1,13 @@
 -- Lists of marks: what is taken, what is on, and the stack of open brackets by their numbers.
-use Rattle.std.proofs.Common.{◌≡◌, ◌≢◌, ◌⊎◌, inl, inr, ℕ, ◌+◌, Bool, true, false, if◌then◌else◌, nat_eq, List}
-use Rattle.std.proofs.Common.{[], ◌∷◌, ◌++◌, Some, None, refl, sym, ap, ◌∙◌, subst, arith, append_assoc}
-use Rattle.std.proofs.lemmas.Bool.{eqb-true, eqb-false, eq-eqb}
-use Rattle.std.specs.Prelude.{◌&&◌}
-use Rattle.derived_ops.specs.Tree.{Mask, Pair}
+use Rattle.fiber_frames.proofs.Prelude.{◌≡◌, ◌≢◌, ◌⊎◌, inl, inr, ℕ, ◌+◌, Bool, true, false, if◌then◌else◌, nat_eq, List, [], ◌∷◌, ◌++◌, Some, None, refl, sym}
+use Rattle.fiber_frames.proofs.Prelude.{ap, ◌∙◌, subst, arith, append_assoc, eqb-true, eqb-false, eq-eqb, ◌&&◌, Mask, Pair, Has, IsCutOnce, IsPolled, NoCut}
+use Rattle.fiber_frames.proofs.Prelude.{bracket_steps, times_acquired, same_mask, mask_number, Mark}
 use Rattle.fiber_frames.proofs.Marks.Balance.{Held_number, signs, then_signs}
 use Rattle.fiber_frames.proofs.Marks.Cutting.{is_on, on_after, only}
 use Rattle.fiber_frames.proofs.Marks.Keeping.{Own}
 use Rattle.fiber_frames.proofs.Marks.Opened.{Freeing, Held, Opened, after_marks, and_then}
 use Rattle.fiber_frames.proofs.Marks.Saving.{taken}
 use Rattle.fiber_frames.proofs.Marks.Typed.{In, Stack}
-use Rattle.fiber_frames.specs.Marks.{Has, IsCutOnce, IsPolled, NoCut, bracket_steps, times_acquired}
-use Rattle.fiber_frames.specs.Path.{same_mask}
-use Rattle.fiber_frames.specs.Rows.{mask_number}
-use Rattle.fiber_frames.specs.declared.mark.Mark.{Mark}
 use Rattle.fiber_frames.proofs.Marks.Balance as balance
 use Rattle.fiber_frames.specs.declared.mark.Mark.TheVariants as mark
 

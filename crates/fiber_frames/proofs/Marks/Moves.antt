@@ -1,14 +1,8 @@
 -- A move, by its cases.
-use Rattle.std.proofs.Common.{◌≡◌, List, [], ◌∷◌, ◌++◌, ◌+◌, refl, sym, ap, ◌∙◌}
-use Rattle.std.specs.Prelude.{ℕ}
-use Rattle.derived_ops.specs.Tree.{Mask, Tree}
-use Rattle.effect_term.specs.declared.reply.Reply.{Reply}
+use Rattle.fiber_frames.proofs.Prelude.{◌≡◌, List, [], ◌∷◌, ◌++◌, ◌+◌, refl, sym, ap, ◌∙◌, ℕ, Mask, Tree, Reply, Fiber, active_of, case_in, cut, looked, move}
+use Rattle.fiber_frames.proofs.Prelude.{move_in, reduced, row_of, Broken, Final, Over, Running, Runs, active_at, focus, pending_at, Look, Clear, Due, Seen}
+use Rattle.fiber_frames.proofs.Prelude.{Mark}
 use Rattle.fiber_frames.proofs.Walk.{active_root, finalizers_below, masks_below, pending_root}
-use Rattle.fiber_frames.specs.Fiber.{Fiber, active_of, case_in, cut, looked, move, move_in, reduced, row_of}
-use Rattle.fiber_frames.specs.Path.{Broken, Final, Over, Running, Runs, active_at, focus, pending_at}
-use Rattle.fiber_frames.specs.declared.ask.Look.{Look}
-use Rattle.fiber_frames.specs.declared.ask.Look.TheVariants.{Clear, Due, Seen}
-use Rattle.fiber_frames.specs.declared.mark.Mark.{Mark}
 use Rattle.fiber_frames.specs.declared.mark.Mark.TheVariants as mark
 
 pub active_run : (f : Fiber) (w : Running) (up : List Mask) → f.running ≡ w → active_of f ≡ up → active_at f.number (focus w) ≡ up

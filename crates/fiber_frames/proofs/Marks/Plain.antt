@@ -1,17 +1,12 @@
 -- The words of a program leave open what was open, below whatever masks, and may acquire each mask at most once.
-use Rattle.std.proofs.Common.{◌≡◌, ◌≢◌, ℕ, ◌+◌, ◌≤◌, ◌<◌, inl, inr, Bool, true, false, if◌then◌else◌, List, []}
-use Rattle.std.proofs.Common.{◌∷◌, Some, None, refl, sym, ap, ◌∙◌, subst, arith}
-use Rattle.std.proofs.lemmas.Bool.{ne_eqb}
-use Rattle.derived_ops.specs.Expansion.{bracket_case}
-use Rattle.derived_ops.specs.Tree.{Act, Action, Cancel, Handle, Handled, If0, Join, Let, Loop, Make, Maker}
-use Rattle.derived_ops.specs.Tree.{Mask, Named, On_cancel, Pair, Poll, Pure, Raise, Rest, Seq, Start, Tree}
-use Rattle.derived_ops.specs.Tree.{Turns, Uncancelable, Operand}
+use Rattle.fiber_frames.proofs.Prelude.{◌≡◌, ◌≢◌, ℕ, ◌+◌, ◌≤◌, ◌<◌, inl, inr, Bool, true, false, if◌then◌else◌, List, [], ◌∷◌, Some, None, refl, sym, ap, ◌∙◌}
+use Rattle.fiber_frames.proofs.Prelude.{subst, arith, ne_eqb, bracket_case, Act, Action, Cancel, Handle, Handled, If0, Join, Let, Loop, Make, Maker, Mask}
+use Rattle.fiber_frames.proofs.Prelude.{Named, On_cancel, Pair, Poll, Pure, Raise, Rest, Seq, Start, Tree, Turns, Uncancelable, Operand, same_mask, undone}
 use Rattle.fiber_frames.proofs.Marks.Cutting.{Active, Static, only, spends}
 use Rattle.fiber_frames.proofs.Marks.Derived.{Neutral, Safe, bracket_neutral, named_ne, pair_named, safe_at, safe_fine}
 use Rattle.fiber_frames.proofs.Marks.Regions.{same_true}
 use Rattle.fiber_frames.proofs.Marks.Typed.{Fine, Leads, Masks, Typed, with_slot}
 use Rattle.fiber_frames.proofs.Marks.Weaken.{in_more}
-use Rattle.fiber_frames.specs.Path.{same_mask, undone}
 use Rattle.effect_term.specs.declared.reply.Reply.TheVariants as reply
 
 -- not bound by a piece that binds slots from d

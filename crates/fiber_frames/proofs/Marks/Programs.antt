@@ -1,19 +1,16 @@
 -- The expansion of every closed, well-kinded program leaves open what was open, and acquires each mask at most once.
-use Rattle.std.proofs.Common.{◌≡◌, ◌≢◌, ℕ, zero, suc, ◌+◌, ◌≤◌, ◌<◌, inl, inr, List, [], ◌∷◌, ◌++◌, Some, refl, arith, slice_get, sym, subst, append_assoc}
-use Rattle.std.specs.Prelude.{pos}
-use Rattle.derived_ops.specs.Expansion.{awaits, both_side, code_of, ended, expansion, gives_up, guarantee, nil}
-use Rattle.derived_ops.specs.Expansion.{pair_race, race_side, runs_side, slot_at, value_in}
-use Rattle.derived_ops.specs.Reading.{seq_of, source_of, value_of}
-use Rattle.derived_ops.specs.Source.{Source}
-use Rattle.derived_ops.specs.Tree.{Act, Always, Canceled, Complete, Named, Never, New_deferred, New_ref, Number, Open_slot, Slot, Times, Tree, Uncancelable}
+use Rattle.fiber_frames.proofs.Prelude.{◌≡◌, ◌≢◌, ℕ, zero, suc, ◌+◌, ◌≤◌, ◌<◌, inl, inr, List, [], ◌∷◌, ◌++◌, Some, refl, arith, slice_get, sym, subst}
+use Rattle.fiber_frames.proofs.Prelude.{append_assoc, pos, awaits, both_side, code_of, ended, expansion, gives_up, guarantee, nil, pair_race, race_side}
+use Rattle.fiber_frames.proofs.Prelude.{runs_side, slot_at, seq_of, source_of, value_of, Source, Act, Always, Canceled, Complete, Named, Never, New_deferred}
+use Rattle.fiber_frames.proofs.Prelude.{New_ref, Number, Open_slot, Slot, Times, Tree, Uncancelable}
+use Rattle.derived_ops.specs.Expansion.{value_in}
 use Rattle.effect_term.specs.Kinds.{AllWellKinded, WellKinded}
 use Rattle.effect_term.specs.declared.term.Kind.{Kind}
 use Rattle.effect_term.specs.declared.term.Term.{Row_of-Term, Term, end_of-Term, more_of-Term}
 use Rattle.fiber_frames.proofs.Marks.Derived.{named_ne}
 use Rattle.fiber_frames.proofs.Marks.Plain.{Part, part_act, part_bracket, part_cancel, part_down, part_handle}
 use Rattle.fiber_frames.proofs.Marks.Plain.{part_if0, part_join, part_let, part_loop, part_make, part_on_cancel}
-use Rattle.fiber_frames.proofs.Marks.Plain.{part_poll, part_pure, part_raise, part_seq, part_start}
-use Rattle.fiber_frames.proofs.Marks.Plain.{part_uncancelable}
+use Rattle.fiber_frames.proofs.Marks.Plain.{part_poll, part_pure, part_raise, part_seq, part_start, part_uncancelable}
 use Rattle.fiber_frames.proofs.Marks.Typed.{Masks, with_slot}
 use Rattle.effect_term.specs.declared.term.Kind.TheVariants as kind
 use Rattle.effect_term.specs.declared.term.Term.TheVariants as term

@@ -1,12 +1,10 @@
 -- A term stays typed where something is put in place of a slot.
-use Rattle.std.proofs.Common.{◌≡◌, ℕ, inl, inr, Bool, true, false, if◌then◌else◌, List, [], ◌∷◌, Option, Some, None, refl, sym, ap, ◌∙◌, subst}
-use Rattle.derived_ops.specs.Put.{Put, mask_at, put}
-use Rattle.derived_ops.specs.Tree.{Acquired, Act, Bracket_mark, Cancel, Guarded, Handled, If0, Join, Let, Loop}
-use Rattle.derived_ops.specs.Tree.{Make, Mask, Masked, Named, Note, On_cancel, Pair, Poll, Polled, Pure, Raise}
-use Rattle.derived_ops.specs.Tree.{Released, Releasing, Seq, Start, Tree, Uncancelable}
+use Rattle.fiber_frames.proofs.Prelude.{◌≡◌, ℕ, inl, inr, Bool, true, false, if◌then◌else◌, List, [], ◌∷◌, Option, Some, None, refl, sym, ap, ◌∙◌, subst, Put}
+use Rattle.fiber_frames.proofs.Prelude.{mask_at, put, Acquired, Act, Bracket_mark, Cancel, Guarded, Handled, If0, Join, Let, Loop, Make, Mask, Masked, Named}
+use Rattle.fiber_frames.proofs.Prelude.{Note, On_cancel, Pair, Poll, Polled, Pure, Raise, Released, Releasing, Seq, Start, Tree, Uncancelable, is_effective}
+use Rattle.fiber_frames.proofs.Prelude.{same_mask, undone, without_first}
 use Rattle.fiber_frames.proofs.Marks.Opened.{Freeing, Held, Opened}
 use Rattle.fiber_frames.proofs.Marks.Typed.{AllOf, Fine, If_ends, In, Leads, Leaves, Masks, Opens, Stack, Typed, Weaker, with_slot}
-use Rattle.fiber_frames.specs.Path.{is_effective, same_mask, undone, without_first}
 
 abbrev pub masks_at : Put → List Mask → List Mask
 masks_at p [] = []

@@ -1,14 +1,11 @@
 -- A mask that the marks show as on is active.
-use Rattle.std.proofs.Common.{◌≡◌, inl, inr, ℕ, Bool, true, false, if◌then◌else◌, nat_eq, List, [], ◌∷◌, Option, Some, None, refl, sym, ap, ◌∙◌, subst, arith}
-use Rattle.std.specs.Prelude.{◌&&◌}
-use Rattle.std.proofs.lemmas.Bool.{eqb-true, eqb-false}
-use Rattle.derived_ops.specs.Put.{Put, Put_handle, Put_mask, Put_value, put}
-use Rattle.derived_ops.specs.Tree.{Acquired, Act, Action, Always, Bracket_mark, Cancel, Guarded, Handle}
-use Rattle.derived_ops.specs.Tree.{Handled, If0, Join, Last, Let, Loop, Make, Mask, Masked, Named, New_deferred}
-use Rattle.derived_ops.specs.Tree.{New_ref, Note, On_cancel, Pair, Poll, Polled, Pure, Raise, Released}
-use Rattle.derived_ops.specs.Tree.{Releasing, Rest, Seq, Start, Times, Tree, Turns, Uncancelable}
-use Rattle.effect_term.specs.declared.reply.Outcome.{Outcome}
-use Rattle.effect_term.specs.declared.reply.Reply.{Reply}
+use Rattle.fiber_frames.proofs.Prelude.{◌≡◌, inl, inr, ℕ, Bool, true, false, if◌then◌else◌, nat_eq, List, [], ◌∷◌, Option, Some, None, refl, sym, ap, ◌∙◌}
+use Rattle.fiber_frames.proofs.Prelude.{subst, arith, ◌&&◌, eqb-true, eqb-false, Put, Put_handle, Put_mask, Put_value, put, Acquired, Act, Action, Always}
+use Rattle.fiber_frames.proofs.Prelude.{Bracket_mark, Cancel, Guarded, Handle, Handled, If0, Join, Last, Let, Loop, Make, Mask, Masked, Named, New_deferred}
+use Rattle.fiber_frames.proofs.Prelude.{New_ref, Note, On_cancel, Pair, Poll, Polled, Pure, Raise, Released, Releasing, Rest, Seq, Start, Times, Tree, Turns}
+use Rattle.fiber_frames.proofs.Prelude.{Uncancelable, Outcome, Reply, In_guarded, In_handle, In_let, In_masked, In_polled, In_seq, is_effective, same_mask}
+use Rattle.fiber_frames.proofs.Prelude.{undone, RowKind, Plain, Row, action_row, branch, calls, enters, is_positive, is_zero, looped, mask_number, note_mark}
+use Rattle.fiber_frames.proofs.Prelude.{notes, number_in, number_of, one_less, outcome_in, switches, unit, Ask, Mark}
 use Rattle.fiber_frames.proofs.Marks.Actions.{ActionRow, Says, action_case, said, silent, simple_case}
 use Rattle.fiber_frames.proofs.Marks.Cutting.{Active, Live, Static, is_on, only}
 use Rattle.fiber_frames.proofs.Marks.Keeping.{Own}
@@ -16,12 +13,6 @@ use Rattle.fiber_frames.proofs.Marks.Putting.{AllOf-undone}
 use Rattle.fiber_frames.proofs.Marks.Spending.{Runtime, handle_runtime, mask_runtime, spends_put, value_runtime}
 use Rattle.fiber_frames.proofs.Marks.Typed.{AllOf}
 use Rattle.fiber_frames.proofs.Walk.{End, Gives, Throws, Works, end_of, masks_below, under, walk}
-use Rattle.fiber_frames.specs.Path.{In_guarded, In_handle, In_let, In_masked, In_polled, In_seq, is_effective, same_mask, undone}
-use Rattle.fiber_frames.specs.Rows.{RowKind, Plain, Row, action_row, branch, calls, enters, is_positive, is_zero}
-use Rattle.fiber_frames.specs.Rows.{looped, mask_number, note_mark, notes, number_in, number_of, one_less}
-use Rattle.fiber_frames.specs.Rows.{outcome_in, switches, unit}
-use Rattle.fiber_frames.specs.declared.ask.Ask.{Ask}
-use Rattle.fiber_frames.specs.declared.mark.Mark.{Mark}
 use Rattle.fiber_frames.specs.declared.ask.Ask.TheVariants as ask
 use Rattle.fiber_frames.specs.declared.mark.Mark.TheVariants as mark
 use Rattle.effect_term.specs.declared.reply.Outcome.TheVariants as outcome

@@ -1,16 +1,12 @@
 -- What a row puts, a number or a new mask, keeps a term typed.
-use Rattle.std.proofs.Common.{◌≡◌, ◌≢◌, ℕ, ◌+◌, inl, inr, Bool, true, false, if◌then◌else◌, nat_eq, List, []}
-use Rattle.std.proofs.Common.{◌∷◌, Option, Some, None, refl, sym, ap, ◌∙◌, subst}
-use Rattle.std.proofs.lemmas.Bool.{eqb-true, eqb-false, eq-eqb, ne_eqb}
-use Rattle.std.specs.Prelude.{◌&&◌, ℤ}
-use Rattle.derived_ops.specs.Put.{Put, Put_handle, Put_mask, Put_value, mask_at, put}
-use Rattle.derived_ops.specs.Tree.{Mask, Named, Pair, Tree}
+use Rattle.fiber_frames.proofs.Prelude.{◌≡◌, ◌≢◌, ℕ, ◌+◌, inl, inr, Bool, true, false, if◌then◌else◌, nat_eq, List, [], ◌∷◌, Option, Some, None, refl, sym, ap}
+use Rattle.fiber_frames.proofs.Prelude.{◌∙◌, subst, eqb-true, eqb-false, eq-eqb, ne_eqb, ◌&&◌, ℤ, Put, Put_handle, Put_mask, Put_value, mask_at, put, Mask}
+use Rattle.fiber_frames.proofs.Prelude.{Named, Pair, Tree, same_mask}
 use Rattle.fiber_frames.proofs.Marks.Opened.{Freeing, Held}
 use Rattle.fiber_frames.proofs.Marks.Putting.{Puts, Same, end_at, masks_at, stack_at, typed_put}
 use Rattle.fiber_frames.proofs.Marks.Spending.{pairs_differ}
 use Rattle.fiber_frames.proofs.Marks.Typed.{AllOf, If_ends, In, Masks, Stack, Typed, with_slot}
 use Rattle.fiber_frames.proofs.Marks.Weaken.{all_more, if_ends_more, in_more}
-use Rattle.fiber_frames.specs.Path.{same_mask}
 
 -- ---- what a put leaves as it is
 abbrev pub Fixed : Put → Masks

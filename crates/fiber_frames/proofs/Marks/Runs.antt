@@ -1,12 +1,10 @@
 -- What holds of every state of a fiber, whatever it is answered; and so its marks are lawful.
-use Rattle.std.proofs.Common.{◌≡◌, ◌≢◌, ◌⊎◌, inl, inr, ℕ, ◌+◌, ◌-◌, ◌≤◌, ◌<◌, Bool, true, false, if◌then◌else◌}
-use Rattle.std.proofs.Common.{nat_eq, List, [], ◌∷◌, ◌++◌, Some, None, refl, sym, ap, ◌∙◌, subst, arith}
-use Rattle.std.proofs.lemmas.Bool.{eqb-true}
-use Rattle.std.proofs.lemmas.List.{append-nil}
-use Rattle.std.specs.Prelude.{◌&&◌}
-use Rattle.derived_ops.specs.Tree.{Guarded, Handled, Let, Mask, Masked, Pair, Polled, Seq, Tree, Operand}
-use Rattle.effect_term.specs.declared.reply.Outcome.{Outcome}
-use Rattle.effect_term.specs.declared.reply.Reply.{Reply}
+use Rattle.fiber_frames.proofs.Prelude.{◌≡◌, ◌≢◌, ◌⊎◌, inl, inr, ℕ, ◌+◌, ◌-◌, ◌≤◌, ◌<◌, Bool, true, false, if◌then◌else◌, nat_eq, List, [], ◌∷◌, ◌++◌, Some}
+use Rattle.fiber_frames.proofs.Prelude.{None, refl, sym, ap, ◌∙◌, subst, arith, eqb-true, append-nil, ◌&&◌, Guarded, Handled, Let, Mask, Masked, Pair, Polled}
+use Rattle.fiber_frames.proofs.Prelude.{Seq, Tree, Operand, Outcome, Reply, Cuts, Fiber, Looks, Move_case, Reduces, Rests, begins, child, cut, kind_in, looked}
+use Rattle.fiber_frames.proofs.Prelude.{lost, move, move_case, outcome_of, reduced, term_born, AreLawful, EndsLawfully, Has, IsCutOnce, NoCut, UncutRegions}
+use Rattle.fiber_frames.proofs.Prelude.{bracket_steps, times_acquired, At_final, At_term, Broken, Final, Over, Root, Running, Runs, focus, Born, Ceded, Ended}
+use Rattle.fiber_frames.proofs.Prelude.{RowKind, Plain, Row, Waited, number_of, row_at, unit, Mark}
 use Rattle.fiber_frames.proofs.Marks.Actions.{If_born}
 use Rattle.fiber_frames.proofs.Marks.Balance.{empty_balanced, open_balanced, signs}
 use Rattle.fiber_frames.proofs.Marks.Cutting.{Active, Live, Static, is_on, only, spends}
@@ -20,13 +18,7 @@ use Rattle.fiber_frames.proofs.Marks.Saving.{Saves, Smaller, made_weight, row_sa
 use Rattle.fiber_frames.proofs.Marks.Typed.{Stack, Typed}
 use Rattle.fiber_frames.proofs.Marks.Weaken.{Grows, typed_more}
 use Rattle.fiber_frames.proofs.Walk.{End, Gives, Throws, Works, end_of, finalizers_below, masks_below, root_row, row_root, walk}
-use Rattle.fiber_frames.specs.Fiber.{Cuts, Fiber, Looks, Move_case, Reduces, Rests, begins, child, cut, kind_in}
-use Rattle.fiber_frames.specs.Fiber.{kind_of, looked, lost, move, move_case, outcome_in, outcome_of, reduced}
-use Rattle.fiber_frames.specs.Fiber.{term_born}
-use Rattle.fiber_frames.specs.Marks.{AreLawful, EndsLawfully, Has, IsCutOnce, NoCut, UncutRegions, bracket_steps, times_acquired}
-use Rattle.fiber_frames.specs.Path.{At_final, At_term, Broken, Final, Over, Root, Running, Runs, focus}
-use Rattle.fiber_frames.specs.Rows.{Born, Ceded, Ended, RowKind, Plain, Row, Waited, number_of, row_at, unit}
-use Rattle.fiber_frames.specs.declared.mark.Mark.{Mark}
+use Rattle.fiber_frames.specs.Fiber.{kind_of, outcome_in}
 use Rattle.fiber_frames.specs.declared.mark.Mark.TheVariants as mark
 use Rattle.effect_term.specs.declared.reply.Outcome.TheVariants as outcome
 use Rattle.effect_term.specs.declared.reply.Reply.TheVariants as reply

@@ -1,10 +1,9 @@
 -- Marks that are lawful, and marks that aren't.
-use Rattle.std.proofs.Common.{◌≡◌, inl, inr, ℕ, List, [], ◌∷◌, ◌++◌, Option, Some, refl, sym, subst}
+use Rattle.fiber_frames.proofs.Prelude.{◌≡◌, inl, inr, ℕ, List, [], ◌∷◌, ◌++◌, Option, Some, refl, sym, subst, Act, Canceled, Last, Named, Note, Poll, Seq}
+use Rattle.fiber_frames.proofs.Prelude.{Uncancelable, Mark, bracket_steps, Nested, empty, bracket, Has, IsPolled, UncutRegions}
 use Rattle.derived_ops.specs.Tree as tree
-use Rattle.derived_ops.specs.Tree.{Act, Canceled, Last, Named, Note, Poll, Seq, Uncancelable}
-use Rattle.fiber_frames.specs.declared.mark.Mark.{Mark}
 use Rattle.fiber_frames.specs.declared.mark.Mark.TheVariants as mark
-use Rattle.fiber_frames.specs.Marks.{Acquired, Releasing, Released, bracket_steps, Nested, empty, bracket, Has, IsPolled, UncutRegions}
+use Rattle.fiber_frames.specs.Marks.{Acquired, Releasing, Released}
 use Rattle.fiber_frames.proofs.Marks.Balance.{balanced_signs}
 use Rattle.fiber_frames.proofs.Marks.Typed.{If_ends, Masks, Stack, Typed, with_slot}
 

@@ -1,15 +1,11 @@
 -- A row makes no acquire mark that its term couldn't make before.
-use Rattle.std.proofs.Common.{◌≡◌, ◌≢◌, inl, inr, ℕ, ◌+◌, ◌-◌, ◌≤◌, Bool, true, false, if◌then◌else◌, nat_eq}
-use Rattle.std.proofs.Common.{List, [], ◌∷◌, Option, Some, None, refl, sym, ap, subst, arith}
-use Rattle.std.proofs.lemmas.Bool.{eqb-true, eq-eqb}
-use Rattle.std.specs.Prelude.{◌&&◌}
-use Rattle.derived_ops.specs.Put.{Put_mask, Put_value, put}
-use Rattle.derived_ops.specs.Tree.{Acquired, Act, Action, Always, Cancel, Guarded, Handle, Handled, If0, Join}
-use Rattle.derived_ops.specs.Tree.{Last, Let, Loop, Make, Mask, Masked, Named, New_deferred, New_ref, Note}
-use Rattle.derived_ops.specs.Tree.{On_cancel, Pair, Poll, Polled, Pure, Raise, Released, Releasing, Rest, Seq}
-use Rattle.derived_ops.specs.Tree.{Start, Times, Tree, Turns, Uncancelable}
-use Rattle.effect_term.specs.declared.reply.Outcome.{Outcome}
-use Rattle.effect_term.specs.declared.reply.Reply.{Reply}
+use Rattle.fiber_frames.proofs.Prelude.{◌≡◌, ◌≢◌, inl, inr, ℕ, ◌+◌, ◌-◌, ◌≤◌, Bool, true, false, if◌then◌else◌, nat_eq, List, [], ◌∷◌, Option, Some, None, refl}
+use Rattle.fiber_frames.proofs.Prelude.{sym, ap, subst, arith, eqb-true, eq-eqb, ◌&&◌, Put_mask, Put_value, put, Acquired, Act, Action, Always, Cancel, Guarded}
+use Rattle.fiber_frames.proofs.Prelude.{Handle, Handled, If0, Join, Last, Let, Loop, Make, Mask, Masked, Named, New_deferred, New_ref, Note, On_cancel, Pair}
+use Rattle.fiber_frames.proofs.Prelude.{Poll, Polled, Pure, Raise, Released, Releasing, Rest, Seq, Start, Times, Tree, Turns, Uncancelable, Outcome, Reply}
+use Rattle.fiber_frames.proofs.Prelude.{NoCut, In_guarded, In_handle, In_let, In_masked, In_polled, In_seq, PathStep, around, is_effective, same_mask, undone}
+use Rattle.fiber_frames.proofs.Prelude.{Born, Ceded, Ended, RowKind, Plain, Row, Waited, action_row, branch, calls, enters, is_positive, is_zero, looped}
+use Rattle.fiber_frames.proofs.Prelude.{mask_number, number_in, number_of, one_less, outcome_in, switches, unit, Ask, Mark}
 use Rattle.fiber_frames.proofs.Marks.Actions.{ActionRow, If_born, NoBirth, Says, action_case, none_born, said, silent, simple_case, wait_none}
 use Rattle.fiber_frames.proofs.Marks.Cutting.{Live, Static, only, spends}
 use Rattle.fiber_frames.proofs.Marks.Keeping.{Own, own_pair}
@@ -17,13 +13,6 @@ use Rattle.fiber_frames.proofs.Marks.Putting.{AllOf-undone}
 use Rattle.fiber_frames.proofs.Marks.Spending.{other_weight, spends_handle, spends_new, spends_put, spends_value}
 use Rattle.fiber_frames.proofs.Marks.Typed.{AllOf, Masks, Stack, Typed}
 use Rattle.fiber_frames.proofs.Walk.{End, Gives, Throws, Works, end_of, under, walk, within}
-use Rattle.fiber_frames.specs.Marks.{NoCut}
-use Rattle.fiber_frames.specs.Path.{In_guarded, In_handle, In_let, In_masked, In_polled, In_seq, PathStep, around, is_effective, same_mask, undone}
-use Rattle.fiber_frames.specs.Rows.{Born, Ceded, Ended, RowKind, Plain, Row, Waited, action_row, branch, calls}
-use Rattle.fiber_frames.specs.Rows.{enters, is_positive, is_zero, looped, mask_number, number_in, number_of}
-use Rattle.fiber_frames.specs.Rows.{one_less, outcome_in, switches, unit}
-use Rattle.fiber_frames.specs.declared.ask.Ask.{Ask}
-use Rattle.fiber_frames.specs.declared.mark.Mark.{Mark}
 use Rattle.fiber_frames.specs.declared.ask.Ask.TheVariants as ask
 use Rattle.fiber_frames.specs.declared.mark.Mark.TheVariants as mark
 use Rattle.effect_term.specs.declared.reply.Outcome.TheVariants as outcome

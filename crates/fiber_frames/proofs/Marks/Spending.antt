@@ -1,13 +1,9 @@
 -- The acquire marks that a term may still make.
-use Rattle.std.proofs.Common.{◌≡◌, ◌≢◌, ℕ, ◌+◌, ◌≤◌, Bool, true, false, if◌then◌else◌, nat_eq, refl, sym, subst, arith}
-use Rattle.std.proofs.lemmas.Bool.{eqb-true, eq-eqb}
-use Rattle.std.specs.Prelude.{◌&&◌, ℤ}
-use Rattle.derived_ops.specs.Put.{Put, Put_handle, Put_mask, Put_value, mask_at, put}
-use Rattle.derived_ops.specs.Tree.{Acquired, Act, Cancel, Guarded, Handled, If0, Join, Let, Loop, Make, Mask}
-use Rattle.derived_ops.specs.Tree.{Masked, Named, Note, On_cancel, Pair, Poll, Polled, Pure, Raise, Released}
-use Rattle.derived_ops.specs.Tree.{Releasing, Seq, Start, Tree, Uncancelable}
+use Rattle.fiber_frames.proofs.Prelude.{◌≡◌, ◌≢◌, ℕ, ◌+◌, ◌≤◌, Bool, true, false, if◌then◌else◌, nat_eq, refl, sym, subst, arith, eqb-true, eq-eqb, ◌&&◌, ℤ}
+use Rattle.fiber_frames.proofs.Prelude.{Put, Put_handle, Put_mask, Put_value, mask_at, put, Acquired, Act, Cancel, Guarded, Handled, If0, Join, Let, Loop, Make}
+use Rattle.fiber_frames.proofs.Prelude.{Mask, Masked, Named, Note, On_cancel, Pair, Poll, Polled, Pure, Raise, Released, Releasing, Seq, Start, Tree}
+use Rattle.fiber_frames.proofs.Prelude.{Uncancelable, same_mask}
 use Rattle.fiber_frames.proofs.Marks.Cutting.{only, spends}
-use Rattle.fiber_frames.specs.Path.{same_mask}
 
 pub spends_put : (t : Tree) (p : Put) (w u : Mask → ℕ) → ((x : Mask) → w (mask_at p x) ≤ u x) → spends w (put p t) ≤ spends u t
 spends_put (Note Acquired q) p w u h = h q

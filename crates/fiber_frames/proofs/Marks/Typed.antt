@@ -1,10 +1,8 @@
 -- Which marks a term makes: the brackets that are open before it, and after each of its ends.
-use Rattle.std.specs.Prelude.{◌≡◌, ℕ, ◌⊎◌, List, [], ◌∷◌, Option, Some, None}
-use Rattle.derived_ops.specs.Tree.{Acquired, Act, Bracket_mark, Cancel, Guarded, Handled, If0, Join, Let, Loop}
-use Rattle.derived_ops.specs.Tree.{Make, Mask, Masked, Named, Note, On_cancel, Pair, Poll, Polled, Pure, Raise}
-use Rattle.derived_ops.specs.Tree.{Released, Releasing, Seq, Start, Tree, Uncancelable}
+use Rattle.fiber_frames.proofs.Prelude.{◌≡◌, ℕ, ◌⊎◌, List, [], ◌∷◌, Option, Some, None, Acquired, Act, Bracket_mark, Cancel, Guarded, Handled, If0, Join, Let}
+use Rattle.fiber_frames.proofs.Prelude.{Loop, Make, Mask, Masked, Named, Note, On_cancel, Pair, Poll, Polled, Pure, Raise, Released, Releasing, Seq, Start}
+use Rattle.fiber_frames.proofs.Prelude.{Tree, Uncancelable, undone}
 use Rattle.fiber_frames.proofs.Marks.Opened.{Freeing, Held, Opened}
-use Rattle.fiber_frames.specs.Path.{undone}
 
 abbrev pub Stack : Type 0
 Stack = List Opened

@@ -1,11 +1,8 @@
 -- A term stays typed where more masks may be named.
-use Rattle.std.proofs.Common.{ℕ, inl, inr, List, [], ◌∷◌, Option, Some, None, sym, subst}
-use Rattle.derived_ops.specs.Tree.{Act, Cancel, Guarded, Handled, If0, Join, Let, Loop, Make, Mask, Masked}
-use Rattle.derived_ops.specs.Tree.{Named, Note, On_cancel, Pair, Poll, Polled, Pure, Raise, Seq, Start, Tree}
-use Rattle.derived_ops.specs.Tree.{Uncancelable}
+use Rattle.fiber_frames.proofs.Prelude.{ℕ, inl, inr, List, [], ◌∷◌, Option, Some, None, sym, subst, Act, Cancel, Guarded, Handled, If0, Join, Let, Loop, Make}
+use Rattle.fiber_frames.proofs.Prelude.{Mask, Masked, Named, Note, On_cancel, Pair, Poll, Polled, Pure, Raise, Seq, Start, Tree, Uncancelable, undone}
 use Rattle.fiber_frames.proofs.Marks.Opened.{Freeing, Held}
 use Rattle.fiber_frames.proofs.Marks.Typed.{AllOf, If_ends, In, Leads, Masks, Stack, Typed, Weaker, with_slot}
-use Rattle.fiber_frames.specs.Path.{undone}
 
 -- more may be named, but no other slot
 pub record Grows (P P' : Masks) : Type 0 where

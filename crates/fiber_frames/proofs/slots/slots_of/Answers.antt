@@ -1,6 +1,4 @@
-use Rattle.std.proofs.Common.{◌≡◌, ◌-◌, ◌∙◌, length, arith}
-use Rattle.std.proofs.lemmas.Grind.{common_steps}
-use Rattle.std.proofs.lemmas.List.{length-set}
+use Rattle.fiber_frames.proofs.Prelude.{◌≡◌, ◌-◌, ◌∙◌, length, arith, common_steps, length-set}
 use Rattle.fiber_frames.proofs.SlotSets.{past_needs, set_needs}
 use Rattle.fiber_frames.proofs.slots.slots_of.Goals as goal
 
