@@ -13,9 +13,7 @@ map_reverse to xs = map_onto to xs []
 
 module _ (one other : Machine) (own : one.own ≡ other.own) (h : SameParts one other) where
   leaf_same : leaf_tree (state_of one) ≡ leaf_tree (state_of other)
-  leaf_same =
-      h.names.leaf.same one.env.items other.env.items h.env
-      ∙ ap₂ (λ (ws : List CoreWord) (l : Leaf). leaf_of ws other.env.items l) h.words h.leaf
+  leaf_same = h.names.leaf.same one.env.items other.env.items h.env ∙ ap₂ (λ (ws : List CoreWord) (l : Leaf). leaf_of ws other.env.items l) h.words h.leaf
 
   frames_same : map (step_of one.words.value one.env.items one.own) one.frames.items ≡ map (step_of other.words.value other.env.items other.own) other.frames.items
   frames_same =
@@ -47,11 +45,8 @@ module _ (one other : Machine) (own : one.own ≡ other.own) (h : SameParts one 
       ∙ ap (λ (s : RunStage). running_in s (whole (steps_of (state_of other)) (leaf_tree (state_of other))) (finalizers_of (state_of other))) same
 
 over_same : (s : RunStage) (t u : Tree) (gs hs : List Tree) → IsOver s → running_in s t gs ≡ running_in s u hs
-over_same stage.Runs t u gs hs over = absurd over
-over_same (stage.Final m) t u gs hs over = absurd over
-over_same (stage.Drained m) t u gs hs over = absurd over
 over_same (stage.Over o) t u gs hs over = refl
-over_same stage.Broken t u gs hs over = absurd over
+over_same _ t u gs hs over = absurd over
 
 module _ (one other : Machine) (h : SameCourse one other) where
   fibers_same : running_of (state_of one) ≡ running_of (state_of other) → fiber_in one ≡ fiber_in other

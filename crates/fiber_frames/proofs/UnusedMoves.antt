@@ -1,10 +1,14 @@
 -- What a fiber doesn't use so, it doesn't behind a move, and neither does its child.
-use Rattle.fiber_frames.proofs.Prelude.{◌≡◌, ℕ, List, [], ◌∷◌, ◌++◌, refl, sym, ap, ◌∙◌, subst, Guarded, Handled, Let, Masked, Pair, Polled, Seq, Tree, Reply}
-use Rattle.fiber_frames.proofs.Prelude.{Use, At_final, At_term, Broken, Final, Over, Running, Runs, focus, path, pending, pending_at, Born, Ceded, Ended}
-use Rattle.fiber_frames.proofs.Prelude.{RowKind, Plain, Row, Waited, row_at, Cuts, Fiber, Looks, Move_case, Reduces, Rests, ask_in, ask_of, child, kind_in}
-use Rattle.fiber_frames.proofs.Prelude.{move, move_case, move_in, row_of, term_born, AskApart, NumberApart, Spares, all_uses}
+use Rattle.std.proofs.Common.{◌≡◌, ℕ, List, [], ◌∷◌, ◌++◌, refl, sym, ap, ◌∙◌, subst}
+use Rattle.derived_ops.specs.Tree.{Guarded, Handled, Let, Masked, Pair, Polled, Seq, Tree}
+use Rattle.effect_term.specs.declared.reply.Reply.{Reply}
 use Rattle.effect_term.specs.declared.reply.Reply.TheVariants as reply
-use Rattle.fiber_frames.specs.Fiber.{kind_of}
+use Rattle.fiber_frames.specs.declared.uses.Use.{Use}
+use Rattle.fiber_frames.specs.Path.{At_final, At_term, Broken, Final, Over, Running, Runs, focus, path, pending, pending_at}
+use Rattle.fiber_frames.specs.Rows.{Born, Ceded, Ended, RowKind, Plain, Row, Waited, row_at}
+use Rattle.fiber_frames.specs.Fiber.{Cuts, Fiber, Looks, Move_case, Reduces, Rests, ask_in, ask_of}
+use Rattle.fiber_frames.specs.Fiber.{child, kind_in, kind_of, move, move_case, move_in, row_of, term_born}
+use Rattle.fiber_frames.specs.Uses.{AskApart, NumberApart, Spares, all_uses}
 use Rattle.fiber_frames.proofs.CallBeforeReply.{call_same}
 use Rattle.fiber_frames.proofs.Marks.Actions.{If_born}
 use Rattle.fiber_frames.proofs.Unused.{RowUnused, Unused, none_both, none_first, none_second, row_unused}

@@ -33,11 +33,6 @@ safe_fine V d [] k s (inl e) = subst (λ y. Fine [] y s) (sym e) refl
 safe_fine V d [] k s (inr h) = absurd h.2.member
 safe_fine V d (a ∷ up) k s h = tt
 
--- the same below one more mask, and for higher slots
-pub safe_below : (V : Masks) (d c : ℕ) (a : Mask) (up : List Mask) (k : Option Stack) (s : Stack) → d ≤ c → Safe V d up k s → Safe V c (a ∷ up) k s
-safe_below V d c a up k s l (inl e) = inl e
-safe_below V d c a up k s l (inr h) = inr (h.0, h.1, record { member = inr h.2.member; hidden = h.2.hidden; outside = λ v g. h.2.outside v (omega arith) })
-
 pub safe_at : (V : Masks) (d c : ℕ) (up : List Mask) (k : Option Stack) (s : Stack) → d ≤ c → Safe V d up k s → Safe V c up k s
 safe_at V d c up k s l (inl e) = inl e
 safe_at V d c up k s l (inr h) = inr (h.0, h.1, record { member = h.2.member; hidden = h.2.hidden; outside = λ v g. h.2.outside v (omega arith) })
@@ -95,8 +90,7 @@ bracket_neutral V d acq body rs re rc below na nb ns ne nc i P up k s vp fresh k
         record {
           member = inr h.2.member;
           hidden = elim [ inl g ↦ h.2.hidden g | inr g ↦ h.2.outside d (omega arith) g ];
-          outside =
-              λ v l. h.2.outside v (omega arith);
+          outside = λ v l. h.2.outside v (omega arith);
         },
       )
     ] in
@@ -121,8 +115,7 @@ bracket_neutral V d acq body rs re rc below na nb ns ne nc i P up k s vp fresh k
     let polled2 : Typed i P2 (undone q up2) j H (Some H) (Some H) (Poll p body) =
     subst (λ u. Typed i P2 u j H (Some H) (Some H) (Poll p body)) (sym (undone_same (d + 2) (p ∷ up))) polled in
     (tt, j, kn, (tt, inr refl, tt, tt, polled2), l, tt, tt) in
-    let guarded : Typed i P2 up2 k H (Some H) (Some H) (On_cancel (Poll q (Poll p body)) fin) =
-    elim safe [
+    let guarded : Typed i P2 up2 k H (Some H) (Some H) (On_cancel (Poll q (Poll p body)) fin) = elim safe [
       | inl e ↦ guarded_at (Some H) (seen, known2) (inl refl)
           (subst (λ y. Leads (Some H) y (λ a b. (f m : ℕ) → (P2 (Pair f m) → ⊥) → Typed i P2 (Pair f m ∷ []) None a (Some b) (Some b) fin)) (sym e) on_cut)
       | inr h ↦ guarded_at None tt (inr (refl, h.1, record { member = h.2.member; hidden = h.2.hidden; outside = λ v g. h.2.outside v (omega arith) })) tt
@@ -150,13 +143,7 @@ bracket_neutral V d acq body rs re rc below na nb ns ne nc i P up k s vp fresh k
           Some H,
           (inr refl, known1),
           (tt, inr refl, H, (refl, refl), refl, tt),
-          (
-            tt,
-            fresh1 (d + 2) (omega arith),
-            tt,
-            tt,
-            (Some H, (seen, known2), (Some H, (seen, known2), k, inr refl, guarded, on_error), on_value),
-          ),
+          (tt, fresh1 (d + 2) (omega arith), tt, tt, (Some H, (seen, known2), (Some H, (seen, known2), k, inr refl, guarded, on_error), on_value)),
         ),
       ),
     )

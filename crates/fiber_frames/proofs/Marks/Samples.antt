@@ -27,8 +27,7 @@ kept_open h = let e = balanced_signs h [] in cc
 
 -- a cut below the poll of its mask
 polled : UncutRegions (mark.Enter 0 ∷ mark.PollIn 0 ∷ mark.Cut ∷ [])
-polled =
-    inr (mark.Enter 0 ∷ mark.PollIn 0 ∷ [], [], refl, elim [ inl e ↦ cc | inr g ↦ elim g [ inl e ↦ cc | inr h ↦ h ] ], (λ h. h), there)
+polled = inr (mark.Enter 0 ∷ mark.PollIn 0 ∷ [], [], refl, elim [ inl e ↦ cc | inr g ↦ elim g [ inl e ↦ cc | inr h ↦ h ] ], (λ h. h), there)
   where
     there : (m : ℕ) → Has (mark.Enter m) (mark.Enter 0 ∷ mark.PollIn 0 ∷ []) → (Has (mark.Leave m) (mark.Enter 0 ∷ mark.PollIn 0 ∷ []) → ⊥) →
         IsPolled m (mark.Enter 0 ∷ mark.PollIn 0 ∷ [])
@@ -47,13 +46,12 @@ masked (inr h) = go h.0 h.1 h.2 h.5
     unpolled (x ∷ y ∷ a) b e = cc
 
     go : (a b : List Mark) → mark.Enter 0 ∷ mark.Cut ∷ [] ≡ a ++ mark.Cut ∷ b → ((m : ℕ) → Has (mark.Enter m) a → (Has (mark.Leave m) a → ⊥) → IsPolled m a) → ⊥
-    go [] b e f = cc
     go (x ∷ []) b e f =
         let here : mark.Enter 0 ≡ x = cc in
         let p = subst (λ y. (Has (mark.Leave 0) (y ∷ []) → ⊥) → IsPolled 0 (y ∷ [])) (sym here) (f 0 (inl (sym here))) (elim [ inl e ↦ cc | inr h ↦ h ]) in
         unpolled p.0 p.1 p.2
     go (x ∷ y ∷ []) b e f = cc
-    go (x ∷ y ∷ z ∷ a) b e f = cc
+    go _ b e f = cc
 
 -- a bracket marked as acquired before an acquisition that polls: a cut there would leave it open
 acquired_before : (i : ℕ) (P : Masks) (n x : Option Stack) →

@@ -75,8 +75,7 @@ Typed i P up k s n x (Join f _ a _ b c) = Fine up k s × Typed i P up k s n x a 
 Typed i P up k s n x (Make m _ b) = Fine up k s × (x ≡ Some s) × Typed i P up k s n x b
 Typed i P up k s n x (Start _ e b) = Fine up k s × ((c : ℕ) → Typed c P [] (Some []) [] (Some []) (Some []) e) × Typed i P up k s n x b
 Typed i P up k s n x (Loop _ e) = Fine up k s × (n ≡ Some s) × Typed i P up k s (Some s) x e
-Typed i P up k s n x (Uncancelable p e) =
-    Fine up k s × (P (Named p) → ⊥) × Leaves up k n × Leaves up k x × Typed i (with_slot P p) (Named p ∷ up) k s n x e
+Typed i P up k s n x (Uncancelable p e) = Fine up k s × (P (Named p) → ⊥) × Leaves up k n × Leaves up k x × Typed i (with_slot P p) (Named p ∷ up) k s n x e
 Typed i P up k s n x (Poll q e) = Fine up k s × P q × Leaves up k n × Leaves up k x × Typed i P (undone q up) k s n x e
 Typed i P up k s n x (On_cancel e fin) =
     Fine up k s × (j : Option Stack) × If_ends j (In P) × Typed i P up j s n x e ×
