@@ -1,15 +1,7 @@
 -- What the term at a word uses is what the word itself and its parts use.
-use Rattle.std.proofs.Common.{◌≡◌, ◌<◌, ◌≤◌, ℕ, ◌+◌, List, length, refl, sym, ap, ◌∙◌, subst, arith}
-use Rattle.derived_ops.specs.Tree.{Tree}
-use Rattle.derived_ops.specs.declared.core_word.CoreWord.{CoreWord}
+use Rattle.fiber_frames.proofs.Prelude.{◌≡◌, ◌<◌, ◌≤◌, ℕ, ◌+◌, List, length, refl, sym, ap, ◌∙◌, subst, arith, Tree, CoreWord, second, third, tree_at, word_at}
+use Rattle.fiber_frames.proofs.Prelude.{word_tree, tree_past_end, tree_word, EnvEntry, Use, close, env_of, last_of, own_hits, term_hits, tree_hits, many_parts}
 use Rattle.derived_ops.specs.declared.core_word.CoreWord.TheVariants as word
-use Rattle.derived_ops.specs.Words.{second, third, tree_at, word_at, word_tree}
-use Rattle.derived_ops.proofs.Words.{tree_past_end, tree_word}
-use Rattle.fiber_frames.specs.declared.env.EnvEntry.{EnvEntry}
-use Rattle.fiber_frames.specs.declared.uses.Use.{Use}
-use Rattle.fiber_frames.specs.Env.{close, env_of}
-use Rattle.fiber_frames.specs.Hits.{last_of, own_hits, term_hits, tree_hits}
-use Rattle.fiber_frames.specs.SlotNames.{many_parts}
 
 -- the last part of a word
 abbrev last_part : CoreWord → (a b c : ℕ → Tree) → ℕ → Tree
@@ -27,11 +19,6 @@ module _ (u : Use) (n : ℕ) (es : List EnvEntry) (level : ℕ) where
   module _ (m : ℕ) (a b c : ℕ → Tree) where
     word_front : (w : CoreWord) → 0 < many_parts w → own_hits u n es level w ≡ 0 → (1 < many_parts w → (j : ℕ) → hits (a j) ≡ 0) →
         (2 < many_parts w → (j : ℕ) → hits (b j) ≡ 0) → (j : ℕ) × (hits (word_tree w m a b c) ≡ hits (last_part w a b c j))
-    word_front (word.Pure v) some own first next = absurd (omega (arith, some))
-    word_front (word.Raise v) some own first next = absurd (omega (arith, some))
-    word_front (word.Act o) some own first next = absurd (omega (arith, some))
-    word_front (word.Note h q) some own first next = absurd (omega (arith, some))
-    word_front (word.Cancel f) some own first next = absurd (omega (arith, some))
     word_front (word.Let j) some own first next = let z = first (omega arith) m in (m + 1, omega (arith, z))
     word_front (word.Seq r j) some own first next = let z = first (omega arith) m in (m, omega (arith, z))
     word_front (word.Handle j) some own first next = let z = first (omega arith) m in (m + 1, omega (arith, z))
@@ -46,6 +33,7 @@ module _ (u : Use) (n : ℕ) (es : List EnvEntry) (level : ℕ) where
     word_front word.Uncancelable some own first next = (m + 1, refl)
     word_front (word.Poll q) some own first next = (m, refl)
     word_front (word.OnCancel j) some own first next = let z = first (omega arith) m in (m, omega (arith, z))
+    word_front _ some own first next = absurd (omega (arith, some))
 
     word_own : (w : CoreWord) → 0 < own_hits u n es level w → 0 < hits (word_tree w m a b c)
     word_own (word.Act o) own = own
@@ -113,5 +101,4 @@ module _ (u : Use) (n : ℕ) (es : List EnvEntry) (level : ℕ) where
         subst (λ t. 0 < hits t) (sym (here m)) (word_next m (tree_at ws (i + 1)) (tree_at ws (i + 1 + second w)) (tree_at ws (i + 1 + third w)) w more h)
 
     pub term_ends : (m : ℕ) → many_parts w ≡ 0 → own_hits u n es level w ≡ 0 → counted ws i m ≡ 0
-    term_ends m none own =
-        ap hits (here m) ∙ word_ends m (tree_at ws (i + 1)) (tree_at ws (i + 1 + second w)) (tree_at ws (i + 1 + third w)) w none own
+    term_ends m none own = ap hits (here m) ∙ word_ends m (tree_at ws (i + 1)) (tree_at ws (i + 1 + second w)) (tree_at ws (i + 1 + third w)) w none own

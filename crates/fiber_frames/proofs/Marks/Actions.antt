@@ -1,15 +1,8 @@
 -- What a row of a word without parts makes: a value, an error or such a word, no child, and no mark but that of `say`.
-use Rattle.std.proofs.Common.{ℕ, true, false, if◌then◌else◌, List, [], ◌∷◌, Option, Some, None}
-use Rattle.std.specs.Prelude.{ℤ, pos, ◌+ℤ◌}
-use Rattle.derived_ops.specs.Tree.{Act, Action, Add, Await, Canceled, Cede, Complete, Ending, Get, Handle}
-use Rattle.derived_ops.specs.Tree.{Modify, Never, Number, Pure, Raise, Request, Say, Set, Tree, Operand}
-use Rattle.effect_term.specs.declared.reply.Outcome.{Outcome}
-use Rattle.effect_term.specs.declared.reply.Reply.{Reply}
-use Rattle.fiber_frames.specs.Rows.{Born, Ceded, Ended, RowKind, Plain, Row, Waited, action_row, after_end}
-use Rattle.fiber_frames.specs.Rows.{after_read, fits, is_ended, number_of, outcome_in, read_in, sum_or_raise}
-use Rattle.fiber_frames.specs.Rows.{unit, wait}
-use Rattle.fiber_frames.specs.declared.ask.Ask.{Ask}
-use Rattle.fiber_frames.specs.declared.mark.Mark.{Mark}
+use Rattle.fiber_frames.proofs.Prelude.{ℕ, true, false, if◌then◌else◌, List, [], ◌∷◌, Option, Some, None, ℤ, pos, ◌+ℤ◌, Act, Action, Add, Await, Canceled, Cede}
+use Rattle.fiber_frames.proofs.Prelude.{Complete, Ending, Get, Handle, Modify, Never, Number, Pure, Raise, Request, Say, Set, Tree, Operand, Outcome, Reply}
+use Rattle.fiber_frames.proofs.Prelude.{Born, RowKind, Row, action_row, after_end, after_read, fits, is_ended, number_of, outcome_in, read_in, sum_or_raise}
+use Rattle.fiber_frames.proofs.Prelude.{unit, wait, Ask, Mark}
 use Rattle.fiber_frames.specs.declared.mark.Mark.TheVariants as mark
 
 -- a value, an error, or a word without parts
@@ -34,10 +27,7 @@ NoBirth _ = Unit {0}
 
 pub none_born : (k : RowKind) (p : Tree → Type 0) → NoBirth k → If_born k p
 none_born (Born e) p h = absurd h
-none_born Plain p h = tt
-none_born Waited p h = tt
-none_born Ceded p h = tt
-none_born (Ended o) p h = tt
+none_born _ p h = tt
 
 pub wait_none : {T : Type 0} (o : Option T) → NoBirth (wait o)
 wait_none None = tt

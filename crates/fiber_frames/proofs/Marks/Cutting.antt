@@ -1,9 +1,6 @@
 -- Which masks the marks show as on, and which brackets a term may still acquire.
-use Rattle.std.specs.Prelude.{◌≡◌, ◌⊎◌, ℕ, ◌+◌, ◌≤◌, Bool, true, false, nat_eq, if◌then◌else◌, List, [], ◌∷◌}
-use Rattle.derived_ops.specs.Tree.{Acquired, Guarded, Handled, If0, Join, Let, Loop, Make, Mask, Masked, Named}
-use Rattle.derived_ops.specs.Tree.{Note, On_cancel, Poll, Polled, Seq, Start, Tree, Uncancelable}
-use Rattle.fiber_frames.specs.Path.{same_mask}
-use Rattle.fiber_frames.specs.declared.mark.Mark.{Mark}
+use Rattle.fiber_frames.proofs.Prelude.{◌≡◌, ◌⊎◌, ℕ, ◌+◌, ◌≤◌, Bool, true, false, nat_eq, if◌then◌else◌, List, [], ◌∷◌, Acquired, Guarded, Handled, If0, Join}
+use Rattle.fiber_frames.proofs.Prelude.{Let, Loop, Make, Mask, Masked, Named, Note, On_cancel, Poll, Polled, Seq, Start, Tree, Uncancelable, same_mask, Mark}
 use Rattle.fiber_frames.specs.declared.mark.Mark.TheVariants as mark
 
 -- whether mask m is entered, not left and not polled, after a mark

@@ -1,19 +1,13 @@
 -- Lists of marks: what is taken, what is on, and the stack of open brackets by their numbers.
-use Rattle.std.proofs.Common.{◌≡◌, ◌≢◌, ◌⊎◌, inl, inr, ℕ, ◌+◌, Bool, true, false, if◌then◌else◌, nat_eq, List}
-use Rattle.std.proofs.Common.{[], ◌∷◌, ◌++◌, Some, None, refl, sym, ap, ◌∙◌, subst, arith, append_assoc}
-use Rattle.std.proofs.lemmas.Bool.{eqb-true, eqb-false, eq-eqb}
-use Rattle.std.specs.Prelude.{◌&&◌}
-use Rattle.derived_ops.specs.Tree.{Mask, Pair}
+use Rattle.fiber_frames.proofs.Prelude.{◌≡◌, ◌≢◌, ◌⊎◌, inl, inr, ℕ, ◌+◌, Bool, true, false, if◌then◌else◌, nat_eq, List, [], ◌∷◌, ◌++◌, Some, None, refl, sym}
+use Rattle.fiber_frames.proofs.Prelude.{ap, ◌∙◌, subst, arith, append_assoc, eqb-true, eqb-false, eq-eqb, ◌&&◌, Mask, Pair, Has, IsCutOnce, IsPolled, NoCut}
+use Rattle.fiber_frames.proofs.Prelude.{bracket_steps, times_acquired, same_mask, mask_number, Mark}
 use Rattle.fiber_frames.proofs.Marks.Balance.{Held_number, signs, then_signs}
 use Rattle.fiber_frames.proofs.Marks.Cutting.{is_on, on_after, only}
 use Rattle.fiber_frames.proofs.Marks.Keeping.{Own}
 use Rattle.fiber_frames.proofs.Marks.Opened.{Freeing, Held, Opened, after_marks, and_then}
 use Rattle.fiber_frames.proofs.Marks.Saving.{taken}
 use Rattle.fiber_frames.proofs.Marks.Typed.{In, Stack}
-use Rattle.fiber_frames.specs.Marks.{Has, IsCutOnce, IsPolled, NoCut, bracket_steps, times_acquired}
-use Rattle.fiber_frames.specs.Path.{same_mask}
-use Rattle.fiber_frames.specs.Rows.{mask_number}
-use Rattle.fiber_frames.specs.declared.mark.Mark.{Mark}
 use Rattle.fiber_frames.proofs.Marks.Balance as balance
 use Rattle.fiber_frames.specs.declared.mark.Mark.TheVariants as mark
 
@@ -42,8 +36,7 @@ pub no_cut_append : (a b : List Mark) → NoCut a → NoCut b → NoCut (a ++ b)
 no_cut_append a b h g k = elim (has_append mark.Cut a b k) [ inl x ↦ h x | inr x ↦ g x ]
 
 pub cut_once_more : (ms ns : List Mark) → IsCutOnce ms → NoCut ns → IsCutOnce (ms ++ ns)
-cut_once_more ms ns h n =
-    (h.0, h.1 ++ ns, ap (λ y. y ++ ns) h.2 ∙ append_assoc h.0 (mark.Cut ∷ h.1) ns, h.3, no_cut_append h.1 ns h.4 n, h.5)
+cut_once_more ms ns h n = (h.0, h.1 ++ ns, ap (λ y. y ++ ns) h.2 ∙ append_assoc h.0 (mark.Cut ∷ h.1) ns, h.3, no_cut_append h.1 ns h.4 n, h.5)
 
 pub is_on-append : (m : ℕ) (b : Bool) (xs ys : List Mark) → is_on m b (xs ++ ys) ≡ is_on m (is_on m b xs) ys
 is_on-append m b [] ys = refl
@@ -111,8 +104,7 @@ slots [] = []
 slots (o ∷ s) = slot_of o ∷ slots s
 
 same_number : (i m : ℕ) (q : Mask) → Own i q → same_mask (Pair i m) q ≡ nat_eq m (mask_number q)
-same_number i m q h =
-    ap (same_mask (Pair i m)) h.1 ∙ ap (λ b. b && nat_eq m h.0) (eq-eqb i i refl) ∙ ap (λ y. nat_eq m (mask_number y)) (sym h.1)
+same_number i m q h = ap (same_mask (Pair i m)) h.1 ∙ ap (λ b. b && nat_eq m h.0) (eq-eqb i i refl) ∙ ap (λ y. nat_eq m (mask_number y)) (sym h.1)
 
 pub on_numbers : (i : ℕ) (ms : List Mark) (s t : Stack) → In (Own i) s → after_marks i ms s ≡ Some t → signs (bracket_steps ms) (slots s) ≡ Some (slots t)
 on_numbers i [] s t o e = let same : s ≡ t = cc in ap (λ y. Some (slots y)) same

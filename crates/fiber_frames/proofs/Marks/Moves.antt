@@ -1,14 +1,7 @@
 -- A move, by its cases.
-use Rattle.std.proofs.Common.{◌≡◌, List, [], ◌∷◌, ◌++◌, ◌+◌, refl, sym, ap, ◌∙◌}
-use Rattle.std.specs.Prelude.{ℕ}
-use Rattle.derived_ops.specs.Tree.{Mask, Tree}
-use Rattle.effect_term.specs.declared.reply.Reply.{Reply}
+use Rattle.fiber_frames.proofs.Prelude.{◌≡◌, List, [], ◌∷◌, ◌++◌, ◌+◌, refl, sym, ap, ◌∙◌, ℕ, Mask, Tree, Reply, Fiber, active_of, case_in, cut, looked, move}
+use Rattle.fiber_frames.proofs.Prelude.{move_in, reduced, row_of, Final, Running, Runs, active_at, focus, pending_at, Look, Clear, Due, Seen, Mark}
 use Rattle.fiber_frames.proofs.Walk.{active_root, finalizers_below, masks_below, pending_root}
-use Rattle.fiber_frames.specs.Fiber.{Fiber, active_of, case_in, cut, looked, move, move_in, reduced, row_of}
-use Rattle.fiber_frames.specs.Path.{Broken, Final, Over, Running, Runs, active_at, focus, pending_at}
-use Rattle.fiber_frames.specs.declared.ask.Look.{Look}
-use Rattle.fiber_frames.specs.declared.ask.Look.TheVariants.{Clear, Due, Seen}
-use Rattle.fiber_frames.specs.declared.mark.Mark.{Mark}
 use Rattle.fiber_frames.specs.declared.mark.Mark.TheVariants as mark
 
 pub active_run : (f : Fiber) (w : Running) (up : List Mask) → f.running ≡ w → active_of f ≡ up → active_at f.number (focus w) ≡ up
@@ -21,8 +14,6 @@ pub move_by : (Q : Fiber → Type 0) (f : Fiber) (r : Reply) → Q f → Q (look
 move_by Q f r same looks cuts_run cuts_final rows = go f.running refl (active_of f) refl f.look
   where
     go : (w : Running) → f.running ≡ w → (up : List Mask) → active_of f ≡ up → (l : Look) → Q (move_in f r (case_in w up l))
-    go (Over o) e up a l = same
-    go Broken e up a l = same
     go (Runs t) e (q ∷ up) a l = rows
     go (Runs t) e [] a Due = looks
     go (Runs t) e [] a Clear = rows
@@ -31,6 +22,7 @@ move_by Q f r same looks cuts_run cuts_final rows = go f.running refl (active_of
     go (Final m gs) e [] a Due = looks
     go (Final m gs) e [] a Clear = rows
     go (Final m gs) e [] a Seen = cuts_final m gs e a
+    go _ e up a l = same
 
 -- a fiber that goes on so, with these marks noted
 abbrev pub noted : Fiber → Running → ℕ → List Mark → Fiber

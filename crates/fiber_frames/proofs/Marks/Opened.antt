@@ -1,8 +1,6 @@
 -- Brackets, as a stack of those that are open.
-use Rattle.std.specs.Prelude.{ℕ, if◌then◌else◌, List, [], ◌∷◌, Option, Some, None}
-use Rattle.derived_ops.specs.Tree.{Acquired, Bracket_mark, Mask, Pair, Released, Releasing}
-use Rattle.fiber_frames.specs.Path.{same_mask}
-use Rattle.fiber_frames.specs.declared.mark.Mark.{Mark}
+use Rattle.fiber_frames.proofs.Prelude.{ℕ, if◌then◌else◌, List, [], ◌∷◌, Option, Some, None, Acquired, Bracket_mark, Mask, Pair, Released, Releasing, same_mask}
+use Rattle.fiber_frames.proofs.Prelude.{Mark}
 use Rattle.fiber_frames.specs.declared.mark.Mark.TheVariants as mark
 
 pub data Opened : Type 0 where

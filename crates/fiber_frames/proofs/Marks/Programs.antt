@@ -1,19 +1,15 @@
 -- The expansion of every closed, well-kinded program leaves open what was open, and acquires each mask at most once.
-use Rattle.std.proofs.Common.{◌≡◌, ◌≢◌, ℕ, zero, suc, ◌+◌, ◌≤◌, ◌<◌, inl, inr, List, [], ◌∷◌, ◌++◌, Some, refl, arith, slice_get, sym, subst, append_assoc}
-use Rattle.std.specs.Prelude.{pos}
-use Rattle.derived_ops.specs.Expansion.{awaits, both_side, code_of, ended, expansion, gives_up, guarantee, nil}
-use Rattle.derived_ops.specs.Expansion.{pair_race, race_side, runs_side, slot_at, value_in}
-use Rattle.derived_ops.specs.Reading.{seq_of, source_of, value_of}
-use Rattle.derived_ops.specs.Source.{Source}
-use Rattle.derived_ops.specs.Tree.{Act, Always, Canceled, Complete, Named, Never, New_deferred, New_ref, Number, Open_slot, Slot, Times, Tree, Uncancelable}
+use Rattle.fiber_frames.proofs.Prelude.{◌≡◌, ◌≢◌, ℕ, zero, suc, ◌+◌, ◌≤◌, ◌<◌, inl, inr, List, [], ◌∷◌, ◌++◌, Some, refl, arith, slice_get, sym, subst}
+use Rattle.fiber_frames.proofs.Prelude.{append_assoc, pos, awaits, both_side, code_of, ended, expansion, gives_up, guarantee, nil, pair_race, race_side}
+use Rattle.fiber_frames.proofs.Prelude.{runs_side, slot_at, seq_of, source_of, value_of, Source, Act, Always, Canceled, Complete, Named, Never, New_deferred}
+use Rattle.fiber_frames.proofs.Prelude.{New_ref, Number, Open_slot, Slot, Times, Tree, Uncancelable}
+use Rattle.derived_ops.specs.Expansion.{value_in}
 use Rattle.effect_term.specs.Kinds.{AllWellKinded, WellKinded}
 use Rattle.effect_term.specs.declared.term.Kind.{Kind}
 use Rattle.effect_term.specs.declared.term.Term.{Row_of-Term, Term, end_of-Term, more_of-Term}
 use Rattle.fiber_frames.proofs.Marks.Derived.{named_ne}
-use Rattle.fiber_frames.proofs.Marks.Plain.{Part, part_act, part_bracket, part_cancel, part_down, part_handle}
-use Rattle.fiber_frames.proofs.Marks.Plain.{part_if0, part_join, part_let, part_loop, part_make, part_on_cancel}
-use Rattle.fiber_frames.proofs.Marks.Plain.{part_poll, part_pure, part_raise, part_seq, part_start}
-use Rattle.fiber_frames.proofs.Marks.Plain.{part_uncancelable}
+use Rattle.fiber_frames.proofs.Marks.Plain.{Part, part_act, part_bracket, part_cancel, part_down, part_handle, part_if0, part_join, part_let, part_loop}
+use Rattle.fiber_frames.proofs.Marks.Plain.{part_make, part_on_cancel, part_poll, part_pure, part_raise, part_seq, part_start, part_uncancelable}
 use Rattle.fiber_frames.proofs.Marks.Typed.{Masks, with_slot}
 use Rattle.effect_term.specs.declared.term.Kind.TheVariants as kind
 use Rattle.effect_term.specs.declared.term.Term.TheVariants as term
@@ -113,21 +109,19 @@ scope_plain g m V d k c e ne l s =
     record { even = even_more g m k c s.even; polls = polls_more g m k c V s.even s.polls (λ x. absurd (ne x)); fresh = λ v y. s.fresh v (omega arith) }
 
 scope_poll : (g : List Kind) (m : List ℕ) (V : Masks) (d : ℕ) → Scope g m V d → Scope (g ++ kind.Poll ∷ []) (m ++ d ∷ []) (with_slot V d) (d + 1)
-scope_poll g m V d s =
-    record {
-      even = even_more g m kind.Poll d s.even;
-      polls = polls_more g m kind.Poll d (with_slot V d) s.even (λ v x. inl (s.polls v x)) (λ x. inr refl);
-      fresh = λ v l. elim [ inl h ↦ s.fresh v (omega arith) h | inr h ↦ named_ne v d (omega arith) h ];
-    }
+scope_poll g m V d s = record {
+  even = even_more g m kind.Poll d s.even;
+  polls = polls_more g m kind.Poll d (with_slot V d) s.even (λ v x. inl (s.polls v x)) (λ x. inr refl);
+  fresh = λ v l. elim [ inl h ↦ s.fresh v (omega arith) h | inr h ↦ named_ne v d (omega arith) h ];
+}
 
 -- below a poll of the table's own
 scope_under : (g : List Kind) (m : List ℕ) (V : Masks) (d c e : ℕ) → d ≤ e → c < e → Scope g m V d → Scope g m (with_slot V c) e
-scope_under g m V d c e l lc s =
-    record {
-      even = s.even;
-      polls = λ v x. inl (s.polls v x);
-      fresh = λ v y. elim [ inl h ↦ s.fresh v (omega arith) h | inr h ↦ named_ne v c (omega arith) h ];
-    }
+scope_under g m V d c e l lc s = record {
+  even = s.even;
+  polls = λ v x. inl (s.polls v x);
+  fresh = λ v y. elim [ inl h ↦ s.fresh v (omega arith) h | inr h ↦ named_ne v c (omega arith) h ];
+}
 
 scope_up : (g : List Kind) (m : List ℕ) (V : Masks) (d e : ℕ) → d ≤ e → Scope g m V d → Scope g m V e
 scope_up g m V d e l s = record { even = s.even; polls = s.polls; fresh = λ v y. s.fresh v (omega arith) }
@@ -222,8 +216,7 @@ mutual
   sound (term.Pure v) g m d V s w = part_pure V d (value_in m (value_of v))
   sound (term.Raise v) g m d V s w = part_raise V d (value_in m (value_of v))
   sound (term.Let' _ e _ k) g m d V s w = part_let V d _ d _ (sound e g m d V s w.0) (bound g m d V s kind.Value not_poll_value k (sound k) w.1)
-  sound (term.Seq' _ a _ b _ more) g m d V s w =
-      sound_seq g m d V s (source_of a) (source_of b) more (sound a g m d V s w.0) (sound b g m d V s w.1) w.2
+  sound (term.Seq' _ a _ b _ more) g m d V s w = sound_seq g m d V s (source_of a) (source_of b) more (sound a g m d V s w.0) (sound b g m d V s w.1) w.2
   sound (term.Handle' _ e _ h) g m d V s w = part_handle V d _ d _ (sound e g m d V s w.0) (bound g m d V s kind.Value not_poll_value h (sound h) w.1)
   sound (term.If0' v _ a _ b) g m d V s w = part_if0 V d (value_in m (value_of v)) _ _ (sound a g m d V s w.1) (sound b g m d V s w.2)
   sound (term.Add v u) g m d V s w = part_act V d _
@@ -273,8 +266,7 @@ mutual
   sound_seq : (g : List Kind) (m : List ℕ) (d : ℕ) (V : Masks) → Scope g m V d → (a b : Source) {n : _} (more : Row_of-Term n) →
       Part V d (expansion m d a) → Part V d (expansion m d b) → AllWellKinded g more → Part V d (expansion m d (seq_of a b more))
   sound_seq g m d V s a b end_of-Term ha hb w = part_seq V d _ _ _ ha hb
-  sound_seq g m d V s a b (more_of-Term c rest) ha hb w =
-      part_seq V d _ _ _ ha (sound_seq g m d V s b (source_of c) rest hb (sound c g m d V s w.0) w.1)
+  sound_seq g m d V s a b (more_of-Term c rest) ha hb w = part_seq V d _ _ _ ha (sound_seq g m d V s b (source_of c) rest hb (sound c g m d V s w.0) w.1)
 
 abbrev pub None_named : Masks
 None_named q = ⊥

@@ -1,10 +1,9 @@
 -- Marks that are lawful, and marks that aren't.
-use Rattle.std.proofs.Common.{◌≡◌, inl, inr, ℕ, List, [], ◌∷◌, ◌++◌, Option, Some, refl, sym, subst}
+use Rattle.fiber_frames.proofs.Prelude.{◌≡◌, inl, inr, ℕ, List, [], ◌∷◌, ◌++◌, Option, Some, refl, sym, subst, Act, Canceled, Last, Named, Note, Poll, Seq}
+use Rattle.fiber_frames.proofs.Prelude.{Uncancelable, Mark, bracket_steps, Nested, empty, bracket, Has, IsPolled, UncutRegions}
 use Rattle.derived_ops.specs.Tree as tree
-use Rattle.derived_ops.specs.Tree.{Act, Canceled, Last, Named, Note, Poll, Seq, Uncancelable}
-use Rattle.fiber_frames.specs.declared.mark.Mark.{Mark}
 use Rattle.fiber_frames.specs.declared.mark.Mark.TheVariants as mark
-use Rattle.fiber_frames.specs.Marks.{Acquired, Releasing, Released, bracket_steps, Nested, empty, bracket, Has, IsPolled, UncutRegions}
+use Rattle.fiber_frames.specs.Marks.{Acquired, Releasing, Released}
 use Rattle.fiber_frames.proofs.Marks.Balance.{balanced_signs}
 use Rattle.fiber_frames.proofs.Marks.Typed.{If_ends, Masks, Stack, Typed, with_slot}
 
@@ -28,8 +27,7 @@ kept_open h = let e = balanced_signs h [] in cc
 
 -- a cut below the poll of its mask
 polled : UncutRegions (mark.Enter 0 ∷ mark.PollIn 0 ∷ mark.Cut ∷ [])
-polled =
-    inr (mark.Enter 0 ∷ mark.PollIn 0 ∷ [], [], refl, elim [ inl e ↦ cc | inr g ↦ elim g [ inl e ↦ cc | inr h ↦ h ] ], (λ h. h), there)
+polled = inr (mark.Enter 0 ∷ mark.PollIn 0 ∷ [], [], refl, elim [ inl e ↦ cc | inr g ↦ elim g [ inl e ↦ cc | inr h ↦ h ] ], (λ h. h), there)
   where
     there : (m : ℕ) → Has (mark.Enter m) (mark.Enter 0 ∷ mark.PollIn 0 ∷ []) → (Has (mark.Leave m) (mark.Enter 0 ∷ mark.PollIn 0 ∷ []) → ⊥) →
         IsPolled m (mark.Enter 0 ∷ mark.PollIn 0 ∷ [])
@@ -48,13 +46,12 @@ masked (inr h) = go h.0 h.1 h.2 h.5
     unpolled (x ∷ y ∷ a) b e = cc
 
     go : (a b : List Mark) → mark.Enter 0 ∷ mark.Cut ∷ [] ≡ a ++ mark.Cut ∷ b → ((m : ℕ) → Has (mark.Enter m) a → (Has (mark.Leave m) a → ⊥) → IsPolled m a) → ⊥
-    go [] b e f = cc
     go (x ∷ []) b e f =
         let here : mark.Enter 0 ≡ x = cc in
         let p = subst (λ y. (Has (mark.Leave 0) (y ∷ []) → ⊥) → IsPolled 0 (y ∷ [])) (sym here) (f 0 (inl (sym here))) (elim [ inl e ↦ cc | inr h ↦ h ]) in
         unpolled p.0 p.1 p.2
     go (x ∷ y ∷ []) b e f = cc
-    go (x ∷ y ∷ z ∷ a) b e f = cc
+    go _ b e f = cc
 
 -- a bracket marked as acquired before an acquisition that polls: a cut there would leave it open
 acquired_before : (i : ℕ) (P : Masks) (n x : Option Stack) →

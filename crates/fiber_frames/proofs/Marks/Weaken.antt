@@ -1,11 +1,8 @@
 -- A term stays typed where more masks may be named.
-use Rattle.std.proofs.Common.{ℕ, inl, inr, List, [], ◌∷◌, Option, Some, None, sym, subst}
-use Rattle.derived_ops.specs.Tree.{Act, Cancel, Guarded, Handled, If0, Join, Let, Loop, Make, Mask, Masked}
-use Rattle.derived_ops.specs.Tree.{Named, Note, On_cancel, Pair, Poll, Polled, Pure, Raise, Seq, Start, Tree}
-use Rattle.derived_ops.specs.Tree.{Uncancelable}
+use Rattle.fiber_frames.proofs.Prelude.{ℕ, inl, inr, List, [], ◌∷◌, Option, Some, None, sym, subst, Act, Cancel, Guarded, Handled, If0, Join, Let, Loop, Make}
+use Rattle.fiber_frames.proofs.Prelude.{Mask, Masked, Named, Note, On_cancel, Pair, Poll, Polled, Pure, Raise, Seq, Start, Tree, Uncancelable, undone}
 use Rattle.fiber_frames.proofs.Marks.Opened.{Freeing, Held}
 use Rattle.fiber_frames.proofs.Marks.Typed.{AllOf, If_ends, In, Leads, Masks, Stack, Typed, Weaker, with_slot}
-use Rattle.fiber_frames.specs.Path.{undone}
 
 -- more may be named, but no other slot
 pub record Grows (P P' : Masks) : Type 0 where
@@ -72,8 +69,7 @@ typed_more (Start v e b) i P P' up k s n x w h =
 typed_more (Loop m e) i P P' up k s n x w h = (h.0, h.1, typed_more e i P P' up k s (Some s) x w h.2)
 typed_more (Uncancelable v e) i P P' up k s n x w h =
     (h.0, (λ g. h.1 (w.back v g)), h.2, h.3, typed_more e i (with_slot P v) (with_slot P' v) (Named v ∷ up) k s n x (more_below P P' v w) h.4)
-typed_more (Poll q e) i P P' up k s n x w h =
-    (h.0, w.more q h.1, h.2, h.3, typed_more e i P P' (undone q up) k s n x w h.4)
+typed_more (Poll q e) i P P' up k s n x w h = (h.0, w.more q h.1, h.2, h.3, typed_more e i P P' (undone q up) k s n x w h.4)
 typed_more (On_cancel e fin) i P P' up k s n x w h = (
   h.0,
   h.1,
@@ -84,8 +80,7 @@ typed_more (On_cancel e fin) i P P' up k s n x w h = (
   h.5,
   h.6,
 )
-typed_more (Masked m e) i P P' up k s n x w h =
-    (w.more (Pair i m) h.0, h.1, h.2, typed_more e i P P' (Pair i m ∷ up) k s n x w h.3)
+typed_more (Masked m e) i P P' up k s n x w h = (w.more (Pair i m) h.0, h.1, h.2, typed_more e i P P' (Pair i m ∷ up) k s n x w h.3)
 typed_more (Polled q e) i P P' up k s n x w h = (w.more q h.0, h.1, h.2, typed_more e i P P' (undone q up) k s n x w h.3)
 typed_more (Guarded e fin) i P P' up k s n x w h = (
   h.0,

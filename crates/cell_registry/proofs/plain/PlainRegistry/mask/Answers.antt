@@ -1,9 +1,5 @@
-use Rattle.std.proofs.Common.{arith, subst}
-use Rattle.std.proofs.lemmas.Grind.{common_steps}
+use Rattle.cell_registry.proofs.Prelude.{arith, subst, common_steps, Mask, after, reply_of, refusal, IsAllowed, IsPlain}
 use Rattle.effect_term.specs.declared.reply.Reply.TheVariants as reply
-use Rattle.cell_registry.specs.declared.call.Call.TheVariants.{Mask}
-use Rattle.cell_registry.specs.Cells.{after, reply_of, refusal, IsAllowed}
-use Rattle.cell_registry.specs.Plain.{IsPlain}
 use Rattle.cell_registry.proofs.PlainCalls.{IsPlain-made}
 use Rattle.cell_registry.proofs.plain.PlainRegistry.mask.Goals as goal
 

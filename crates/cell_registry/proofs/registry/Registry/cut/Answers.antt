@@ -1,12 +1,9 @@
-use Rattle.std.proofs.Common.{◌≡◌, ℕ, ◌+◌, sym, ◌∙◌, ap, subst, refl, rules, true}
-use Rattle.cell_registry.specs.declared.cell.Stage.TheVariants.{Running, Finalizing}
+use Rattle.cell_registry.proofs.Prelude.{◌≡◌, ℕ, ◌+◌, sym, ◌∙◌, ap, subst, refl, rules, true, Running, Finalizing, IsOpen, seen_cell, RegistryView, PassView}
+use Rattle.cell_registry.proofs.Prelude.{Changes, pass_of}
 use Rattle.cell_registry.specs.declared.call.Call.TheVariants as call
-use Rattle.cell_registry.specs.Cells.{IsOpen}
-use Rattle.cell_registry.specs.Rule.{seen_cell}
-use Rattle.cell_registry.specs.Passes.{RegistryView, PassView, Changes, pass_of}
 use Rattle.cell_registry.proofs.OwnTurns.{cuts_as}
-use Rattle.cell_registry.proofs.Tokens.{of_registry, own_place, seat_has, seat_cell, called_by, call-prefix}
-use Rattle.cell_registry.proofs.Tokens.{pass_of-step, seated_changed, count_below, seen_count_below}
+use Rattle.cell_registry.proofs.Tokens.{of_registry, own_place, seat_has, seat_cell, called_by, call-prefix, pass_of-step, seated_changed, count_below}
+use Rattle.cell_registry.proofs.Tokens.{seen_count_below}
 use Rattle.cell_registry.proofs.Requests.{legal-cuts}
 use Rattle.cell_registry.proofs.registry.Registry.cut.Goals as goal
 
