@@ -3,14 +3,10 @@
 use Rattle.std.proofs.Common.{◌≡◌, ℕ, zero, suc, ◌<◌, ◌≤◌, List, [], ◌∷◌, ◌++◌, length, Result, Ok, Err, refl, sym, ap, ◌∙◌, subst, arith, inl, inr}
 use mathlib.Core.Logic.{◌⊎◌, dite}
 use native.Mathlib.Decide.{ℕ_discrete}
-use Rattle.world_search.specs.declared.answers.Answer.{Answer}
-use Rattle.world_search.specs.declared.landings.Landing.{Landing}
-use Rattle.world_search.specs.declared.landings.Landing.TheVariants as to
-use Rattle.world_search.specs.Answers.{LeadsTo, Tells, IsAnswered, IsCovered, IsEnd}
-use Rattle.world_search.specs.Free.{Commutes, AreFree, Leads, Leaps, AreGrowing}
-use Rattle.world_search.specs.Free.Leads.{Here, On}
-use Rattle.world_search.specs.Systems.{run, reported, IsSettled}
+use Rattle.world_search.specs.{declared.{answers.Answer.Answer, landings.Landing.Landing}, Answers.{LeadsTo, Tells, IsAnswered, IsCovered, IsEnd}}
+use Rattle.world_search.specs.{Free.{Commutes, AreFree, Leads, Leaps, AreGrowing, Leads.{Here, On}}, Systems.{run, reported, IsSettled}}
 use Rattle.world_search.proofs.Closed.{run-append}
+use Rattle.world_search.specs.declared.landings.Landing.TheVariants as to
 
 -- a fault stays
 pub run_fault : {W E : Type 0} (step : W → ℕ → Result W E) (e : E) (s : List ℕ) → run step (Err e) s ≡ Err e

@@ -3,10 +3,7 @@
 use Rattle.std.proofs.Common.{◌≡◌, ℕ, zero, suc, ◌<◌, ◌≤◌, Bool, false, List, [], ◌∷◌, length, Result, Ok, Err, refl, sym, ap, ◌∙◌, subst, arith}
 use mathlib.Core.Logic.{dite}
 use native.Mathlib.Decide.{ℕ_discrete}
-use Rattle.world_search.specs.Free.{AreFree, Commutes, Leads, Leaps}
-use Rattle.world_search.specs.Free.Leads.{Here, On}
-use Rattle.world_search.specs.Systems.{run}
-use Rattle.world_search.proofs.Free.{run_fault}
+use Rattle.world_search.{specs.{Free.{AreFree, Commutes, Leads, Leaps, Leads.{Here, On}}, Systems.run}, proofs.Free.run_fault}
 
 module _ {W E : Type 0} (step : W → ℕ → Result W E) (Free : W → ℕ → Type 0) where
   leads_on : (a b c : W) → Leads step Free a b → Leads step Free b c → Leads step Free a c
