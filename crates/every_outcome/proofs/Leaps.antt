@@ -1,15 +1,12 @@
 -- Entries with own moves after them: the search makes own moves after each entry, and no others.
 use Rattle.std.proofs.Common.{◌≡◌, ℕ, zero, suc, ◌≤◌, Bool, true, false, length, Some, None, Option, Result, Ok, Err, refl, sym, ap, ◌∙◌}
 use Rattle.std.specs.List.{slice_get}
-use Rattle.cell_registry.specs.declared.limits.Limits.{Limits}
-use Rattle.cell_registry.specs.declared.limits.RunError.{RunError}
+use Rattle.cell_registry.specs.declared.limits.{Limits.Limits, RunError.RunError}
 use Rattle.fiber_frames.specs.Fiber.{Fiber}
 use Rattle.scheduled_core.specs.Core.{World}
-use Rattle.world_search.specs.Free.{Leads, Leaps}
-use Rattle.world_search.specs.Free.Leads.{Here, On}
-use Rattle.every_outcome.specs.Places.{Place, stepped, unmarked_place, unmarked_world}
-use Rattle.every_outcome.specs.Private.Reduced.{after_own, behind, if_own, leapt, leapt_by, or_stays, owns_next, pushed, pushed_once, swept}
-use Rattle.every_outcome.proofs.Commuting.{IsFree, free_from, led_unmarked}
+use Rattle.world_search.specs.Free.{Leads, Leaps, Leads.{Here, On}}
+use Rattle.every_outcome.specs.{Places.{Place, stepped, unmarked_place, unmarked_world}, Private.Reduced.{after_own, behind, if_own, leapt, leapt_by, or_stays}}
+use Rattle.every_outcome.{specs.Private.Reduced.{owns_next, pushed, pushed_once, swept}, proofs.Commuting.{IsFree, free_from, led_unmarked}}
 use Rattle.every_outcome.proofs.Stepping.{get_past, get_unmarked, unborn_stays}
 
 -- ---- several own moves

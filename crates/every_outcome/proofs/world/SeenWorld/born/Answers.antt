@@ -1,8 +1,5 @@
-use Rattle.std.proofs.Common.{◌≡◌, ◌≤◌, length, Ok, subst, ap, arith, rules}
-use Rattle.std.proofs.lemmas.Grind.{common_steps}
-use Rattle.every_outcome.specs.Places.{Place}
-use Rattle.every_outcome.specs.Private.Reduced.{leapt}
-use Rattle.every_outcome.proofs.Leaps.{leapt_rests}
+use Rattle.std.proofs.{Common.{◌≡◌, ◌≤◌, length, Ok, subst, ap, arith, rules}, lemmas.Grind.common_steps}
+use Rattle.every_outcome.{specs.{Places.Place, Private.Reduced.leapt}, proofs.Leaps.leapt_rests}
 use Rattle.every_outcome.proofs.world.SeenWorld.born.Goals as goal
 
 pub returns-clause-rests : goal.returns-clause-rests
