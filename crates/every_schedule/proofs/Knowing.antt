@@ -1,20 +1,13 @@
 -- What is known of states, as more becomes known.
 use Rattle.std.proofs.Common.{◌≡◌, ℕ, zero, suc, ◌<◌, refl, lit<, Bool, List, [], ◌∷◌, ◌++◌, length, set, inl, inr, sym, ap, ◌∙◌, subst, arith}
-use Rattle.std.specs.Prelude.{Option, Some, None}
-use Rattle.std.specs.List.{slice_get}
-use Rattle.std.proofs.lemmas.Option.{same_Some}
+use Rattle.std.{proofs.lemmas.Option.same_Some, specs.{Prelude.{Option, Some, None}, List.slice_get}}
 use mathlib.Core.Logic.{dite}
 use native.Mathlib.Decide.{ℕ_discrete}
 use Rattle.derived_ops.specs.Naming.{Given}
-use Rattle.fiber_frames.specs.declared.uses.Use.{Use}
-use Rattle.fiber_frames.specs.declared.uses.Use.TheVariants.{Awaits, Cancels, Completes, Gets, Joins, Stores}
-use Rattle.fiber_frames.specs.Fiber.{Fiber}
-use Rattle.fiber_frames.specs.Naming.{NamedRun}
+use Rattle.fiber_frames.specs.{declared.uses.Use.{Use, TheVariants.{Awaits, Cancels, Completes, Gets, Joins, Stores}}, Fiber.Fiber, Naming.NamedRun}
 use Rattle.fiber_frames.specs.Uses.{is_some, uses_in}
-use Rattle.world_search.specs.Lists.{IsMore}
-use Rattle.world_search.proofs.Lists.{get_end, more_get, set_other, set_same}
-use Rattle.every_schedule.specs.declared.known.Known.{Known}
-use Rattle.every_schedule.specs.Private.Knowing.{AreKnownOf, IsKnown, TellUses, use_code, use_place}
+use Rattle.world_search.{specs.Lists.IsMore, proofs.Lists.{get_end, more_get, set_other, set_same}}
+use Rattle.every_schedule.specs.{declared.known.Known.Known, Private.Knowing.{AreKnownOf, IsKnown, TellUses, use_code, use_place}}
 
 -- each use has a number of its own
 use_of : ℕ → Use
@@ -28,19 +21,11 @@ use_of (suc (suc (suc (suc (suc n))))) = Awaits
 decoded : (u : Use) → use_of (use_code u) ≡ u
 unfolding use_of
 decoded Cancels = refl
-decoded Joins = refl
-decoded Gets = refl
-decoded Stores = refl
-decoded Completes = refl
-decoded Awaits = refl
+decoded _ = refl
 
 few_uses : (u : Use) → use_code u < 6
 few_uses Cancels = lit< tt
-few_uses Joins = lit< tt
-few_uses Gets = lit< tt
-few_uses Stores = lit< tt
-few_uses Completes = lit< tt
-few_uses Awaits = lit< tt
+few_uses _ = lit< tt
 
 same_use : (u v : Use) (m n : ℕ) → use_place u m ≡ use_place v n → (u ≡ v) × (m ≡ n)
 same_use u v m n e =

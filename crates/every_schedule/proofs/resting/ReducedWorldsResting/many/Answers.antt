@@ -1,6 +1,5 @@
 use Rattle.std.proofs.Common.{arith}
-use Rattle.every_schedule.specs.Reduced.{hundred}
-use Rattle.every_schedule.proofs.Trails.{none_made}
+use Rattle.every_schedule.{specs.Reduced.hundred, proofs.Trails.none_made}
 use Rattle.every_schedule.proofs.resting.ReducedWorldsResting.many.Goals as goal
 
 pub returns-clause-none : goal.returns-clause-none
