@@ -1,21 +1,12 @@
 -- The values of answers, one answer at a time.
-use Rattle.std.proofs.Common.{◌≡◌, ◌+◌, ◌<◌, ◌≤◌, ℕ, Bool, true, false, not, cond, List, [], ◌∷◌, ◌++◌, Result, Ok, Err}
-use Rattle.std.proofs.Common.{IfOk, length, drop, get_or, map, refl, sym, ap, ◌∙◌, subst, append_assoc, append-nil}
-use Rattle.std.specs.List.{filter}
-use Rattle.std.proofs.lemmas.List.{drop_all, map-append}
+use Rattle.std.proofs.Common.{◌≡◌, ◌+◌, ◌<◌, ◌≤◌, ℕ, Bool, true, false, not, cond, List, [], ◌∷◌, ◌++◌, Result, Ok, Err, IfOk, length, drop, get_or, map, refl}
+use Rattle.std.{proofs.{Common.{sym, ap, ◌∙◌, subst, append_assoc, append-nil}, lemmas.List.{drop_all, map-append}}, specs.List.filter}
 use Rattle.text_io.specs.Schedule.{SpellsEntries}
-use Rattle.every_schedule.specs.declared.exploration.Answer.{Answer}
-use Rattle.every_schedule.specs.declared.exploration.Exploration.{Exploration}
-use Rattle.exploration_text.specs.declared.wants.Want.{Want}
-use Rattle.exploration_text.specs.ExplorationText.{is_listed_so}
-use Rattle.exploration_text.proofs.Parts.{from_here}
-use Rattle.sampled_schedules.specs.declared.comings.Coming.{Coming}
-use Rattle.sampled_schedules.specs.declared.comings.Sample.{Sample}
-use Rattle.serde_json.specs.Data.{Data}
-use Rattle.serde_json.specs.View.{items_of, items_view, view}
-use Rattle.serde_json.specs.declared.value.Value.{Value}
+use Rattle.every_schedule.specs.declared.exploration.{Answer.Answer, Exploration.Exploration}
+use Rattle.exploration_text.{specs.{declared.wants.Want.Want, ExplorationText.is_listed_so, SampleText.is_unwanted}, proofs.Parts.from_here}
+use Rattle.sampled_schedules.specs.declared.comings.{Coming.Coming, Sample.Sample}
+use Rattle.serde_json.specs.{Data.Data, View.{items_of, items_view, view}, declared.value.Value.Value}
 use Rattle.json_answers.specs.ExplorationData.{AreAnswersData, IsAnswerData, IsExplorationData, IsPartData, exploration_data, found_data}
-use Rattle.exploration_text.specs.SampleText.{is_unwanted}
 use Rattle.json_answers.specs.SampleData.{AreComingsData, IsComingData, IsSampleData, came_data, sample_data}
 
 pub one_more : (vs new : List Value) (v : Value) → new ≡ vs ++ v ∷ [] → map view new ≡ map view vs ++ view v ∷ []
