@@ -1,12 +1,8 @@
 -- The text of some answers, one answer at a time.
-use Rattle.std.proofs.Common.{◌≡◌, ◌+◌, ◌<◌, ◌≤◌, ℕ, Bool, true, false, cond, List, [], ◌∷◌, ◌++◌, length, drop, get_or}
-use Rattle.std.proofs.Common.{refl, sym, ap, ◌∙◌, subst, append_assoc, append-nil, add-one, suc}
-use Rattle.std.specs.List.{filter}
-use Rattle.std.proofs.Math.Seq.{drop-cons}
-use Rattle.std.proofs.lemmas.List.{drop_all}
+use Rattle.std.proofs.Common.{◌≡◌, ◌+◌, ◌<◌, ◌≤◌, ℕ, Bool, true, false, cond, List, [], ◌∷◌, ◌++◌, length, drop, get_or, refl, sym, ap, ◌∙◌, subst}
+use Rattle.std.{proofs.{Common.{append_assoc, append-nil, add-one, suc}, Math.Seq.drop-cons, lemmas.List.drop_all}, specs.List.filter}
 use Rattle.every_schedule.specs.declared.exploration.Answer.{Answer}
-use Rattle.exploration_text.specs.declared.wants.Want.{Want}
-use Rattle.exploration_text.specs.ExplorationText.{AreAnswersText, IsAnswerText, IsPartText, is_listed_so}
+use Rattle.exploration_text.specs.{declared.wants.Want.Want, ExplorationText.{AreAnswersText, IsAnswerText, IsPartText, is_listed_so}}
 
 -- followed by the text of the answers from number i on, the text is that of all answers
 abbrev pub IsFront : Bool → List Want → List Answer → ℕ → List ℕ → Type 0
