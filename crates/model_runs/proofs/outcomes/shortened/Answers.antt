@@ -1,5 +1,4 @@
-use Rattle.std.proofs.Common.{leb, length, rules}
-use Rattle.std.proofs.lemmas.Fn.{filter_same}
+use Rattle.std.proofs.{Common.{leb, length, rules}, lemmas.Fn.filter_same}
 use Rattle.model_runs.proofs.outcomes.shortened.Goals as goal
 
 pub returns-clause-answers : goal.returns-clause-answers
