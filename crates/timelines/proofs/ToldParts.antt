@@ -1,12 +1,8 @@
 -- The text of some answers with timelines, one answer at a time.
-use Rattle.std.proofs.Common.{◌≡◌, ◌+◌, ◌<◌, ◌≤◌, ℕ, Bool, true, false, cond, List, [], ◌∷◌, ◌++◌, length, drop, get_or}
-use Rattle.std.proofs.Common.{refl, sym, ap, ◌∙◌, subst, append_assoc, append-nil}
-use Rattle.std.specs.List.{filter}
-use Rattle.std.proofs.lemmas.List.{drop_all}
+use Rattle.std.proofs.Common.{◌≡◌, ◌+◌, ◌<◌, ◌≤◌, ℕ, Bool, true, false, cond, List, [], ◌∷◌, ◌++◌, length, drop, get_or, refl, sym, ap, ◌∙◌, subst}
+use Rattle.std.{proofs.{Common.{append_assoc, append-nil}, lemmas.List.drop_all}, specs.List.filter}
 use Rattle.every_schedule.specs.declared.exploration.Answer.{Answer}
-use Rattle.exploration_text.specs.declared.wants.Want.{Want}
-use Rattle.exploration_text.specs.ExplorationText.{is_listed_so}
-use Rattle.exploration_text.proofs.Parts.{from_here}
+use Rattle.exploration_text.{specs.{declared.wants.Want.Want, ExplorationText.is_listed_so}, proofs.Parts.from_here}
 use Rattle.timelines.specs.ExploreTimelines.{AreToldTexts, IsToldPart, IsToldText}
 
 -- this text and the text of the answers from the index `i` on are the text of all answers
