@@ -1,5 +1,4 @@
-use Rattle.std.proofs.Common.{leb, length, rules}
-use Rattle.std.proofs.lemmas.Fn.{filter_same}
+use Rattle.std.proofs.{Common.{leb, length, rules}, lemmas.Fn.filter_same}
 use Rattle.outcome_answers.proofs.finding.shortened.Goals as goal
 
 pub returns-clause-answers : goal.returns-clause-answers
