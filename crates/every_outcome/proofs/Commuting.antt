@@ -1,24 +1,12 @@
 -- A fiber's own move commutes with each move of another fiber, also without marks, numbers of masks, counts and notes.
 use Rattle.std.proofs.Common.{◌≡◌, ◌≢◌, ℕ, true, [], ◌++◌, set, map, Some, None, Option, Result, Ok, Err, refl, sym, ap, ◌∙◌, subst, append-nil}
-use Rattle.std.specs.List.{slice_get}
-use Rattle.std.proofs.lemmas.Option.{same_Some}
+use Rattle.std.{proofs.lemmas.Option.same_Some, specs.List.slice_get}
 use Rattle.effect_term.specs.declared.reply.Reply.{Reply}
-use Rattle.fiber_frames.specs.Fiber.{Fiber, ask_of, move, silent_move}
-use Rattle.fiber_frames.specs.Unmarked.{unmarked}
-use Rattle.cell_registry.specs.declared.limits.Limits.{Limits}
-use Rattle.cell_registry.specs.declared.limits.CellError.{CellError}
-use Rattle.cell_registry.specs.declared.limits.RunError.{RunError}
-use Rattle.cell_registry.specs.declared.call.Call.{Call}
-use Rattle.cell_registry.specs.declared.call.Call.TheVariants.{Start}
-use Rattle.cell_registry.specs.declared.cell.Cell.{Cell}
-use Rattle.cell_registry.specs.declared.cell.Stage.{Stage}
-use Rattle.cell_registry.specs.Cells.{cell_of, refusal, reply_of}
-use Rattle.cell_registry.proofs.Calls.{owned-after}
-use Rattle.scheduled_core.specs.declared.wish.Wish.{Wish}
-use Rattle.scheduled_core.specs.declared.wish.Wish.TheVariants.{Shared, Alone, Nothing}
-use Rattle.scheduled_core.specs.Core.{World, answered, born, called, entered, turned, wish_of, wished}
-use Rattle.scheduled_core.proofs.Lists.{slice_get-set_other}
-use Rattle.scheduled_core.proofs.Standing.Lists.{get_early}
+use Rattle.fiber_frames.specs.{Fiber.{Fiber, ask_of, move, silent_move}, Unmarked.unmarked}
+use Rattle.cell_registry.specs.declared.{limits.{Limits.Limits, CellError.CellError, RunError.RunError}, call.Call.{Call, TheVariants.Start}, cell.Cell.Cell}
+use Rattle.cell_registry.{specs.{declared.cell.Stage.Stage, Cells.{cell_of, refusal, reply_of}}, proofs.Calls.owned-after}
+use Rattle.scheduled_core.specs.{declared.wish.Wish.{Wish, TheVariants.{Shared, Alone, Nothing}}, Core.{World, answered, born, called, entered, turned}}
+use Rattle.scheduled_core.{specs.Core.{wish_of, wished}, proofs.{Lists.slice_get-set_other, Standing.Lists.get_early}}
 use Rattle.world_search.specs.Free.{AreFree, Commutes}
 use Rattle.every_schedule.specs.Places.{entering, placed}
 use Rattle.every_schedule.specs.Reduced.{IsOwn, has_own, is_own}

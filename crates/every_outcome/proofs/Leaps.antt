@@ -1,8 +1,7 @@
 -- Entries with own moves after them: the search makes own moves after each entry, and no others. Without `stores` it makes none that sets or changes a ref.
 use Rattle.std.proofs.Common.{◌≡◌, ◌≢◌, ℕ, zero, suc, ◌≤◌, Bool, true, false, length, Some, None, Option, Result, Ok, Err, refl, sym, ap, ◌∙◌}
 use Rattle.std.specs.List.{slice_get}
-use Rattle.cell_registry.specs.declared.limits.Limits.{Limits}
-use Rattle.cell_registry.specs.declared.limits.RunError.{RunError}
+use Rattle.cell_registry.specs.declared.limits.{Limits.Limits, RunError.RunError}
 use Rattle.fiber_frames.specs.Fiber.{Fiber}
 use Rattle.scheduled_core.specs.Core.{World}
 use Rattle.world_search.specs.Free.{AreFree, Commutes, Leads, Leaps}

@@ -7,17 +7,17 @@ use Rattle.std.proofs.lemmas.Option.{get_or_from_slice_get, same_Some, slice_get
 use Rattle.std.proofs.lemmas.List.Elements.{All-get_or}
 use Rattle.effect_term.specs.declared.reply.Outcome.{Outcome}
 use Rattle.derived_ops.specs.Tree.{Tree}
-use Rattle.fiber_frames.specs.Fiber.{Fiber, begins, outcome_of}
-use Rattle.fiber_frames.specs.Reached.{Reached}
-use Rattle.cell_registry.specs.declared.limits.Limits.{Limits}
-use Rattle.cell_registry.specs.declared.limits.RunError.{RunError}
-use Rattle.cell_registry.specs.declared.limits.RunError.TheVariants as run
-use Rattle.scheduled_core.specs.declared.report.FiberReport.{FiberReport}
-use Rattle.scheduled_core.specs.declared.report.Report.{Report}
-use Rattle.scheduled_core.specs.Core.{World, core, entered, fiber_report, reported}
+use Rattle.fiber_frames.specs.{Fiber.{Fiber, begins, outcome_of}, Reached.Reached}
+use Rattle.cell_registry.specs.declared.limits.{Limits.Limits, RunError.RunError}
+use Rattle.scheduled_core.specs.{declared.report.{FiberReport.FiberReport, Report.Report}, Core.{World, core, entered, fiber_report, reported}}
 use Rattle.scheduled_core.specs.Finals.{IsSettled}
-use Rattle.world_search.specs.declared.answers.Answer.{Answer as Found}
-use Rattle.world_search.specs.declared.landings.Landing.{Landing}
+use Rattle.world_search.{specs.declared.{answers.Answer.Answer as Found, landings.Landing.Landing}, proofs.{Closed.run-append, Free.{covers, leads_up}}}
+use Rattle.every_outcome.specs.{declared.outcomes.OutcomeAnswer.OutcomeAnswer, Outcomes.{Agrees, IsCovered, IsListed, IsReached, KeepsOutcomes, ListOnce}}
+use Rattle.every_outcome.specs.{Outcomes.{counted, outcomes}, Places.{Kept, Place, first_place, outcomes_at, stepped}, Private.Keeping.AreSingle}
+use Rattle.every_outcome.{specs.Private.{Reduced.leapt, Telling.{AreTold, IsEnd, IsTold, IsWithin}}, proofs.{Stepping.outcomes_stay, Running.{Fully, Lawful}}}
+use Rattle.every_outcome.proofs.{Running.{Led, bare_place, core_fully, core_lawful, core_led, fully, led}, Cells.some_bound, Commuting.{IsFree, own_are_free}}
+use Rattle.every_outcome.proofs.{Growing.{outcomes_grow, size}, Leaps.leaps}
+use Rattle.cell_registry.specs.declared.limits.RunError.TheVariants as run
 use Rattle.world_search.specs.declared.landings.Landing.TheVariants as to
 use Rattle.world_search.specs.Answers as search
 use Rattle.world_search.specs.Systems as systems
@@ -110,10 +110,7 @@ module _ (k : Limits) (n : ℕ) (some : 0 < k.count) where
       ap (systems.reported stepped outcomes_at) h
       ∙ ap Ok (outcomes_stay k v) ∙ e ∙ ap Ok (sym (outcomes_stay k w))
   kept_at w (Err (run.Full b m)) y h e = absurd (cc)
-  kept_at w (Err run.NoMemory) y h e = absurd h
-  kept_at w (Err (run.Spent g)) y h e = absurd h
-  kept_at w (Err (run.Lost g)) y h e = absurd h
-  kept_at w (Err run.NoWorker) y h e = absurd h
+  kept_at w _ y h e = absurd h
 
 keeps : (k : Limits) (n : ℕ) (some : 0 < k.count) (w : World) → Lawful w → KeepsOutcomes k w → systems.IsSettled stepped outcomes_at (bare_place k n some w)
 keeps k n some w law h = λ s.
@@ -206,10 +203,7 @@ module _ (kept : Kept) (code : Tree) (k : Limits) (found : List Found) (answers 
         Covers y → IsCovered k answers x
     covered_at n (Ok w) y h law c = λ stays. listed_at n w y h c (keeps k n some w (law w refl) stays)
     covered_at n (Err (run.Full b m)) y h law c = tells (Err (run.Full b m)) (subst Covers h c)
-    covered_at n (Err run.NoMemory) y h law c = tt
-    covered_at n (Err (run.Spent g)) y h law c = tt
-    covered_at n (Err (run.Lost g)) y h law c = tt
-    covered_at n (Err run.NoWorker) y h law c = tt
+    covered_at n _ y h law c = tt
 
     pub covered : (n : ℕ) (s : List ℕ) → AllCovered → IsCovered k answers (core code (counted k n) s)
     covered n s c =
@@ -235,10 +229,7 @@ module _ (kept : Kept) (code : Tree) (k : Limits) (found : List Found) (answers 
         let here : h.0 ≡ run.Full b m = (let q : Err h.0 ≡ Err (run.Full b m) = sym h.2 ∙ f in cc) in
         let same : e.0 ≡ h.0 = same_Some e.0 h.0 (sym e.1 ∙ h.1) in
         ap Err (sym (same ∙ here)) ∙ sym e.2
-    leads_at n s l end h e (Err run.NoMemory) f = absurd f
-    leads_at n s l end h e (Err (run.Spent g)) f = absurd f
-    leads_at n s l end h e (Err (run.Lost g)) f = absurd f
-    leads_at n s l end h e (Err run.NoWorker) f = absurd f
+    leads_at n s l end h e _ f = absurd f
 
     -- further entries keep a fault
     fault_stays : (e : RunError) (t : List ℕ) → systems.run stepped (Err e) t ≡ Err e
@@ -266,10 +257,7 @@ module _ (kept : Kept) (code : Tree) (k : Limits) (found : List Found) (answers 
         let here : h.0 ≡ run.Full b m = (let q : Err h.0 ≡ Err (run.Full b m) = sym (on_fault s more h.0 h.2) ∙ f in cc) in
         let same : e.0 ≡ h.0 = same_Some e.0 h.0 (sym e.1 ∙ h.1) in
         ap Err (sym (same ∙ here)) ∙ sym e.2
-    stays_at n s more l end h e (Err run.NoMemory) f = tt
-    stays_at n s more l end h e (Err (run.Spent g)) f = tt
-    stays_at n s more l end h e (Err (run.Lost g)) f = tt
-    stays_at n s more l end h e (Err run.NoWorker) f = tt
+    stays_at n s more l end h e _ f = tt
 
     pub reached : All (search.IsRight (leapt true) outcomes_at kept.places kept.faults start) found → All (IsReached code k) answers
     reached right = all_from (IsReached code k) answers (λ i a e.
@@ -286,10 +274,7 @@ module _ (kept : Kept) (code : Tree) (k : Limits) (found : List Found) (answers 
 pub covered_under : (k : Limits) (n : ℕ) (answers : List OutcomeAnswer) (x : Result World RunError) → IsCovered (counted k n) answers x → IsCovered k answers x
 covered_under k n answers (Ok w) h = h
 covered_under k n answers (Err (run.Full b m)) h = h
-covered_under k n answers (Err run.NoMemory) h = tt
-covered_under k n answers (Err (run.Spent g)) h = tt
-covered_under k n answers (Err (run.Lost g)) h = tt
-covered_under k n answers (Err run.NoWorker) h = tt
+covered_under k n answers _ h = tt
 
 reached_under : (code : Tree) (k : Limits) (n : ℕ) (a : OutcomeAnswer) → IsReached code (counted k n) a → IsReached code k a
 reached_under code k n a h = record { leads = h.leads; stays = h.stays }

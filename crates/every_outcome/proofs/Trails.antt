@@ -4,11 +4,8 @@ use Rattle.std.specs.List.{All}
 use Rattle.std.proofs.lemmas.List.Elements.{All-push}
 use Rattle.cell_registry.specs.declared.limits.RunError.{RunError}
 use Rattle.scheduled_core.proofs.Lists.{parted}
-use Rattle.world_search.specs.Systems.{run}
-use Rattle.world_search.proofs.Closed.{run-append}
-use Rattle.every_outcome.specs.Places.{Place, stepped}
-use Rattle.every_outcome.specs.Private.Reduced.{IsTrail, IsUnfolded, leapt}
-use Rattle.every_outcome.proofs.Told.{all_at, all_from}
+use Rattle.world_search.{specs.Systems.run, proofs.Closed.run-append}
+use Rattle.every_outcome.{specs.{Places.{Place, stepped}, Private.Reduced.{IsTrail, IsUnfolded, leapt}}, proofs.Told.{all_at, all_from}}
 
 abbrev AreFew : List ℕ → Type 0
 AreFew fs = All (λ f. f < 1000) fs

@@ -1,16 +1,10 @@
 -- Fair schedules of a search, restated for the core.
-use Rattle.std.proofs.Common.{◌≡◌, ◌++◌, ℕ, zero, suc, Bool, true, false, List, [], ◌∷◌, Result, Ok, Err, refl, sym, ap, ◌∙◌, subst}
+use Rattle.std.{proofs.Common.{◌≡◌, ◌++◌, ℕ, zero, suc, Bool, true, false, List, [], ◌∷◌, Result, Ok, Err, refl, sym, ap, ◌∙◌, subst}, specs.List.slice_get}
 use mathlib.Core.Logic.{◌⊎◌, inl, inr}
 use Rattle.derived_ops.specs.Tree.{Tree}
-use Rattle.cell_registry.specs.declared.limits.Limits.{Limits}
-use Rattle.cell_registry.specs.declared.limits.RunError.{RunError}
-use Rattle.scheduled_core.specs.Core.{World, core, entered}
-use Rattle.std.specs.List.{slice_get}
-use Rattle.scheduled_core.specs.Finals.{IsFinal}
-use Rattle.scheduled_core.proofs.Finality.{final_stays}
-use Rattle.world_search.specs.Lists.{IsIn}
-use Rattle.world_search.specs.Systems as search
-use Rattle.world_search.proofs.Closed.{run-append}
+use Rattle.cell_registry.specs.declared.limits.{Limits.Limits, RunError.RunError}
+use Rattle.scheduled_core.{specs.{Core.{World, core, entered}, Finals.IsFinal}, proofs.Finality.final_stays}
+use Rattle.world_search.{specs.Lists.IsIn, proofs.Closed.run-append}
 use Rattle.fair_ends.specs.Fair.{AreRight, EndsUnder, IsEnd, IsFairCycle, first_of}
 use Rattle.every_schedule.specs.Fairness.{Ends, IsForever, IsOver, repeated}
 use Rattle.every_schedule.specs.Places.{Place, bare, bared, first_place, moves_at, placed, stepped, unnoted}

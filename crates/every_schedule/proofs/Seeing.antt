@@ -1,23 +1,13 @@
 -- Which schedules of the core lead to worlds that meet a claim, by the views of a search.
-use Rattle.std.proofs.Common.{◌≡◌, ◌⊎◌, inl, inr, ℕ, zero, suc, nat_eq, Bool, true, false, cond, ◌&&◌, ◌||◌, List, [], ◌∷◌, ◌++◌, Option, Some, None}
-use Rattle.std.proofs.Common.{Result, Ok, Err, refl, sym, ap, ◌∙◌, subst}
-use Rattle.std.specs.List.{list_all}
-use Rattle.std.specs.List.{fold, slice_get}
-use Rattle.std.proofs.lemmas.Bool.{eqb-true, eq-eqb}
+use Rattle.std.proofs.Common.{◌≡◌, ◌⊎◌, inl, inr, ℕ, zero, suc, nat_eq, Bool, true, false, cond, ◌&&◌, ◌||◌, List, [], ◌∷◌, ◌++◌, Option, Some, None, Result}
+use Rattle.std.{proofs.{Common.{Ok, Err, refl, sym, ap, ◌∙◌, subst}, lemmas.Bool.{eqb-true, eq-eqb}}, specs.List.{list_all, fold, slice_get}}
 use Rattle.derived_ops.specs.Tree.{Tree}
-use Rattle.cell_registry.specs.Cells.{Cells, without_waits}
-use Rattle.cell_registry.specs.declared.limits.Limits.{Limits}
-use Rattle.cell_registry.specs.declared.limits.RunError.{RunError}
+use Rattle.cell_registry.specs.{Cells.{Cells, without_waits}, declared.limits.{Limits.Limits, RunError.RunError}}
 use Rattle.scheduled_core.specs.Core.{World, core, entered, first_world}
-use Rattle.world_search.specs.Systems.{run}
-use Rattle.world_search.proofs.Free.{run_fault}
-use Rattle.every_schedule.specs.declared.claims.ClaimWord.{ClaimWord}
-use Rattle.every_schedule.specs.declared.claims.ClaimWord.TheVariants.{Compare, Not, And, Or}
-use Rattle.every_schedule.specs.Claims.{Compares, Meets, View, WasSet, are_seen, first_view, has, holds, is_met, is_seen, last_of, noted, seeing, stored_by, viewed, worded}
-use Rattle.every_schedule.specs.Places.{Place, bared, first_place, placed, stepped, unnoted}
-use Rattle.every_schedule.proofs.Bare.{bare_step}
-use Rattle.every_schedule.proofs.Placed.{first_bare}
-use Rattle.every_schedule.proofs.OwnKept.{and_true, or_second}
+use Rattle.world_search.{specs.Systems.run, proofs.Free.run_fault}
+use Rattle.every_schedule.specs.{declared.claims.ClaimWord.{ClaimWord, TheVariants.{Compare, Not, And, Or}}, Claims.{Compares, Meets, View, WasSet, are_seen}}
+use Rattle.every_schedule.specs.{Claims.{first_view, has, holds, is_met, is_seen, last_of, noted, seeing, stored_by, viewed, worded}, Places.{Place, bared}}
+use Rattle.every_schedule.{specs.Places.{first_place, placed, stepped, unnoted}, proofs.{Bare.bare_step, Placed.first_bare, OwnKept.{and_true, or_second}}}
 
 -- ---- truth values
 pub two_true : (a b : Bool) → a && b ≡ true → (a ≡ true) × (b ≡ true)

@@ -8,9 +8,7 @@ use Rattle.std.proofs.lemmas.List.Elements.{All-filter, filter_passes}
 use Rattle.std.proofs.lemmas.List.Sorted.{All-permutation, IsPermutation-sym}
 use Rattle.derived_ops.specs.Tree.{Tree}
 use Rattle.effect_term.specs.declared.reply.Outcome.{Outcome}
-use Rattle.cell_registry.specs.declared.limits.Limits.{Limits}
-use Rattle.cell_registry.specs.declared.limits.RunError.{RunError}
-use Rattle.cell_registry.specs.declared.limits.RunError.TheVariants as run
+use Rattle.cell_registry.specs.declared.limits.{Limits.Limits, RunError.RunError}
 use Rattle.scheduled_core.specs.Core.{World, core}
 use Rattle.every_outcome.proofs.Filtered.{filter_whole}
 use Rattle.every_outcome.specs.declared.outcomes.OutcomeAnswer.{OutcomeAnswer}
@@ -37,10 +35,7 @@ listed_sorted xs ys end moved l =
 covered_sorted : (k : Limits) (xs ys : List OutcomeAnswer) (x : Result World RunError) → IsPermutation xs ys → IsCovered k xs x → IsCovered k ys x
 covered_sorted k xs ys (Ok w) moved h = λ keeps. listed_sorted xs ys _ moved (h keeps)
 covered_sorted k xs ys (Err (run.Full band n)) moved h = listed_sorted xs ys _ moved h
-covered_sorted k xs ys (Err (run.Spent f)) moved h = tt
-covered_sorted k xs ys (Err run.NoMemory) moved h = tt
-covered_sorted k xs ys (Err (run.Lost f)) moved h = tt
-covered_sorted k xs ys (Err run.NoWorker) moved h = tt
+covered_sorted k xs ys _ moved h = tt
 
 -- a search with all answers that there are is right
 pub right_search : (code : Tree) (k : Limits) (s : Search) (marked : Bool) → s.marked ≡ marked → All (IsSeen code k) s.answers.items →

@@ -1,12 +1,7 @@
 -- An exploration of outcomes without the answers whose schedules are long.
-use Rattle.std.proofs.Common.{◌≡◌, ◌≢◌, ◌⊎◌, inl, inr, ℕ, zero, suc, ◌<◌, ◌≤◌, ◌==◌, ◌&&◌, Bool, true, false, cond, List, [], ◌∷◌, length, max, leb}
-use Rattle.std.proofs.Common.{refl, sym, ap, ◌∙◌, subst, arith, Ok}
-use Rattle.std.specs.Prelude.{Some}
-use Rattle.std.specs.List.{All, filter, slice_get}
-use Rattle.std.proofs.lemmas.Bool.{eqb-false, eqb-true, leb-false, leb-true}
-use Rattle.std.proofs.lemmas.Bool.Decides.{leb_tells}
-use Rattle.std.proofs.lemmas.List.Elements.{All-filter, filter_passes}
-use Rattle.std.proofs.lemmas.Option.{same_Some}
+use Rattle.std.proofs.Common.{◌≡◌, ◌≢◌, ◌⊎◌, inl, inr, ℕ, zero, suc, ◌<◌, ◌≤◌, ◌==◌, ◌&&◌, Bool, true, false, cond, List, [], ◌∷◌, length, max, leb, refl, sym}
+use Rattle.std.proofs.{Common.{ap, ◌∙◌, subst, arith, Ok}, lemmas.Bool.{eqb-false, eqb-true, leb-false, leb-true, Decides.leb_tells}}
+use Rattle.std.{proofs.lemmas.{List.Elements.{All-filter, filter_passes}, Option.same_Some}, specs.{Prelude.Some, List.{All, filter, slice_get}}}
 use Rattle.cell_registry.specs.declared.limits.Limits.{Limits}
 use Rattle.derived_ops.specs.Tree.{Tree}
 use Rattle.scheduled_core.specs.Core.{World, core}

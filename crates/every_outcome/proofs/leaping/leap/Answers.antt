@@ -1,9 +1,7 @@
 use Rattle.std.proofs.Common.{◌<◌, ◌≤◌, ℕ, List, length, Ok, sym, ap, ◌∙◌, subst, arith}
 use Rattle.world_search.proofs.Lists.{get_low}
-use Rattle.every_outcome.specs.Places.{unmarked_place}
-use Rattle.every_outcome.specs.Private.Reduced.{IsTrail, behind}
-use Rattle.every_outcome.proofs.Leaps.{leapt_born, leapt_rests}
-use Rattle.every_outcome.proofs.Trails.{trail_more, trail_none, trail_one}
+use Rattle.every_outcome.{specs.{Places.unmarked_place, Private.Reduced.{IsTrail, behind}}, proofs.{Leaps.{leapt_born, leapt_rests}, Trails.trail_more}}
+use Rattle.every_outcome.proofs.Trails.{trail_none, trail_one}
 use Rattle.every_outcome.proofs.leaping.leap.Goals as goal
 
 pub returns-then-from-few_born-clause-goes : goal.returns-then-from-few_born-clause-goes

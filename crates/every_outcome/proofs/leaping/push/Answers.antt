@@ -1,8 +1,6 @@
 use Rattle.std.proofs.Common.{◌≡◌, ℕ, suc, ◌+◌, ◌-◌, Ok, sym, ap, ◌∙◌, arith}
-use Rattle.every_outcome.specs.Places.{unmarked_place}
-use Rattle.every_outcome.specs.Private.Reduced.{pushed}
-use Rattle.every_outcome.proofs.Leaps.{pushed_next, pushed_none, pushed_stays}
-use Rattle.every_outcome.proofs.Trails.{trail_more, trail_none}
+use Rattle.every_outcome.{specs.{Places.unmarked_place, Private.Reduced.pushed}, proofs.{Leaps.{pushed_next, pushed_none, pushed_stays}, Trails.trail_more}}
+use Rattle.every_outcome.proofs.Trails.{trail_none}
 use Rattle.every_outcome.proofs.leaping.push.Goals as goal
 
 pub loop-move-init : goal.loop-move-init

@@ -1,7 +1,6 @@
 use Rattle.std.proofs.Common.{◌≡◌, ◌-◌, Ok}
 use Rattle.scheduled_core.specs.Fitting.{AllFit}
-use Rattle.every_outcome.specs.Places.{unmarked_place}
-use Rattle.every_outcome.specs.Private.Reduced.{IsTrail, pushed}
+use Rattle.every_outcome.specs.{Places.unmarked_place, Private.Reduced.{IsTrail, pushed}}
 use Rattle.every_outcome.proofs.leaping.push.Given as goal
 
 -- the moves so far have led here, and the others lead on

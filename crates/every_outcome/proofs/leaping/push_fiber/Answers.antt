@@ -1,8 +1,5 @@
 use Rattle.std.proofs.Common.{ℕ, List, Ok, sym, ◌∙◌, subst}
-use Rattle.every_outcome.specs.Places.{unmarked_place}
-use Rattle.every_outcome.specs.Private.Reduced.{IsTrail}
-use Rattle.every_outcome.proofs.Leaps.{fiber_made, fiber_none}
-use Rattle.every_outcome.proofs.Trails.{trail_none, trail_one}
+use Rattle.every_outcome.{specs.{Places.unmarked_place, Private.Reduced.IsTrail}, proofs.{Leaps.{fiber_made, fiber_none}, Trails.{trail_none, trail_one}}}
 use Rattle.every_outcome.proofs.leaping.push_fiber.Goals as goal
 
 pub returns-then-not-may_move-clause-goes : goal.returns-then-not-may_move-clause-goes

@@ -1,9 +1,6 @@
-use Rattle.std.proofs.Common.{◌≡◌, ℕ, suc, refl, ◌+◌, ◌-◌, length, Ok, sym, ap, ◌∙◌, subst, arith}
-use Rattle.std.proofs.lemmas.List.{length-map}
+use Rattle.std.proofs.{Common.{◌≡◌, ℕ, suc, refl, ◌+◌, ◌-◌, length, Ok, sym, ap, ◌∙◌, subst, arith}, lemmas.List.length-map}
 use Rattle.fiber_frames.specs.Unmarked.{unmarked}
-use Rattle.every_outcome.specs.Places.{Place, unmarked_place}
-use Rattle.every_outcome.specs.Private.Reduced.{pushed_once, swept}
-use Rattle.every_outcome.proofs.Leaps.{swept_next, swept_none}
+use Rattle.every_outcome.{specs.{Places.{Place, unmarked_place}, Private.Reduced.{pushed_once, swept}}, proofs.Leaps.{swept_next, swept_none}}
 use Rattle.every_outcome.proofs.Trails.{trail_more, trail_none}
 use Rattle.every_outcome.proofs.leaping.push_once.Goals as goal
 

@@ -1,7 +1,6 @@
 use Rattle.std.proofs.Common.{◌≡◌, ◌-◌, false, Ok}
 use Rattle.scheduled_core.specs.Fitting.{AllFit}
-use Rattle.every_outcome.specs.Places.{unmarked_place}
-use Rattle.every_outcome.specs.Private.Reduced.{IsTrail, swept}
+use Rattle.every_outcome.specs.{Places.unmarked_place, Private.Reduced.{IsTrail, swept}}
 use Rattle.every_outcome.proofs.leaping.push_once.Given as goal
 
 -- the moves so far have led here, and those of the other fibers lead on

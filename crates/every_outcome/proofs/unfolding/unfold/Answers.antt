@@ -1,14 +1,10 @@
-use Rattle.std.proofs.Common.{◌≡◌, ℕ, ◌≤◌, [], get_or, List, length, Ok, Err, refl, sym, ap, ◌∙◌, subst, arith}
-use Rattle.std.proofs.lemmas.List.{take_all}
-use Rattle.std.proofs.lemmas.List.Folds.{fold_stuck}
+use Rattle.std.proofs.{Common.{◌≡◌, ℕ, ◌≤◌, [], get_or, List, length, Ok, Err, refl, sym, ap, ◌∙◌, subst, arith}, lemmas.List.{take_all, Folds.fold_stuck}}
 use Rattle.std.proofs.lemmas.List.Sums.{fold_more}
-use Rattle.derived_ops.specs.Expansion.{code_of}
-use Rattle.derived_ops.specs.Reading.{source_of}
+use Rattle.derived_ops.specs.{Expansion.code_of, Reading.source_of}
+use Rattle.every_outcome.{specs.{Places.{Place, first_place, unmarked_place}, Private.Reduced.{IsTrail, leapt}}, proofs.Trails.{refused_with, trail_more}}
+use Rattle.every_outcome.proofs.Trails.{trail_none, trail_whole}
 use Rattle.cell_registry.specs.declared.limits.RunError.TheVariants as run
 use Rattle.world_search.specs.Systems as search
-use Rattle.every_outcome.specs.Places.{Place, first_place, unmarked_place}
-use Rattle.every_outcome.specs.Private.Reduced.{IsTrail, leapt}
-use Rattle.every_outcome.proofs.Trails.{refused_with, trail_more, trail_none, trail_whole}
 use Rattle.every_outcome.proofs.unfolding.unfold.Goals as goal
 
 pub loop-fiber-init : goal.loop-fiber-init
