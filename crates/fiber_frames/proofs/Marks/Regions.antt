@@ -35,10 +35,7 @@ static_put (Loop m e) p z h = static_put e p z h
 static_put (Uncancelable v e) p z h = (static_put e p z h.0, omega (arith, spends_put e p (only (Named v)) (only (Named v)) (z v), h.1))
 static_put (Poll q e) p z h = static_put e p z h
 static_put (On_cancel e fin) p z h = (static_put e p z h.0, static_put fin p z h.1)
-static_put (Masked m e) p z h = absurd h
-static_put (Polled q e) p z h = absurd h
-static_put (Guarded e fin) p z h = absurd h
-static_put _ p z h = tt
+static_put _ p z h = h
 
 pub static_live : (t : Tree) → Static t → Live t
 static_live (Let e v b) h = (static_live e h.0, h.1)
@@ -47,11 +44,6 @@ static_live (Handled e v b) h = (static_live e h.0, h.1)
 static_live (Masked m e) h = absurd h
 static_live (Polled q e) h = absurd h
 static_live (Guarded e fin) h = absurd h
-static_live (Pure v) h = tt
-static_live (Raise v) h = tt
-static_live (Act c) h = tt
-static_live (Note e q) h = tt
-static_live (Cancel f) h = tt
 static_live _ h = h
 
 pub static_active : (i : ℕ) (t : Tree) (up : List Mask) → Static t → masks_below i up t ≡ up
