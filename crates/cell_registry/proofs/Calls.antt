@@ -44,14 +44,9 @@ next_of-claim : (b a : Band) (s : Cells) (by : ℕ) → (next_of b (after s by (
     ((claim_of a ≡ claim_of b) × (next_of b (after s by (claim_of a)) ≡ next_of b s + 1))
 unfolding after
 next_of-claim Fibers Fibers s by = inr (refl, refl)
-next_of-claim Fibers Refs s by = inl refl
-next_of-claim Fibers Deferreds s by = inl refl
-next_of-claim Refs Fibers s by = inl refl
 next_of-claim Refs Refs s by = inr (refl, refl)
-next_of-claim Refs Deferreds s by = inl refl
-next_of-claim Deferreds Fibers s by = inl refl
-next_of-claim Deferreds Refs s by = inl refl
 next_of-claim Deferreds Deferreds s by = inr (refl, refl)
+next_of-claim _ _ s by = inl refl
 
 -- the next number of a band stays, or the call took it
 next_of-after : (b : Band) (s : Cells) (by : ℕ) (c : Call) → (next_of b (after s by c) ≡ next_of b s) ⊎
@@ -166,10 +161,8 @@ pub outcome-fits : (g : Stage) (depth : ℕ) (o : Outcome) → MayFinish g depth
 outcome-fits Running depth (Succeeded v) h = h.1
 outcome-fits Running depth (Errored c) h = h.1
 outcome-fits Running depth Canceled h = tt
-outcome-fits Finalizing depth (Succeeded v) h = absurd h
-outcome-fits Finalizing depth (Errored c) h = absurd h
 outcome-fits Finalizing depth Canceled h = tt
-outcome-fits (Ended p) depth o h = absurd h
+outcome-fits _ depth _ h = absurd h
 
 -- a change of the owner's that isn't refused
 counted : (k : Limits) (s : Cells) (by : ℕ) → IsSound k s → spent (cell_of s by).count k.count ≡ None → (cell_of s by).count + 1 ≤ k.count

@@ -4,8 +4,7 @@ use Rattle.cell_registry.proofs.Prelude.{get_or-set_same, bit_or, set-get_or, Me
 use Rattle.cell_registry.proofs.Prelude.{Cancel, Join, Look, Entry, Knowledge, AreLimits, fresh, requested, awaited, owned, cancel_reply, join_reply, IsOpen}
 use Rattle.cell_registry.proofs.Prelude.{Cells, cell_of, with_cell, after, reply_of, IsAllowed, refusal, IsAccepted, left, IsLegal, control, cell_word}
 use Rattle.cell_registry.proofs.Prelude.{value_place, Leaves, Has, seen_cell, Fits, StoredLast, WordsAreAHistory, entry, Called, IsSame, AtCell, Cancelled}
-use Rattle.cell_registry.proofs.Prelude.{Joined, SawRequest}
-use Rattle.effect_term.specs.declared.reply.Reply.TheVariants as reply
+use Rattle.cell_registry.proofs.Prelude.{Joined, SawRequest, Reply}
 use Rattle.control_word.proofs.Fields.{or_cancel, or_waited}
 use Rattle.cell_registry.proofs.Lists.{get_or-set_kept}
 use Rattle.cell_registry.proofs.Legal.{left-push, sound}
@@ -123,7 +122,7 @@ module _ {S : Type 0} where
         packs = or_cancel (control c) range;
         ends = λ o e. inl e;
         told = λ made now. at_cell i f
-            (λ g. Cancelled g v (cell_word c) (advanced v h (entry v.number (Cancel f) (reply.Cancel (cancel_reply c.stage c.request))))) is (
+            (λ g. Cancelled g v (cell_word c) (advanced v h (entry v.number (Cancel f) (Reply.Cancel (cancel_reply c.stage c.request))))) is (
               c,
               range,
               refl,
@@ -150,7 +149,7 @@ module _ {S : Type 0} where
         leaves = refl;
         packs = or_waited (control c) range;
         ends = λ o e. inl e;
-        told = λ made now. at_cell i f (λ g. Joined g v (cell_word c) (advanced v h (entry v.number (Join f) (reply.Join (join_reply c.stage))))) is (
+        told = λ made now. at_cell i f (λ g. Joined g v (cell_word c) (advanced v h (entry v.number (Join f) (Reply.Join (join_reply c.stage))))) is (
           c,
           range,
           refl,

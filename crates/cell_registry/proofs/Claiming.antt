@@ -3,8 +3,7 @@ use Rattle.cell_registry.proofs.Prelude.{◌≡◌, ◌≢◌, ℕ, ◌+◌, ◌
 use Rattle.cell_registry.proofs.Prelude.{append_assoc, either, Me, Allows, exchanged, Limits, Band, Fibers, Refs, Deferreds, Cell, Entry, Knowledge, AreLimits}
 use Rattle.cell_registry.proofs.Prelude.{fresh, owned, Cells, cell_of, after, reply_of, IsAllowed, refusal, IsAccepted, left, IsLegal, calls_by, Leaves, Has}
 use Rattle.cell_registry.proofs.Prelude.{seen_cell, Fits, WordsAreAHistory, next_of, limit_of, claim_of, entry, Called, Looked, IsSame, band_word, MayClaim}
-use Rattle.cell_registry.proofs.Prelude.{fibers_with, IsNew, Claimed, SawNext, Tried, AtBand, FoundNone}
-use Rattle.effect_term.specs.declared.reply.Reply.TheVariants as reply
+use Rattle.cell_registry.proofs.Prelude.{fibers_with, IsNew, Claimed, SawNext, Tried, AtBand, FoundNone, Reply}
 use Rattle.cell_registry.proofs.Calls.{full-none}
 use Rattle.cell_registry.proofs.Legal.{left-push, next_of-prefix, unborn, unborn_cell, calls_by-other}
 use Rattle.cell_registry.proofs.Giving.{reply-claim, given, next_of-most}
@@ -28,12 +27,7 @@ band_word-one : (b c : Band) → band_word b ≡ band_word c → b ≡ c
 band_word-one Fibers Fibers e = refl
 band_word-one Refs Refs e = refl
 band_word-one Deferreds Deferreds e = refl
-band_word-one Fibers Refs e = absurd (omega arith)
-band_word-one Fibers Deferreds e = absurd (omega arith)
-band_word-one Refs Fibers e = absurd (omega arith)
-band_word-one Refs Deferreds e = absurd (omega arith)
-band_word-one Deferreds Fibers e = absurd (omega arith)
-band_word-one Deferreds Refs e = absurd (omega arith)
+band_word-one _ _ e = absurd (omega arith)
 
 band_word-low : (b : Band) → band_word b < 3
 band_word-low Fibers = omega arith
@@ -92,7 +86,7 @@ module _ {S : Type 0} where
 -- ---- a claim
 -- what the pass knows once the next number is claimed
 abbrev claimed : Band → Knowledge → List Entry → ℕ → Knowledge
-claimed b v h n = record v { seen = h ++ entry v.number (claim_of b) (reply.Number n) ∷ []; fibers = fibers_with b n v.fibers; guests = []; heard = [] }
+claimed b v h n = record v { seen = h ++ entry v.number (claim_of b) (Reply.Number n) ∷ []; fibers = fibers_with b n v.fibers; guests = []; heard = [] }
 
 fibers-claim : (b : Band) (s : Cells) (by : ℕ) (v : Knowledge) (g : ℕ) → Has (fibers_with b (next_of b s) v.fibers) g → Has v.fibers g ⊎
     ((s.next_fiber ≤ g) × (g < (after s by (claim_of b)).next_fiber))
@@ -110,7 +104,7 @@ unused Fibers k h v has legal mine now =
       above = λ f owns. (mine.own f owns).born;
       cell = ap (λ (x : Cells). owned (cell_of x n)) now ∙
           ap (λ (cs : List Cell). owned (get_or cs n fresh)) (after-claim Fibers (left k h) v.number) ∙ unborn_cell k h n legal (omega arith);
-      calls = calls_by-other n h (entry v.number (claim_of Fibers) (reply.Number n)) (λ q. omega arith) ∙ unborn k h n legal (omega arith);
+      calls = calls_by-other n h (entry v.number (claim_of Fibers) (Reply.Number n)) (λ q. omega arith) ∙ unborn k h n legal (omega arith);
     }
 unused _ k h v has legal mine now = tt
 
@@ -120,7 +114,7 @@ claim : (b : Band) (k : Limits) (h : List Entry) (words : List ℕ) (v : Knowled
 claim b k h words v old leaves has legal mine may is within =
     let s : Cells = left k h in
     let n : ℕ = next_of b s in
-    let e : Entry = entry v.number (claim_of b) (reply.Number n) in
+    let e : Entry = entry v.number (claim_of b) (Reply.Number n) in
     let w : Knowledge = claimed b v h n in
     let replied = reply-claim b s v.number in
     let limits : v.limits ≡ k = mine.limits v.number has in
@@ -199,7 +193,7 @@ pub looked_then_claimed : (b : Band) (u v w : Knowledge) (n : ℕ) → Has u.fib
 looked_then_claimed b u v w n has a s c =
     let m = c.call in
     let by : v.number ≡ u.number = s.number in
-    let e = λ (f : ℕ). entry f (claim_of b) (reply.Number n) in
+    let e = λ (f : ℕ). entry f (claim_of b) (Reply.Number n) in
     record {
       call = record {
         between = a.seen.0 ++ m.between;

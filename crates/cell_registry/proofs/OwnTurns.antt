@@ -6,7 +6,6 @@ use Rattle.cell_registry.proofs.Prelude.{unmasked, cut, finished, owned, IsOpen,
 use Rattle.cell_registry.proofs.Prelude.{spent, refusal, IsAccepted, StageInRange, left, phase_at, control, cell_word, value_place, Has, seen_cell, Fits}
 use Rattle.cell_registry.proofs.Prelude.{last_stored, StoredLast, Owns, IsHistory, WordsAreAHistory, entry, Called, Changed, Masked, Unmasked, WasCut, Finished}
 use Rattle.cell_registry.proofs.Prelude.{WasStored, FoundValue}
-use Rattle.effect_term.specs.declared.reply.Reply.TheVariants as reply
 use Rattle.control_word.specs.Word as word
 use Rattle.control_word.proofs.Sums.{finish_one}
 use Rattle.cell_registry.proofs.Calls.{spent-none, outcome-fits}
@@ -85,7 +84,7 @@ module _ {S : Type 0} where
   changes : (k : Limits) (id : ℕ) (me : Me S Knowledge) (i slots : ℕ) (c : Call) (φ : Cell → Cell) (ψ : ℕ → ℕ) (then : Knowledge → Type 0) →
       me.1 ≡ [] → Has me.0.fibers me.0.number → i ≡ me.0.number + 3 → (seen_cell me.0 me.0.number).count < k.count
       → ((s : Cells) → after s me.0.number c ≡ with_cell s me.0.number (φ (cell_of s me.0.number)))
-      → ((s : Cells) → reply_of s me.0.number c ≡ reply.Done)
+      → ((s : Cells) → reply_of s me.0.number c ≡ Reply.Done)
       → ((a b : Cell) → owned a ≡ owned b → owned (φ a) ≡ owned (φ b))
       → ((h : List Entry) → Fits k h me.0 → Own k me.0 h → IsAccepted k (left k h) me.0.number c)
       → ((h : List Entry) → Fits k h me.0 → Own k me.0 h → word.InRange (control (cell_of (left k h) me.0.number)) →

@@ -2,18 +2,18 @@
 use Rattle.cell_registry.proofs.Prelude.{◌≡◌, Bool, true, false, refl, sym, ap, ◌∙◌, arith, ℤ, pos, ℕ, eqb, ◌%◌, ◌^◌, Outcome, Succeeded, Errored, Canceled}
 use Rattle.cell_registry.proofs.Prelude.{IsValue, value_bits, bits_value, bits_lt, back, Control, kind_of, value_of, Stage, Running, Ended, Cell, cancel_reply}
 use Rattle.cell_registry.proofs.Prelude.{join_reply, control, phase_at, kind_at, has_ended, HoldsOutcome}
-use Rattle.effect_term.specs.declared.reply.CancelReply.TheVariants as canceled
-use Rattle.effect_term.specs.declared.reply.JoinReply.TheVariants as joined
+use Rattle.effect_term.specs.declared.reply.CancelReply.{CancelReply}
+use Rattle.effect_term.specs.declared.reply.JoinReply.{JoinReply}
 
-pub ended_reply : (g : Stage) (b : Bool) → phase_at g ≡ 2 → canceled.Ended ≡ cancel_reply g b
+pub ended_reply : (g : Stage) (b : Bool) → phase_at g ≡ 2 → CancelReply.Ended ≡ cancel_reply g b
 ended_reply (Ended o) b e = refl
 ended_reply _ b e = absurd (omega arith)
 
-pub already_reply : (g : Stage) (b : Bool) → (phase_at g ≡ 2 → ⊥) → b ≡ true → canceled.Already ≡ cancel_reply g b
+pub already_reply : (g : Stage) (b : Bool) → (phase_at g ≡ 2 → ⊥) → b ≡ true → CancelReply.Already ≡ cancel_reply g b
 already_reply (Ended o) b n e = absurd (n refl)
 already_reply _ b n e = rw e refl
 
-pub asked_reply : (g : Stage) (b : Bool) → (phase_at g ≡ 2 → ⊥) → b ≡ false → canceled.Asked ≡ cancel_reply g b
+pub asked_reply : (g : Stage) (b : Bool) → (phase_at g ≡ 2 → ⊥) → b ≡ false → CancelReply.Asked ≡ cancel_reply g b
 asked_reply (Ended o) b n e = absurd (n refl)
 asked_reply _ b n e = rw e refl
 
@@ -34,7 +34,7 @@ pub ended_phase : (g : Stage) → eqb (phase_at g) 2 ≡ has_ended g
 ended_phase Running = refl
 ended_phase _ = refl
 
-pub waits_reply : (g : Stage) → has_ended g ≡ false → joined.Waits ≡ join_reply g
+pub waits_reply : (g : Stage) → has_ended g ≡ false → JoinReply.Waits ≡ join_reply g
 waits_reply (Ended o) n = cc
 waits_reply _ n = refl
 

@@ -2,9 +2,8 @@
 use Rattle.cell_registry.proofs.Prelude.{◌≡◌, ℕ, List, [], ◌∷◌, inl, inr, refl, sym, ap, ◌∙◌, subst, arith, dite, IsPrefix, ℕ_discrete, Outcome, Limits, Stage}
 use Rattle.cell_registry.proofs.Prelude.{Ended, Cell, Call, Cancel, Join, Mask, Unmask, Cut, Finish, Entry, AreLimits, fresh, requested, awaited, join_reply}
 use Rattle.cell_registry.proofs.Prelude.{IsOpen, MayUnmask, MayFinish, Cells, opening, cell_of, after, reply_of, IsAllowed, left_from, IsLegalFrom, left}
-use Rattle.cell_registry.proofs.Prelude.{IsLegal, next_of}
-use Rattle.effect_term.specs.declared.reply.JoinReply.TheVariants as joined
-use Rattle.effect_term.specs.declared.reply.Reply.TheVariants as reply
+use Rattle.cell_registry.proofs.Prelude.{IsLegal, next_of, Reply}
+use Rattle.effect_term.specs.declared.reply.JoinReply.{JoinReply}
 use Rattle.cell_registry.specs.Told.{WasToldEnd, JoinsAgree, IsTold}
 use Rattle.cell_registry.proofs.Lists.{get_or-set_kept}
 use Rattle.cell_registry.proofs.Calls.{owned-after}
@@ -56,7 +55,7 @@ open_before k s by c f a opened = go (cell_of s f).stage refl
     go _ e = tt
 
 -- ---- the outcome that a join tells is the fiber's
-join_reply-ended : (g : Stage) (o : Outcome) → join_reply g ≡ joined.Ended o → g ≡ Ended o
+join_reply-ended : (g : Stage) (o : Outcome) → join_reply g ≡ JoinReply.Ended o → g ≡ Ended o
 join_reply-ended (Ended p) o e = let same : p ≡ o = cc in ap Ended same
 join_reply-ended _ o e = cc
 
@@ -65,8 +64,8 @@ WasToldEnd-left_from : (k : Limits) (s : Cells) (h : List Entry) (f : ℕ) (o : 
 unfolding reply_of
 WasToldEnd-left_from k s [] f o l w = absurd w
 WasToldEnd-left_from k s (e ∷ es) f o l (inl w) =
-    let answered : reply.Join (join_reply (cell_of s f).stage) ≡ reply.Join (joined.Ended o) = sym (l.0.replied ∙ ap (reply_of s e.by) w.0) ∙ w.1 in
-    let told : join_reply (cell_of s f).stage ≡ joined.Ended o = cc in
+    let answered : Reply.Join (join_reply (cell_of s f).stage) ≡ Reply.Join (JoinReply.Ended o) = sym (l.0.replied ∙ ap (reply_of s e.by) w.0) ∙ w.1 in
+    let told : join_reply (cell_of s f).stage ≡ JoinReply.Ended o = cc in
     ended-left_from k (after s e.by e.call) es f o l.1 (ended-after k s e.by e.call f o l.0.accepted.allowed (join_reply-ended (cell_of s f).stage o told))
 WasToldEnd-left_from k s (e ∷ es) f o l (inr w) = WasToldEnd-left_from k (after s e.by e.call) es f o l.1 w
 
@@ -85,7 +84,7 @@ legal-told k h limits legal = record {
   given = λ b n w. let most = next_of-most b k h limits legal in let below = WasGiven-next b k h n legal w in omega arith;
   once = λ b n before rest e is claims answers w.
       let follows = IsLegal-at k h before rest e is legal in
-      let answered : reply.Number n ≡ reply.Number (next_of b (left k before)) = sym answers ∙ follows.1.replied ∙
+      let answered : Reply.Number n ≡ Reply.Number (next_of b (left k before)) = sym answers ∙ follows.1.replied ∙
       ap (reply_of (left k before) e.by) claims ∙ reply-claim b (left k before) e.by in
       let next : n ≡ next_of b (left k before) = cc in
       let below = WasGiven-next b k before n follows.0 w in

@@ -5,8 +5,7 @@ use Rattle.cell_registry.proofs.Prelude.{set-append_right, get_or-append_right, 
 use Rattle.cell_registry.proofs.Prelude.{bits_value, wrapped, bits_lt, back, forth, one, sum_bits, Limits, Cell, Call, Get, Set, Modify, Complete, Read, Entry}
 use Rattle.cell_registry.proofs.Prelude.{Knowledge, fresh, owned, Cells, cell_of, ref_of, deferred_of, with_ref, with_deferred, filled, after, reply_of}
 use Rattle.cell_registry.proofs.Prelude.{IsAllowed, refusal, IsAccepted, ValueFits, left, cell_word, deferred_word, ref_value, Leaves, Has, seen_cell, Fits}
-use Rattle.cell_registry.proofs.Prelude.{WordsAreAHistory, entry, Called, IsSame, HasBits, Got, WasSet, Modified, Completed, WasRead}
-use Rattle.effect_term.specs.declared.reply.Reply.TheVariants as reply
+use Rattle.cell_registry.proofs.Prelude.{WordsAreAHistory, entry, Called, IsSame, HasBits, Got, WasSet, Modified, Completed, WasRead, Reply}
 use Rattle.cell_registry.proofs.Legal.{left-push, sound}
 use Rattle.cell_registry.proofs.TableWords.{same_words}
 use Rattle.cell_registry.proofs.Turns.{Turn, Tells, turns}
@@ -184,7 +183,7 @@ module _ {S : Type 0} where
       (λ w made same q iq.
       let limits = ap (λ (l : Limits). l.fibers) (mine.limits v.number has) in
       let one : r ≡ q = omega arith in
-      (subst (λ (t : ℕ × ℤ). Called v (Get t.0) (reply.Value t.1) w) (λ j. (one j, found j)) made, same)))
+      (subst (λ (t : ℕ × ℤ). Called v (Get t.0) (Reply.Value t.1) w) (λ j. (one j, found j)) made, same)))
 
   pub sets : (k : Limits) (id : ℕ) (me : Me S Knowledge) (i n slots r : ℕ) (x : ℤ) → me.1 ≡ [] → Has me.0.fibers me.0.number → r < k.refs →
       i ≡ r + (3 + k.fibers) → HasBits n x
@@ -204,7 +203,7 @@ module _ {S : Type 0} where
       (λ w made same q iq z hz.
       let limits = ap (λ (l : Limits). l.fibers) (mine.limits v.number has) in
       let one : r ≡ q = omega arith in
-      (subst (λ (t : ℕ × ℤ). Called v (Set t.0 t.1) reply.Done w) (λ j. (one j, bits_one n x z bits hz j)) made, same)))
+      (subst (λ (t : ℕ × ℤ). Called v (Set t.0 t.1) Reply.Done w) (λ j. (one j, bits_one n x z bits hz j)) made, same)))
 
   pub modifies : (k : Limits) (id : ℕ) (me : Me S Knowledge) (i n slots r : ℕ) (x : ℤ) → me.1 ≡ [] → Has me.0.fibers me.0.number → r < k.refs →
       i ≡ r + (3 + k.fibers) → HasBits n x
@@ -228,7 +227,7 @@ module _ {S : Type 0} where
       (λ w made same q iq z hz.
       let limits = ap (λ (l : Limits). l.fibers) (mine.limits v.number has) in
       let one : r ≡ q = omega arith in
-      (subst (λ (t : ℕ × ℤ × ℤ). Called v (Modify t.0 t.1) (reply.Value t.2) w) (λ j. (one j, bits_one n x z bits hz j, found j)) made, same)))
+      (subst (λ (t : ℕ × ℤ × ℤ). Called v (Modify t.0 t.1) (Reply.Value t.2) w) (λ j. (one j, bits_one n x z bits hz j, found j)) made, same)))
 
   pub completes : (k : Limits) (id : ℕ) (me : Me S Knowledge) (i n slots d : ℕ) (x : ℤ) → me.1 ≡ [] → Has me.0.fibers me.0.number → d < k.deferreds →
       i ≡ d + (3 + k.fibers + k.refs) → IsValue x → n ≡ deferred_word (Some x)
@@ -253,7 +252,7 @@ module _ {S : Type 0} where
       let rs = ap (λ (l : Limits). l.refs) (mine.limits v.number has) in
       let one : d ≡ q = omega arith in
       let value : x ≡ z = some-one (deferred_word-one (Some x) (Some z) fits fz (sym bits ∙ ez)) in
-      (subst (λ (t : ℕ × ℤ × Bool). Called v (Complete t.0 t.1) (reply.Completed t.2) w) (λ j. (one j, value j, did j)) made, same)))
+      (subst (λ (t : ℕ × ℤ × Bool). Called v (Complete t.0 t.1) (Reply.Completed t.2) w) (λ j. (one j, value j, did j)) made, same)))
 
   pub reads : (k : Limits) (id : ℕ) (me : Me S Knowledge) (i slots d : ℕ) → me.1 ≡ [] → Has me.0.fibers me.0.number → d < k.deferreds →
       i ≡ d + (3 + k.fibers + k.refs)
@@ -273,4 +272,4 @@ module _ {S : Type 0} where
       let fs = ap (λ (l : Limits). l.fibers) (mine.limits v.number has) in
       let rs = ap (λ (l : Limits). l.refs) (mine.limits v.number has) in
       let one : d ≡ q = omega arith in
-      (o, good.each_deferred d, sym at, subst (λ (t : ℕ). Called v (Read t) (reply.Read o) w) one made, same)))
+      (o, good.each_deferred d, sym at, subst (λ (t : ℕ). Called v (Read t) (Reply.Read o) w) one made, same)))

@@ -5,7 +5,6 @@ use Rattle.fiber_frames.proofs.Prelude.{source_of, Put, mask_at, Guarded, Handle
 use Rattle.fiber_frames.proofs.Prelude.{Polled, Seq, Start, Tree, Uncancelable, Reply, Running, Runs, Born, RowKind, Fiber, Looks, Move_case, child, move}
 use Rattle.fiber_frames.proofs.Prelude.{move_case, move_in, term_born, Reached, born, broken, moved, root, mask_to, masks_of, renumbered, run_renumbered}
 use Rattle.derived_ops.proofs.ReadBack.{expansion_has, has_words}
-use Rattle.effect_term.specs.declared.reply.Reply.TheVariants as reply
 use Rattle.fiber_frames.specs.Fiber.{kind_of}
 use Rattle.fiber_frames.proofs.Marks.Cutting.{Static}
 use Rattle.fiber_frames.proofs.Marks.Runs.{LiveRun, live_run}
@@ -143,11 +142,11 @@ module _ (number : ℕ → ℕ → ℕ) (apart : Apart number) where
     term_stays _ = refl
 
     child_stays : (n : ℕ) → number f.number f.next ≡ f.next →
-        renumbered f.number to (term_born (kind_of f (reply.Number n))) ≡ term_born (kind_of f (reply.Number n))
+        renumbered f.number to (term_born (kind_of f (Reply.Number n))) ≡ term_born (kind_of f (Reply.Number n))
     child_stays n fits =
-        let kind = same_kind f to f.next closed (λ m. refl) (kept_all f.number (masks_of f.running)) (ap (Pair f.number) fits) (reply.Number n) in
-        sym (term_stays (kind_of f (reply.Number n)))
-        ∙ ap term_born (sym kind ∙ ap (λ (w : Running). kind_of (bare w) (reply.Number n)) same ∙ unmarks_kind (reply.Number n))
+        let kind = same_kind f to f.next closed (λ m. refl) (kept_all f.number (masks_of f.running)) (ap (Pair f.number) fits) (Reply.Number n) in
+        sym (term_stays (kind_of f (Reply.Number n)))
+        ∙ ap term_born (sym kind ∙ ap (λ (w : Running). kind_of (bare w) (Reply.Number n)) same ∙ unmarks_kind (Reply.Number n))
 
 pub fresh_move : (f : Fiber) (r : Reply) → LiveRun f.running → Fresh f.number f.next f.running → Fresh (move f r).number (move f r).next (move f r).running
 fresh_move f r live h number apart stays =
@@ -164,7 +163,7 @@ fresh_move f r live h number apart stays =
 
 pub fresh_child : (f : Fiber) (n : ℕ) → LiveRun f.running → f.number < n → Fresh f.number f.next f.running → Fresh n 0 (child f n).running
 fresh_child f n live l h number apart stays =
-    let e = term_born (kind_of f (reply.Number n)) in
+    let e = term_born (kind_of f (Reply.Number n)) in
     let below : (g m : ℕ) → g < n → number g m ≡ m = λ g m low. stays g m (omega arith) (λ q. omega (arith, q)) in
     let before : Stays f.number f.next number = λ g m low k. below g m (omega arith) in
     ap Runs (static_own f.number n (each_own number) e (child_static f n live) ∙

@@ -1,10 +1,9 @@
 -- The masks of frames, gathered one frame after another.
 use Rattle.fiber_frames.proofs.Prelude.{◌≡◌, ◌<◌, ℕ, zero, suc, ◌+◌, List, [], ◌∷◌, ◌++◌, get_or, length, take, refl, sym, ap, ◌∙◌, arith, append_assoc, Frame}
 use Rattle.fiber_frames.proofs.Prelude.{numbers_in}
-use Rattle.fiber_frames.specs.declared.frame.Frame.TheVariants as frame
 
 before : (f : Frame) (xs : List Frame) → numbers_in (f ∷ xs) ≡ numbers_in (f ∷ []) ++ numbers_in xs
-before (frame.Let k n) xs = refl
+before (Frame.Let k n) xs = refl
 before _ xs = refl
 
 taken : (fs : List Frame) (i : ℕ) (d : Frame) → i < length fs → numbers_in (take (suc i) fs) ≡ numbers_in (take i fs) ++ numbers_in (get_or fs i d ∷ [])

@@ -2,7 +2,6 @@
 use Rattle.fiber_frames.proofs.Prelude.{◌≡◌, ◌⊎◌, inl, inr, ℕ, ◌+◌, List, [], ◌∷◌, refl, sym, subst, Pair, Tree, Reply, At_final, At_term, Final, Running, Runs}
 use Rattle.fiber_frames.proofs.Prelude.{focus, path, pending, pending_at, Born, Row, RowKind, row_at, Cuts, Fiber, Move_case, Reduces, kind_in, move, move_case}
 use Rattle.fiber_frames.proofs.Prelude.{move_in, term_born, masks_first, masks_of}
-use Rattle.effect_term.specs.declared.reply.Reply.TheVariants as reply
 use Rattle.fiber_frames.specs.Fiber.{kind_of}
 use Rattle.fiber_frames.proofs.Walk.{End, Works, end_of, pending_root, root_row, row_root, walk}
 use Rattle.fiber_frames.proofs.Marks.Actions.{If_born}
@@ -68,11 +67,11 @@ move_rises f r h = go (move_case f)
     go _ = inl refl
 
 -- what is started has no mask on its path
-pub child_static : (f : Fiber) (n : ℕ) → LiveRun f.running → Static (term_born (kind_of f (reply.Number n)))
-child_static f n h = started (kind_of f (reply.Number n)) (go (move_case f))
+pub child_static : (f : Fiber) (n : ℕ) → LiveRun f.running → Static (term_born (kind_of f (Reply.Number n)))
+child_static f n h = started (kind_of f (Reply.Number n)) (go (move_case f))
   where
-    go : (c : Move_case) → If_born (kind_in f (reply.Number n) c) Static
-    go Reduces = (run_on (λ m. Unit {0}) f.number f.next tt (reply.Number n) f.running h (any_on (masks_of f.running))).born
+    go : (c : Move_case) → If_born (kind_in f (Reply.Number n) c) Static
+    go Reduces = (run_on (λ m. Unit {0}) f.number f.next tt (Reply.Number n) f.running h (any_on (masks_of f.running))).born
     go _ = tt
 
     started : (k : RowKind) → If_born k Static → Static (term_born k)

@@ -6,7 +6,6 @@ use Rattle.fiber_frames.proofs.Prelude.{Runs, focus, Born, RowKind, Row, row_at,
 use Rattle.fiber_frames.proofs.Prelude.{kind_in, move, move_case, move_in, row_of, term_born, Reached, IsCode, ActionFits, AllClosed, A_deferred, A_fiber}
 use Rattle.fiber_frames.proofs.Prelude.{A_ref, Closed, Given, HandleFits, IsMore, No_handle, Place, given_of, made_by, AskNamed, NamedBeginning, NamedLive}
 use Rattle.fiber_frames.proofs.Prelude.{NamedRun, NumberGiven}
-use Rattle.effect_term.specs.declared.reply.Reply.TheVariants as reply
 use Rattle.fiber_frames.specs.Fiber.{kind_of}
 use Rattle.fiber_frames.proofs.CallBeforeReply.{call_same}
 use Rattle.fiber_frames.proofs.Walk.{End, Works, active_root, end_of, finalizers_below, masks_below, root_row, row_root, walk}
@@ -133,19 +132,19 @@ cut_named : (b : Given) (f : Fiber) (t : Tree) → f.running ≡ Runs t → Name
 cut_named b f t e h =
     let after : NamedFiber b
     (noted f (Final f.next (finalizers_below t)) (f.next + 1) (Rattle.fiber_frames.specs.declared.mark.Mark.TheVariants.Cut ∷ [])) =
-    finals_named b f.number f.next reply.Done f.next (finalizers_below t) (pending_named b t (subst (NamedRun b) e h)) in
+    finals_named b f.number f.next Reply.Done f.next (finalizers_below t) (pending_named b t (subst (NamedRun b) e h)) in
     subst (NamedFiber b) (sym (cut_run f t e)) after
 
-same_call : (f : Fiber) (r : Reply) → (row_of f r).call ≡ (row_of f reply.Done).call
-same_call f r = call_same f.number f.next f.next r reply.Done (focus f.running) f.running
+same_call : (f : Fiber) (r : Reply) → (row_of f r).call ≡ (row_of f Reply.Done).call
+same_call f r = call_same f.number f.next f.next r Reply.Done (focus f.running) f.running
 
 -- what is asked was given, or is the fiber itself
 pub ask_named : (b : Given) (f : Fiber) → NamedFiber b f → AskNamed b f.number (ask_of f)
 ask_named b f h = go (move_case f)
   where
     go : (c : Move_case) → AskNamed b f.number (ask_in f c)
-    go Reduces = (row_here b f reply.Done h).asks
-    go Rests = (row_here b f reply.Done h).asks
+    go Reduces = (row_here b f Reply.Done h).asks
+    go Rests = (row_here b f Reply.Done h).asks
     go _ = tt
 
 -- what comes of a move names what was given, with the number that it was answered
@@ -158,11 +157,11 @@ move_named b f r k h g = go (move_case f) refl g
     go _ e g = h
 
 -- what is started is closed
-child_closed : (b : Given) (f : Fiber) (n : ℕ) → NamedFiber b f → Closed b (term_born (kind_of f (reply.Number n)))
-child_closed b f n h = started (kind_of f (reply.Number n)) (go (move_case f))
+child_closed : (b : Given) (f : Fiber) (n : ℕ) → NamedFiber b f → Closed b (term_born (kind_of f (Reply.Number n)))
+child_closed b f n h = started (kind_of f (Reply.Number n)) (go (move_case f))
   where
-    go : (c : Move_case) → If_born (kind_in f (reply.Number n) c) (Closed b)
-    go Reduces = (row_here b f (reply.Number n) h).born
+    go : (c : Move_case) → If_born (kind_in f (Reply.Number n) c) (Closed b)
+    go Reduces = (row_here b f (Reply.Number n) h).born
     go _ = tt
 
     started : (k : RowKind) → If_born k (Closed b) → Closed b (term_born k)
@@ -184,7 +183,7 @@ pub closed_begins : (b : Given) (i : ℕ) (t : Tree) → Closed b t → NamedBeg
 closed_begins b i t h = record { names = closed_live b t h; depth = ap (length {A = Mask}) (active_root i t ∙ named_active b i t _ [] h.1) }
 
 pub child_named : (b : Given) (f : Fiber) (n : ℕ) → NamedFiber b f → NamedBeginning b (child f n)
-child_named b f n h = closed_begins b n (term_born (kind_of f (reply.Number n))) (child_closed b f n h)
+child_named b f n h = closed_begins b n (term_born (kind_of f (Reply.Number n))) (child_closed b f n h)
 
 -- ---- a fiber that is reached
 pub reached_moves_named : (f : Fiber) → Reached f → (b : Given) (r : Reply) → NamedFiber b f → NumberGiven b (ask_of f) r → NamedFiber b (move f r)

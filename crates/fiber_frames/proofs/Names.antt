@@ -8,8 +8,6 @@ use Rattle.fiber_frames.proofs.Prelude.{Request, Seq, Set, Start, Times, Tree, T
 use Rattle.fiber_frames.proofs.Prelude.{In_masked, In_polled, In_seq, undone, Row, action_row, after_end, after_read, branch, fits, is_ended, is_positive}
 use Rattle.fiber_frames.proofs.Prelude.{is_zero, looped, number_in, number_of, one_less, outcome_in, read_in, unit, ActionFits, A_deferred, A_fiber, A_ref}
 use Rattle.fiber_frames.proofs.Prelude.{Closed, Given, HandleFits, No_handle, Place, given_of, made_by, AskNamed, NamedLive, NumberGiven, PathStep}
-use Rattle.effect_term.specs.declared.reply.Outcome.TheVariants as outcome
-use Rattle.fiber_frames.specs.declared.ask.Ask.TheVariants as ask
 use Rattle.fiber_frames.proofs.Walk.{End, Gives, Throws, Works, end_of, under, walk}
 use Rattle.fiber_frames.proofs.Marks.Actions.{If_born, none_born, wait_none}
 use Rattle.derived_ops.specs.Naming.{Named}
@@ -180,23 +178,23 @@ pub record RowNamed (b : Given) (i : ℕ) (r : Reply) (a : Row Tree) : Type 0 wh
 
 -- a call that names nothing
 abbrev Nameless : Ask → Type 0
-Nameless (ask.Cancel f) = ⊥
-Nameless (ask.Join f) = ⊥
-Nameless (ask.Get r) = ⊥
-Nameless (ask.Set r v) = ⊥
-Nameless (ask.Modify r v) = ⊥
-Nameless (ask.Complete d v) = ⊥
-Nameless (ask.Read d) = ⊥
+Nameless (Ask.Cancel f) = ⊥
+Nameless (Ask.Join f) = ⊥
+Nameless (Ask.Get r) = ⊥
+Nameless (Ask.Set r v) = ⊥
+Nameless (Ask.Modify r v) = ⊥
+Nameless (Ask.Complete d v) = ⊥
+Nameless (Ask.Read d) = ⊥
 Nameless a = Unit {0}
 
 nameless : (b : Given) (i : ℕ) (a : Ask) → Nameless a → AskNamed b i a
-nameless b i (ask.Cancel f) h = absurd h
-nameless b i (ask.Join f) h = absurd h
-nameless b i (ask.Get r) h = absurd h
-nameless b i (ask.Set r v) h = absurd h
-nameless b i (ask.Modify r v) h = absurd h
-nameless b i (ask.Complete d v) h = absurd h
-nameless b i (ask.Read d) h = absurd h
+nameless b i (Ask.Cancel f) h = absurd h
+nameless b i (Ask.Join f) h = absurd h
+nameless b i (Ask.Get r) h = absurd h
+nameless b i (Ask.Set r v) h = absurd h
+nameless b i (Ask.Modify r v) h = absurd h
+nameless b i (Ask.Complete d v) h = absurd h
+nameless b i (Ask.Read d) h = absurd h
 nameless b i _ h = tt
 
 -- a handle that isn't open
@@ -228,7 +226,7 @@ module _ (b : Given) (i n : ℕ) (r : Reply) where
   ClosedStep (In_masked m) = Unit {0}
   ClosedStep (In_polled q) = Unit {0}
 
-  switch_nameless : (t : Bool) (x : Ask) → Nameless x → Nameless (if t then x else ask.Silent)
+  switch_nameless : (t : Bool) (x : Ask) → Nameless x → Nameless (if t then x else Ask.Silent)
   switch_nameless true x h = h
   switch_nameless false x h = tt
 
@@ -236,8 +234,8 @@ module _ (b : Given) (i n : ℕ) (r : Reply) where
   step_named up (In_let x k) c (Gives w) a h = on _ tt tt (closed_live b (put (Put_value x (number_of w)) k) (closed_value b x (number_of w) k c))
   step_named up (In_seq o k) c (Gives w) a h = on _ tt tt (closed_live b k c)
   step_named up (In_handle x k) c (Throws w) a h = on _ tt tt (closed_live b (put (Put_value x (number_of w)) k) (closed_value b x (number_of w) k c))
-  step_named up (In_polled q) c (Gives w) a h = on _ (switch_nameless _ ask.Mask tt) tt (0, tt)
-  step_named up (In_polled q) c (Throws w) a h = on _ (switch_nameless _ ask.Mask tt) tt (0, tt)
+  step_named up (In_polled q) c (Gives w) a h = on _ (switch_nameless _ Ask.Mask tt) tt (0, tt)
+  step_named up (In_polled q) c (Throws w) a h = on _ (switch_nameless _ Ask.Mask tt) tt (0, tt)
   step_named up (In_polled q) c Works a h = record { becomes = h.becomes; born = h.born; asks = h.asks }
   step_named up (In_masked m) c Works a h = record { becomes = h.becomes; born = h.born; asks = h.asks }
   step_named up _ c Works a h = record { becomes = λ g. (h.becomes g, c); born = h.born; asks = h.asks }
@@ -246,9 +244,9 @@ module _ (b : Given) (i n : ℕ) (r : Reply) where
   branch_named : (m : ℕ) (o : Option Outcome) (f : Handle) (x : ℕ) (s : Tree) (y : ℕ) (e c : Tree) →
       Named b (replicate m No_handle) (Join f x s y e c) → NamedLive b (branch o f x s y e c)
   branch_named m None f x s y e c h = (m, h)
-  branch_named m (Some (outcome.Succeeded z)) f x s y e c h = closed_live b (put (Put_value x z) s) (closed_value b x z s (closed_below b m s h.1.1.0))
-  branch_named m (Some (outcome.Errored z)) f x s y e c h = closed_live b (put (Put_value y z) e) (closed_value b y z e (closed_below b m e h.1.1.1.0))
-  branch_named m (Some outcome.Canceled) f x s y e c h = closed_live b c (m, h.1.1.1.1)
+  branch_named m (Some (Outcome.Succeeded z)) f x s y e c h = closed_live b (put (Put_value x z) s) (closed_value b x z s (closed_below b m s h.1.1.0))
+  branch_named m (Some (Outcome.Errored z)) f x s y e c h = closed_live b (put (Put_value y z) e) (closed_value b y z e (closed_below b m e h.1.1.1.0))
+  branch_named m (Some Outcome.Canceled) f x s y e c h = closed_live b c (m, h.1.1.1.1)
 
   looped_named : (m : Turns) (e : Tree) → Closed b e → NamedLive b (looped m e)
   looped_named Always e c = (closed_live b e c, c)
@@ -312,7 +310,7 @@ module _ (b : Given) (i n : ℕ) (r : Reply) where
   }
   row_named (Loop m e) up h = on _ tt tt (looped_named m e h)
   row_named (Uncancelable x e) up h = on _ tt tt (closed_live b (put (Put_mask x i n) e) (closed_mask b x i n e (closed_below b h.0 e h.1.1)))
-  row_named (Poll q e) up h = on _ (switch_nameless _ ask.Unmask tt) tt (closed_live b e h)
+  row_named (Poll q e) up h = on _ (switch_nameless _ Ask.Unmask tt) tt (closed_live b e h)
   row_named (On_cancel e fin) up h = on _ tt tt (closed_live b e (h.0, h.1.0), (h.0, h.1.1))
   row_named (Masked m e) up h = step_named up (In_masked m) tt (end_of e) (walk i n r (Pair i m ∷ up) e) (row_named e (Pair i m ∷ up) h)
   row_named (Polled q e) up h = step_named up (In_polled q) tt (end_of e) (walk i n r (undone q up) e) (row_named e (undone q up) h)

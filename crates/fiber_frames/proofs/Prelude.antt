@@ -22,7 +22,7 @@ pub use Rattle.derived_ops.specs.Naming.{made_by}
 pub use Rattle.derived_ops.specs.Put.{Put, Put_handle, Put_mask, Put_value, action_at, handle_at, maker_at, mask_at, put, turns_at, value_at}
 pub use Rattle.derived_ops.specs.Reading.{seq_of, source_of, value_of}
 pub use Rattle.derived_ops.specs.Source.{Source}
-pub use Rattle.derived_ops.specs.Tree.{Acquired, Act, Action, Add, Always, Await, Bracket_mark, Cancel, Canceled, Cede, Complete, Ending, Get, Guarded, Handle}
+pub use Rattle.derived_ops.specs.Tree.{Acquired, Act, Action, Add, Always, Await, Bracket_mark, Cancel, Canceled, Complete, Ending, Get, Guarded, Handle}
 pub use Rattle.derived_ops.specs.Tree.{Handled, If0, Join, Known, Last, Let, Loop, Make, Maker, Mask, Masked, Modify, More, Named, Never, New_deferred, New_ref}
 pub use Rattle.derived_ops.specs.Tree.{Note, Number, On_cancel, Open_slot, Operand, Pair, Poll, Polled, Pure, Raise, Released, Releasing, Request, Rest, Say}
 pub use Rattle.derived_ops.specs.Tree.{Seq, Set, Slot, Start, Times, Tree, Turns, Uncancelable}
@@ -67,8 +67,8 @@ pub use Rattle.fiber_frames.specs.Told.{BornReached, kind_of_row_end, told_by}
 unfoldable pub use Rattle.fiber_frames.specs.Unmarked.{unmarked}
 pub use Rattle.fiber_frames.specs.Unmarked.{all_renumbered, mask_to, masks_first, masks_of, masks_on, number_to, one_on, own_place, place_in, placed_in}
 pub use Rattle.fiber_frames.specs.Unmarked.{renumbered, run_renumbered, run_unmarked}
-pub use Rattle.fiber_frames.specs.Uses.{Apart, AskApart, Bound, By_its, By_none, By_other, NumberApart, Scope, Spares, action_uses, all_open, all_uses}
-pub use Rattle.fiber_frames.specs.Uses.{bound_by, handle_count, is_some, of_use, open_count, tree_uses, under, under as under_binder, used_place, uses_in}
+pub use Rattle.fiber_frames.specs.Uses.{Apart, AskApart, Bound, By_its, By_none, By_other, NumberApart, Scope, action_uses, all_open, all_uses, bound_by}
+pub use Rattle.fiber_frames.specs.Uses.{handle_count, is_some, of_use, open_count, tree_uses, under, under as under_binder, used_place, uses_in}
 pub use Rattle.fiber_frames.specs.declared.ask.Ask.{Ask}
 pub use Rattle.fiber_frames.specs.declared.ask.Look.{Look}
 pub use Rattle.fiber_frames.specs.declared.ask.Look.TheVariants.{Clear, Due, Seen}

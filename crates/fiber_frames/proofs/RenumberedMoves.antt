@@ -4,7 +4,6 @@ use Rattle.fiber_frames.proofs.Prelude.{Pair, Polled, Seq, Tree, Reply, Look, At
 use Rattle.fiber_frames.proofs.Prelude.{path, pending, pending_at, Row, mask_number, row_at, Cuts, Fiber, Move_case, Reduces, Rests, active_of, ask_in, ask_of}
 use Rattle.fiber_frames.proofs.Prelude.{case_in, case_under, kind_in, move, move_case, move_in, row_of, all_renumbered, masks_of, masks_on, number_to}
 use Rattle.fiber_frames.proofs.Prelude.{renumbered, run_renumbered}
-use Rattle.effect_term.specs.declared.reply.Reply.TheVariants as reply
 use Rattle.fiber_frames.specs.Fiber.{kind_of}
 use Rattle.fiber_frames.proofs.Walk.{End, Works, active_path, active_root, end_of, finalizers_below, masks_below, pending_root, root_row, row_root, walk}
 use Rattle.fiber_frames.proofs.Renumbering.{AlikeRow, Each, IsKept, end_to, kind_renumbered, kept_undone, masks_to, undone_to, walk_alike}
@@ -169,8 +168,8 @@ module _ (f : Fiber) (to : ℕ → ℕ → Mask) (n : ℕ) (closed : (p : Put) (
     same_ask = ap (ask_in g) same_case ∙ go (move_case f)
       where
         go : (c : Move_case) → ask_in g c ≡ ask_in f c
-        go Reduces = (row_there reply.Done).call
-        go Rests = (row_there reply.Done).call
+        go Reduces = (row_there Reply.Done).call
+        go Rests = (row_there Reply.Done).call
         go _ = refl
 
     pub same_kind : (r : Reply) → kind_of g r ≡ kind_renumbered (renumbered i to) (kind_of f r)

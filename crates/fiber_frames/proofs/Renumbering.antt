@@ -8,8 +8,6 @@ use Rattle.fiber_frames.proofs.Prelude.{In_guarded, In_handle, In_let, In_masked
 use Rattle.fiber_frames.proofs.Prelude.{without_first, Born, Ceded, Ended, Plain, Row, RowKind, Waited, action_row, after_end, after_read, branch, fits}
 use Rattle.fiber_frames.proofs.Prelude.{is_ended, is_positive, is_zero, looped, mask_number, number_in, number_of, one_less, outcome_in, read_in, unit, wait}
 use Rattle.fiber_frames.proofs.Prelude.{mask_to, masks_on, number_to, renumbered}
-use Rattle.effect_term.specs.declared.reply.Outcome.TheVariants as outcome
-use Rattle.fiber_frames.specs.declared.ask.Ask.TheVariants as ask
 use Rattle.fiber_frames.proofs.Walk.{End, Gives, Throws, Works, end_of, under, walk}
 
 -- what a kind of move starts, with its masks' numbers changed
@@ -173,8 +171,8 @@ module _ (i : ℕ) (to : ℕ → ℕ → Mask) (closed : (p : Put) (g m : ℕ) �
     around_to (In_let x k) e = refl
     around_to _ e = refl
 
-    switch_call : (b c : Bool) (a : Ask) → b ≡ c → ◌≡◌ {A = Ask} (if b then a else ask.Silent) (if c then a else ask.Silent)
-    switch_call b c a e = ap (λ x. if x then a else ask.Silent) e
+    switch_call : (b c : Bool) (a : Ask) → b ≡ c → ◌≡◌ {A = Ask} (if b then a else Ask.Silent) (if c then a else Ask.Silent)
+    switch_call b c a e = ap (λ x. if x then a else Ask.Silent) e
 
     under_to : (up up' : List Mask) → Each IsKept up → up' ≡ masks_to up → (s : PathStep) (E : End) (a b : Row Tree) → (E ≡ Works → Alike a b) →
         Alike (under i next up s E a) (under i next' up' (step_to s) E b)
@@ -182,19 +180,12 @@ module _ (i : ℕ) (to : ℕ → ℕ → Mask) (closed : (p : Put) (g m : ℕ) �
         let w = h refl in
         record { call = w.call; becomes = ap (around (step_to s)) w.becomes ∙ around_to s a.becomes; kind = w.kind }
     under_to up up' k q (In_let x c) (Gives v) a b h = record { call = refl; becomes = put_value x (number_of v) c; kind = refl }
-    under_to up up' k q (In_seq w c) (Gives v) a b h = record { call = refl; becomes = refl; kind = refl }
-    under_to up up' k q (In_handle x c) (Gives v) a b h = record { call = refl; becomes = refl; kind = refl }
-    under_to up up' k q (In_guarded c) (Gives v) a b h = record { call = refl; becomes = refl; kind = refl }
-    under_to up up' k q (In_masked m) (Gives v) a b h = record { call = refl; becomes = refl; kind = refl }
     under_to up up' k q (In_polled p) (Gives v) a b h =
-        record { call = switch_call _ _ ask.Mask (ap (is_effective (Q p)) q ∙ effective_to p up k); becomes = refl; kind = refl }
-    under_to up up' k q (In_let x c) (Throws v) a b h = record { call = refl; becomes = refl; kind = refl }
-    under_to up up' k q (In_seq w c) (Throws v) a b h = record { call = refl; becomes = refl; kind = refl }
+        record { call = switch_call _ _ Ask.Mask (ap (is_effective (Q p)) q ∙ effective_to p up k); becomes = refl; kind = refl }
     under_to up up' k q (In_handle x c) (Throws v) a b h = record { call = refl; becomes = put_value x (number_of v) c; kind = refl }
-    under_to up up' k q (In_guarded c) (Throws v) a b h = record { call = refl; becomes = refl; kind = refl }
-    under_to up up' k q (In_masked m) (Throws v) a b h = record { call = refl; becomes = refl; kind = refl }
     under_to up up' k q (In_polled p) (Throws v) a b h =
-        record { call = switch_call _ _ ask.Mask (ap (is_effective (Q p)) q ∙ effective_to p up k); becomes = refl; kind = refl }
+        record { call = switch_call _ _ Ask.Mask (ap (is_effective (Q p)) q ∙ effective_to p up k); becomes = refl; kind = refl }
+    under_to up up' k q _ _ a b h = record { call = refl; becomes = refl; kind = refl }
 
     pub end_to : (t : Tree) → end_of (R t) ≡ end_of t
     end_to (Pure v) = refl
@@ -233,8 +224,8 @@ module _ (i : ℕ) (to : ℕ → ℕ → Mask) (closed : (p : Put) (g m : ℕ) �
     act_alike _ = record { call = refl; becomes = refl; kind = refl }
 
     branch_to : (o : Option Outcome) (f : Handle) (x : ℕ) (s : Tree) (y : ℕ) (e c : Tree) → branch o f x (R s) y (R e) (R c) ≡ R (branch o f x s y e c)
-    branch_to (Some (outcome.Succeeded z)) f x s y e c = put_value x z s
-    branch_to (Some (outcome.Errored z)) f x s y e c = put_value y z e
+    branch_to (Some (Outcome.Succeeded z)) f x s y e c = put_value x z s
+    branch_to (Some (Outcome.Errored z)) f x s y e c = put_value y z e
     branch_to _ f x s y e c = refl
 
     looped_to : (m : Turns) (e : Tree) → looped m (R e) ≡ R (looped m e)
@@ -290,7 +281,7 @@ module _ (i : ℕ) (to : ℕ → ℕ → Mask) (closed : (p : Put) (g m : ℕ) �
       kind = refl;
     }
     walk_alike (Poll p e) up up' k g q h =
-        record { call = switch_call _ _ ask.Unmask (ap (is_effective (Q p)) q ∙ effective_to p up k); becomes = refl; kind = refl }
+        record { call = switch_call _ _ Ask.Unmask (ap (is_effective (Q p)) q ∙ effective_to p up k); becomes = refl; kind = refl }
     walk_alike (Masked m e) up up' k g q h =
         step_alike up up' k q (In_masked m) e (walk i next r (Pair i m ∷ up) e) (walk i next' r (Pair i (number_to i to m) ∷ up') (R e))
         (λ w. walk_alike e (Pair i m ∷ up) (Pair i (number_to i to m) ∷ up') (g.0, k) g.1 (own_up m up up' q)

@@ -2,7 +2,6 @@
 use Rattle.fiber_frames.proofs.Prelude.{◌≡◌, ℕ, List, [], ◌∷◌, map, reverse, refl, sym, ap, ap₂, ◌∙◌, reverse_aux, Tree, CoreWord, Frame, Pending, RunStage}
 use Rattle.fiber_frames.proofs.Prelude.{Machine, Leaf, PathStep, whole, finalizer_of, finalizers_of, leaf_of, leaf_tree, running_in, running_of, step_of}
 use Rattle.fiber_frames.proofs.Prelude.{steps_of, IsOver, SameCourse, SameParts, fiber_in, state_of}
-use Rattle.fiber_frames.specs.declared.frame.RunStage.TheVariants as stage
 
 map_onto : {A B : Type 0} (to : A → B) (xs ys : List A) → map to (reverse_aux xs ys) ≡ reverse_aux (map to xs) (map to ys)
 map_onto to [] ys = refl
@@ -45,7 +44,7 @@ module _ (one other : Machine) (own : one.own ≡ other.own) (h : SameParts one 
       ∙ ap (λ (s : RunStage). running_in s (whole (steps_of (state_of other)) (leaf_tree (state_of other))) (finalizers_of (state_of other))) same
 
 over_same : (s : RunStage) (t u : Tree) (gs hs : List Tree) → IsOver s → running_in s t gs ≡ running_in s u hs
-over_same (stage.Over o) t u gs hs over = refl
+over_same (RunStage.Over o) t u gs hs over = refl
 over_same _ t u gs hs over = absurd over
 
 module _ (one other : Machine) (h : SameCourse one other) where

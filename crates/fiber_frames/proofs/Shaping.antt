@@ -9,14 +9,8 @@ use Rattle.fiber_frames.proofs.Prelude.{close_maker, close_mask, close_turns, cl
 use Rattle.fiber_frames.proofs.Prelude.{finalizers_of, leaf_of, running_in, running_of, step_of, Leaf, leaf_in, fiber_in, state_of, In_guarded, In_handle}
 use Rattle.fiber_frames.proofs.Prelude.{In_let, In_masked, In_polled, In_seq, PathStep, Running, around, whole, entry_placed, frame_placed, numbers_in}
 use Rattle.fiber_frames.proofs.Prelude.{path_masks, stage_placed, all_renumbered, mask_to, masks_of, masks_on, number_to, placed_in, renumbered, run_renumbered}
-use Rattle.fiber_frames.proofs.Prelude.{run_unmarked, unmarked}
-use Rattle.derived_ops.specs.declared.core_word.CoreWord.TheVariants as word
-use Rattle.fiber_frames.specs.declared.env.EnvEntry.TheVariants as entry
-use Rattle.fiber_frames.specs.declared.frame.Frame.TheVariants as frame
-use Rattle.fiber_frames.specs.declared.frame.RunStage.TheVariants as stage
-use Rattle.fiber_frames.specs.declared.operand.Mask.TheVariants as mask
+use Rattle.fiber_frames.proofs.Prelude.{run_unmarked, unmarked, Mask_code}
 use Rattle.fiber_frames.specs.declared.frame.Place.{Place}
-use Rattle.fiber_frames.specs.Leaf as leaf
 
 -- ---- terms without numbers of masks, and without the forms that only a running fiber has
 abbrev Unnumbered : Mask → Type 0
@@ -42,17 +36,17 @@ Words (Guarded e fin) = ⊥
 Words _ = Unit {0}
 
 word_words : (w : CoreWord) (n : ℕ) (a b c : ℕ → Tree) → ((n : ℕ) → Words (a n)) → ((n : ℕ) → Words (b n)) → ((n : ℕ) → Words (c n)) → Words (word_tree w n a b c)
-word_words (word.Let j) n a b c f g h = (f n, g (n + 1))
-word_words (word.Seq w j) n a b c f g h = (f n, g n)
-word_words (word.Handle j) n a b c f g h = (f n, g (n + 1))
-word_words (word.If0 v j) n a b c f g h = (f n, g n)
-word_words (word.Join k j l) n a b c f g h = (f (n + 1), g (n + 1), h n)
-word_words (word.Make m) n a b c f g h = f (n + 1)
-word_words (word.Start j) n a b c f g h = (f n, g (n + 1))
-word_words (word.Loop t) n a b c f g h = f n
-word_words word.Uncancelable n a b c f g h = f (n + 1)
-word_words (word.Poll p) n a b c f g h = (tt, f n)
-word_words (word.OnCancel j) n a b c f g h = (f n, g n)
+word_words (CoreWord.Let j) n a b c f g h = (f n, g (n + 1))
+word_words (CoreWord.Seq w j) n a b c f g h = (f n, g n)
+word_words (CoreWord.Handle j) n a b c f g h = (f n, g (n + 1))
+word_words (CoreWord.If0 v j) n a b c f g h = (f n, g n)
+word_words (CoreWord.Join k j l) n a b c f g h = (f (n + 1), g (n + 1), h n)
+word_words (CoreWord.Make m) n a b c f g h = f (n + 1)
+word_words (CoreWord.Start j) n a b c f g h = (f n, g (n + 1))
+word_words (CoreWord.Loop t) n a b c f g h = f n
+word_words CoreWord.Uncancelable n a b c f g h = f (n + 1)
+word_words (CoreWord.Poll p) n a b c f g h = (tt, f n)
+word_words (CoreWord.OnCancel j) n a b c f g h = (f n, g n)
 word_words _ n a b c f g h = tt
 
 tree_words : (ws : List CoreWord) (i n : ℕ) → Words (tree_at ws i n)
@@ -108,17 +102,17 @@ module _ (i : ℕ) (ms : List ℕ) where
 
     value_found : (s : ℕ) (o : Option EnvEntry) → value_or s (on_some (entry_placed i ms) o) ≡ value_or s o
     value_found s None = refl
-    value_found s (Some (entry.Value z)) = refl
+    value_found s (Some (EnvEntry.Value z)) = refl
     value_found s _ = refl
 
     handle_found : (s : ℕ) (o : Option EnvEntry) → handle_or s (on_some (entry_placed i ms) o) ≡ handle_or s o
     handle_found s None = refl
-    handle_found s (Some (entry.Value z)) = refl
+    handle_found s (Some (EnvEntry.Value z)) = refl
     handle_found s _ = refl
 
     mask_found : (s : ℕ) (o : Option EnvEntry) → mask_to i to (mask_or s o) ≡ mask_or s (on_some (entry_placed i ms) o)
     mask_found s None = refl
-    mask_found s (Some (entry.Value z)) = refl
+    mask_found s (Some (EnvEntry.Value z)) = refl
     mask_found s _ = refl
 
     value_close : (v : Operand) → close_value g v ≡ close_value after v
@@ -201,18 +195,18 @@ module _ (i : ℕ) (ms : List ℕ) where
     step_to (In_polled q) = In_polled (mask_to i to q)
 
     frame_to : (f : Frame) → step_to (step_of ws es i f) ≡ step_of ws es' i (frame_placed i ms f)
-    frame_to (frame.Let k n) = ap (In_let n) (part_to k n (n + 1))
-    frame_to (frame.Seq w k n) = ap (In_seq (Rattle.derived_ops.specs.Words.rest_of w)) (part_to k n n)
-    frame_to (frame.Again k z n) = ap (λ (t : Tree). In_seq Last (Loop (Times (Number (pos z))) t)) (part_to k n n)
-    frame_to (frame.Forever k n) = ap (In_seq Last) (part_to k n n)
-    frame_to (frame.Handle k n) = ap (In_handle n) (part_to k n (n + 1))
-    frame_to (frame.Guarded k n) = ap In_guarded (part_to k n n)
-    frame_to (frame.Idle (mask.Named s)) = refl
+    frame_to (Frame.Let k n) = ap (In_let n) (part_to k n (n + 1))
+    frame_to (Frame.Seq w k n) = ap (In_seq (Rattle.derived_ops.specs.Words.rest_of w)) (part_to k n n)
+    frame_to (Frame.Again k z n) = ap (λ (t : Tree). In_seq Last (Loop (Times (Number (pos z))) t)) (part_to k n n)
+    frame_to (Frame.Forever k n) = ap (In_seq Last) (part_to k n n)
+    frame_to (Frame.Handle k n) = ap (In_handle n) (part_to k n (n + 1))
+    frame_to (Frame.Guarded k n) = ap In_guarded (part_to k n n)
+    frame_to (Frame.Idle (Mask_code.Named s)) = refl
     frame_to _ = refl
 
     leaf_to : (l : Leaf) → R (leaf_of ws es l) ≡ leaf_of ws es' l
-    leaf_to (leaf.At k j n) = part_to j n n
-    leaf_to (leaf.Turns z j n) = ap (Loop (Times (Number (pos z)))) (part_to j n n)
+    leaf_to (Leaf.At k j n) = part_to j n n
+    leaf_to (Leaf.Turns z j n) = ap (Loop (Times (Number (pos z)))) (part_to j n n)
     leaf_to _ = refl
 
     finalizer_to : (p : Pending) → R (finalizer_of ws es p) ≡ finalizer_of ws es' p
@@ -238,7 +232,7 @@ module _ (i : ℕ) (ms : List ℕ) where
         ∙ ap (map (step_of ws es' i)) (map_reverse (frame_placed i ms) fs)
 
     run_to : (s : RunStage) (t : Tree) (gs : List Tree) → run_renumbered i to (running_in s t gs) ≡ running_in (stage_placed i ms s) (R t) (all_renumbered i to gs)
-    run_to stage.Runs t gs = refl
+    run_to RunStage.Runs t gs = refl
     run_to _ t gs = refl
 
     abbrev made : RunStage → List Frame → Leaf → List Pending → List EnvEntry → Running
@@ -277,7 +271,7 @@ module _ (i : ℕ) (ws : List CoreWord) (es : List EnvEntry) where
   whole_masks (In_polled q ∷ p) t = whole_masks p (Polled q t)
 
   one_inward : (f : Frame) (fs zs : List Frame) (l : List ℕ) → inward (map step (f ∷ zs)) (numbers_in fs ++ l) ≡ inward (map step zs) (numbers_in (f ∷ fs) ++ l)
-  one_inward (frame.Let k n) fs zs l = refl
+  one_inward (Frame.Let k n) fs zs l = refl
   one_inward _ fs zs l = refl
 
   onto_inward : (fs zs : List Frame) (l : List ℕ) → inward (map step (reverse_aux fs zs)) l ≡ inward (map step zs) (numbers_in fs ++ l)
@@ -285,7 +279,7 @@ module _ (i : ℕ) (ws : List CoreWord) (es : List EnvEntry) where
   onto_inward (f ∷ fs) zs l = onto_inward fs (f ∷ zs) l ∙ one_inward f fs zs l
 
   leaf_masks : (l : Leaf) → masks_on (leaf_of ws es l) ≡ []
-  leaf_masks (leaf.At k j n) = words_masks (env_of es n) (tree_at ws j n) (tree_words ws j n)
+  leaf_masks (Leaf.At k j n) = words_masks (env_of es n) (tree_at ws j n) (tree_words ws j n)
   leaf_masks _ = refl
 
   term_masks : (fs : List Frame) (l : Leaf) → masks_on (whole (map step (reverse fs)) (leaf_of ws es l)) ≡ numbers_in fs
@@ -297,8 +291,8 @@ module _ (i : ℕ) (ws : List CoreWord) (es : List EnvEntry) where
 
   run_masks : (s : RunStage) (fs : List Frame) (l : Leaf) (gs : List Tree) →
       masks_of (running_in s (whole (map step (reverse fs)) (leaf_of ws es l)) gs) ≡ path_masks s fs
-  run_masks stage.Runs fs l gs = term_masks fs l
-  run_masks (stage.Final m) fs l gs = ap (λ (k : List ℕ). m ∷ k) (term_masks fs l)
+  run_masks RunStage.Runs fs l gs = term_masks fs l
+  run_masks (RunStage.Final m) fs l gs = ap (λ (k : List ℕ). m ∷ k) (term_masks fs l)
   run_masks _ fs l gs = refl
 
 -- ---- the machine

@@ -3,7 +3,7 @@ use Rattle.fiber_frames.proofs.Prelude.{◌≡◌, ◌≢◌, inl, inr, ◌<◌,
 use Rattle.fiber_frames.proofs.Prelude.{get_or-set_same, get_or-set_other, refl, sym, ap, ap₂, ◌∙◌, subst, arith, cases_lt, lt-ltb, le-ltb, max, min}
 use Rattle.fiber_frames.proofs.Prelude.{slice_index, map_more, Tree, Act, Let, Seq, Handled, Start, Uncancelable, On_cancel, Never, CoreWord, rest_of, second}
 use Rattle.fiber_frames.proofs.Prelude.{third, tree_at, word_at, word_tree, tree_past_end, tree_word, EnvEntry, Env, close, env_of, WordKind, leaf_by, Agree}
-use Rattle.fiber_frames.proofs.Prelude.{AreSameAt, Names, Needs, NeedsAt, many_parts}
+use Rattle.fiber_frames.proofs.Prelude.{AreSameAt, Names, Needs, NeedsAt, many_parts, Leaf}
 use mathlib.Core.Logic.{dite}
 use native.Mathlib.Decide.{ℕ_discrete}
 use Rattle.std.specs.Int.{bit_at}
@@ -11,10 +11,7 @@ use Rattle.std.specs.Int.RustNames.{bit_and, bit_or}
 use Rattle.std.specs.List.{slice_get}
 use Rattle.std.proofs.lemmas.Nat.{one_shl}
 use Rattle.std.proofs.lemmas.Nat.Bits.{bit_at-lt, bit_at-pow_same, bit_at_and, bit_at_ones, bit_at_or}
-use Rattle.derived_ops.specs.declared.core_word.CoreWord.TheVariants as word
 use Rattle.fiber_frames.specs.declared.frame.Place.{Place}
-use Rattle.fiber_frames.specs.declared.kind.WordKind.TheVariants as kind
-use Rattle.fiber_frames.specs.Leaf as leaf
 use Rattle.fiber_frames.specs.SlotNames.{Has}
 
 -- ---- sets
@@ -69,24 +66,24 @@ module _ (g h : Env) (n : ℕ) (a b c : ℕ → Tree) where
   word_same : (w : CoreWord) → close g (word_tree w 0 nothing nothing nothing) ≡ close h (word_tree w 0 nothing nothing nothing) →
       (0 < many_parts w → SamePart g h a) → (1 < many_parts w → SamePart g h b) → (2 < many_parts w → SamePart g h c) →
       close g (word_tree w n a b c) ≡ close h (word_tree w n a b c)
-  word_same (word.Let j) own first next last = ap₂ (λ (x y : Tree). Let x n y) (first (omega arith) n) (next (omega arith) (n + 1))
-  word_same (word.Seq r j) own first next last = ap₂ (λ (x y : Tree). Seq (rest_of r) x y) (first (omega arith) n) (next (omega arith) n)
-  word_same (word.Handle j) own first next last = ap₂ (λ (x y : Tree). Handled x n y) (first (omega arith) n) (next (omega arith) (n + 1))
-  word_same (word.If0 v j) own first next last =
+  word_same (CoreWord.Let j) own first next last = ap₂ (λ (x y : Tree). Let x n y) (first (omega arith) n) (next (omega arith) (n + 1))
+  word_same (CoreWord.Seq r j) own first next last = ap₂ (λ (x y : Tree). Seq (rest_of r) x y) (first (omega arith) n) (next (omega arith) n)
+  word_same (CoreWord.Handle j) own first next last = ap₂ (λ (x y : Tree). Handled x n y) (first (omega arith) n) (next (omega arith) (n + 1))
+  word_same (CoreWord.If0 v j) own first next last =
       let p = first (omega arith) n in
       let q = next (omega arith) n in
       cc
-  word_same (word.Join f j l) own first next last =
+  word_same (CoreWord.Join f j l) own first next last =
       let p = first (omega arith) (n + 1) in
       let q = next (omega arith) (n + 1) in
       let r = last (omega arith) n in
       cc
-  word_same (word.Make m) own first next last = let p = first (omega arith) (n + 1) in cc
-  word_same (word.Start j) own first next last = ap₂ (λ (x y : Tree). Start n x y) (first (omega arith) n) (next (omega arith) (n + 1))
-  word_same (word.Loop t) own first next last = let p = first (omega arith) n in cc
-  word_same word.Uncancelable own first next last = ap (λ (x : Tree). Uncancelable n x) (first (omega arith) (n + 1))
-  word_same (word.Poll q) own first next last = let p = first (omega arith) n in cc
-  word_same (word.OnCancel j) own first next last = ap₂ (λ (x y : Tree). On_cancel x y) (first (omega arith) n) (next (omega arith) n)
+  word_same (CoreWord.Make m) own first next last = let p = first (omega arith) (n + 1) in cc
+  word_same (CoreWord.Start j) own first next last = ap₂ (λ (x y : Tree). Start n x y) (first (omega arith) n) (next (omega arith) (n + 1))
+  word_same (CoreWord.Loop t) own first next last = let p = first (omega arith) n in cc
+  word_same CoreWord.Uncancelable own first next last = ap (λ (x : Tree). Uncancelable n x) (first (omega arith) (n + 1))
+  word_same (CoreWord.Poll q) own first next last = let p = first (omega arith) n in cc
+  word_same (CoreWord.OnCancel j) own first next last = ap₂ (λ (x y : Tree). On_cancel x y) (first (omega arith) n) (next (omega arith) n)
   word_same _ own first next last = own
 
 module _ (ws : List CoreWord) (i : ℕ) where
@@ -174,12 +171,12 @@ names_next {A} {T} to xs i d a b low h j = record {
 }
 
 -- ---- places of the table among the parts of a leaf
-pub leaf_word : (k : WordKind) (p : Place) → k ≢ kind.Value → k ≢ kind.Error → k ≢ kind.Request → k ≢ kind.Ending → k ≢ kind.Store → k ≢ kind.Turns →
-    leaf_by k p ≡ leaf.At k p.index p.level
-leaf_word kind.Value p a b c d e f = absurd (a refl)
-leaf_word kind.Error p a b c d e f = absurd (b refl)
-leaf_word kind.Request p a b c d e f = absurd (c refl)
-leaf_word kind.Ending p a b c d e f = absurd (d refl)
-leaf_word kind.Store p a b c d e f = absurd (e refl)
-leaf_word kind.Turns p a b c d e f = absurd (f refl)
+pub leaf_word : (k : WordKind) (p : Place) → k ≢ WordKind.Value → k ≢ WordKind.Error → k ≢ WordKind.Request → k ≢ WordKind.Ending →
+    k ≢ WordKind.Store → k ≢ WordKind.Turns → leaf_by k p ≡ Leaf.At k p.index p.level
+leaf_word WordKind.Value p a b c d e f = absurd (a refl)
+leaf_word WordKind.Error p a b c d e f = absurd (b refl)
+leaf_word WordKind.Request p a b c d e f = absurd (c refl)
+leaf_word WordKind.Ending p a b c d e f = absurd (d refl)
+leaf_word WordKind.Store p a b c d e f = absurd (e refl)
+leaf_word WordKind.Turns p a b c d e f = absurd (f refl)
 leaf_word _ p a b c d e f = refl

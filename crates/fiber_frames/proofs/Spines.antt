@@ -4,7 +4,6 @@ use Rattle.fiber_frames.proofs.Prelude.{Put_handle, Put_mask, Put_value, put, Ac
 use Rattle.fiber_frames.proofs.Prelude.{Mask, Masked, New_deferred, On_cancel, Pair, Poll, Polled, Seq, Start, Times, Tree, Turns, Uncancelable, Outcome, Reply}
 use Rattle.fiber_frames.proofs.Prelude.{In_guarded, In_handle, In_let, In_masked, In_polled, In_seq, PathStep, undone, Row, branch, is_positive, is_zero}
 use Rattle.fiber_frames.proofs.Prelude.{looped, number_in, number_of, one_less, outcome_in, unit, masks_on}
-use Rattle.effect_term.specs.declared.reply.Outcome.TheVariants as outcome
 use Rattle.fiber_frames.proofs.Walk.{End, Gives, Throws, Works, end_of, under, walk}
 use Rattle.fiber_frames.proofs.Marks.Actions.{If_born, Simple, a_value, action_case, none_born, wait_none}
 use Rattle.fiber_frames.proofs.Marks.Cutting.{Live, Static}
@@ -47,22 +46,14 @@ module _ (P : ℕ → Type 0) where
     under_on : (up : List Mask) (s : PathStep) (E : End) (a : Row Tree) → StepOn s → RowOn a → RowOn (under i next up s E a)
     under_on up (In_let x k) (Gives v) a h w = record { on = put_each (Put_value x (number_of v)) (value_runtime x (number_of v)) k h; rises = inl refl; born = tt }
     under_on up (In_seq o k) (Gives v) a h w = record { on = static_each k h; rises = inl refl; born = tt }
-    under_on up (In_handle x k) (Gives v) a h w = record { on = tt; rises = inl refl; born = tt }
-    under_on up (In_guarded fin) (Gives v) a h w = record { on = tt; rises = inl refl; born = tt }
-    under_on up (In_masked m) (Gives v) a h w = record { on = tt; rises = inl refl; born = tt }
-    under_on up (In_polled q) (Gives v) a h w = record { on = tt; rises = inl refl; born = tt }
-    under_on up (In_let x k) (Throws v) a h w = record { on = tt; rises = inl refl; born = tt }
-    under_on up (In_seq o k) (Throws v) a h w = record { on = tt; rises = inl refl; born = tt }
     under_on up (In_handle x k) (Throws v) a h w = record { on = put_each (Put_value x (number_of v)) (value_runtime x (number_of v)) k h; rises = inl refl; born = tt }
-    under_on up (In_guarded fin) (Throws v) a h w = record { on = tt; rises = inl refl; born = tt }
-    under_on up (In_masked m) (Throws v) a h w = record { on = tt; rises = inl refl; born = tt }
-    under_on up (In_polled q) (Throws v) a h w = record { on = tt; rises = inl refl; born = tt }
     under_on up (In_let x k) Works a h w = record { on = w.on; rises = w.rises; born = w.born }
     under_on up (In_seq o k) Works a h w = record { on = w.on; rises = w.rises; born = w.born }
     under_on up (In_handle x k) Works a h w = record { on = w.on; rises = w.rises; born = w.born }
     under_on up (In_guarded fin) Works a h w = record { on = w.on; rises = w.rises; born = w.born }
     under_on up (In_masked m) Works a h w = record { on = (h, w.on); rises = w.rises; born = w.born }
     under_on up (In_polled q) Works a h w = record { on = w.on; rises = w.rises; born = w.born }
+    under_on up _ _ a h w = record { on = tt; rises = inl refl; born = tt }
 
     simple_on : (t : Tree) → Simple t → Each P (masks_on t)
     simple_on _ (a_value v) = tt
@@ -70,9 +61,9 @@ module _ (P : ℕ → Type 0) where
 
     branch_on : (o : Option Outcome) (f : Handle) (x : ℕ) (s : Tree) (y : ℕ) (e c : Tree) → Static (Join f x s y e c) → Each P (masks_on (branch o f x s y e c))
     branch_on None f x s y e c h = tt
-    branch_on (Some (outcome.Succeeded z)) f x s y e c h = put_each (Put_value x z) (value_runtime x z) s h.0
-    branch_on (Some (outcome.Errored z)) f x s y e c h = put_each (Put_value y z) (value_runtime y z) e h.1
-    branch_on (Some outcome.Canceled) f x s y e c h = static_each c h.2
+    branch_on (Some (Outcome.Succeeded z)) f x s y e c h = put_each (Put_value x z) (value_runtime x z) s h.0
+    branch_on (Some (Outcome.Errored z)) f x s y e c h = put_each (Put_value y z) (value_runtime y z) e h.1
+    branch_on (Some Outcome.Canceled) f x s y e c h = static_each c h.2
 
     looped_on : (m : Turns) (e : Tree) → Static e → Each P (masks_on (looped m e))
     looped_on Always e h = static_each e h

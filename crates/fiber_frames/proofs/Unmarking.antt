@@ -3,7 +3,6 @@ use Rattle.fiber_frames.proofs.Prelude.{◌≡◌, ◌≢◌, ℕ, suc, ◌+◌,
 use Rattle.fiber_frames.proofs.Prelude.{eq-eqb, Put, mask_at, Mask, Pair, Tree, Reply, Running, Runs, Born, RowKind, Fiber, Looks, Move_case, ask_of, begins}
 use Rattle.fiber_frames.proofs.Prelude.{child, move, move_case, move_in, outcome_of, term_born, Reached, masks_of, masks_on, number_to, own_place, place_in}
 use Rattle.fiber_frames.proofs.Prelude.{placed_in, renumbered, run_renumbered, run_unmarked, unmarked}
-use Rattle.effect_term.specs.declared.reply.Reply.TheVariants as reply
 use Rattle.fiber_frames.specs.Fiber.{kind_of, outcome_in}
 use Rattle.fiber_frames.proofs.Marks.Cutting.{Static}
 use Rattle.fiber_frames.proofs.Marks.Runs.{LiveRun, live_run}
@@ -147,8 +146,8 @@ module _ (f : Fiber) (live : LiveRun f.running) (fresh : Fresh f.number f.next f
 
   pub unmarked_child : (n : ℕ) → unmarked (child (unmarked f) n) ≡ unmarked (child f n)
   unmarked_child n =
-      ap (λ (t : Tree). unmarked (begins n t)) (ap term_born (unmarked_kind (reply.Number n)) ∙ born_to (kind_of f (reply.Number n)))
-      ∙ begins_unmarked n (term_born (kind_of f (reply.Number n))) (child_static f n live)
+      ap (λ (t : Tree). unmarked (begins n t)) (ap term_born (unmarked_kind (Reply.Number n)) ∙ born_to (kind_of f (Reply.Number n)))
+      ∙ begins_unmarked n (term_born (kind_of f (Reply.Number n))) (child_static f n live)
 
 -- ---- a fiber that is reached
 module _ (f : Fiber) (h : Reached f) where

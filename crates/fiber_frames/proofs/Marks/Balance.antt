@@ -74,8 +74,6 @@ signs_close (steps.Acquired i ∷ w) s e =
     let whole : x ++ h.2 ≡ steps.Acquired i ∷ w = ap (λ y. steps.Acquired i ∷ y) (append_assoc h.0 (steps.Releasing i ∷ (h.1 ++ steps.Released i ∷ [])) h.2 ∙
     ap (λ y. h.0 ++ steps.Releasing i ∷ y) inner ∙ sym h.6) in
     subst (λ y. Closes s y) whole (closes_after x s h.2 (bracket i h.3 h.4) h.5)
-signs_close (steps.Releasing i ∷ w) [] e = cc
-signs_close (steps.Releasing i ∷ w) (Freeing j ∷ s) e = cc
 signs_close (steps.Releasing i ∷ w) (Held j ∷ s) e = going_close i j w s (nat_eq i j) refl e (signs_close w (Freeing j ∷ s))
   where
     going_close : (i j : ℕ) (w : List Bracket_step) (s : List Held_number) (b : Bool) → nat_eq i j ≡ b →
@@ -86,14 +84,13 @@ signs_close (steps.Releasing i ∷ w) (Held j ∷ s) e = going_close i j w s (na
         let same : i ≡ j = eqb-true i j n in
         ([], h.0, h.1, empty, h.2, h.3, λ k. steps.Releasing (same k) ∷ h.4 k)
     going_close i j w s false n e f = cc
-signs_close (steps.Released i ∷ w) [] e = cc
-signs_close (steps.Released i ∷ w) (Held j ∷ s) e = cc
 signs_close (steps.Released i ∷ w) (Freeing j ∷ s) e = gone_close i j w s (nat_eq i j) refl e (signs_close w s)
   where
     gone_close : (i j : ℕ) (w : List Bracket_step) (s : List Held_number) (b : Bool) → nat_eq i j ≡ b →
         then_signs (if b then Some s else None) (signs w) ≡ Some [] → (signs w s ≡ Some [] → Closes s w) → Closes (Freeing j ∷ s) (steps.Released i ∷ w)
     gone_close i j w s true n e f = let same : i ≡ j = eqb-true i j n in ([], w, empty, f e, λ k. steps.Released (same k) ∷ w)
     gone_close i j w s false n e f = cc
+signs_close _ _ e = cc
 
 pub empty_balanced : (w : List Bracket_step) → signs w [] ≡ Some [] → Nested w
 empty_balanced w e = signs_close w [] e

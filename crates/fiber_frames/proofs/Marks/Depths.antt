@@ -5,7 +5,7 @@ use Rattle.fiber_frames.proofs.Prelude.{Last, Let, Loop, Make, Mask, Masked, New
 use Rattle.fiber_frames.proofs.Prelude.{Tree, Turns, Uncancelable, Outcome, Reply, Fiber, Move_case, Reduces, begins, child, cut, kind_in, move, move_case}
 use Rattle.fiber_frames.proofs.Prelude.{term_born, At_final, At_term, Broken, Final, In_guarded, In_handle, In_let, In_masked, In_polled, In_seq, PathStep}
 use Rattle.fiber_frames.proofs.Prelude.{masks_in, ℤ, Over, Running, Runs, active_at, focus, is_effective, same_mask, undone, without_first, Born, RowKind, Row}
-use Rattle.fiber_frames.proofs.Prelude.{action_row, branch, is_positive, is_zero, looped, number_in, number_of, one_less, outcome_in, row_at, unit}
+use Rattle.fiber_frames.proofs.Prelude.{action_row, branch, is_positive, is_zero, looped, number_in, number_of, one_less, outcome_in, row_at, unit, Mark}
 use Rattle.derived_ops.specs.Counts.{masks}
 use Rattle.fiber_frames.proofs.Marks.Actions.{ActionRow, If_born, action_case, none_born, simple_case, wait_none}
 use Rattle.fiber_frames.proofs.Marks.Cutting.{Live, Static}
@@ -17,9 +17,6 @@ use Rattle.fiber_frames.proofs.Marks.Spending.{handle_runtime, mask_runtime, val
 use Rattle.fiber_frames.proofs.Walk.{End, Gives, Throws, Works, active_path, active_root, end_of, finalizers_below, masks_below, root_row, row_root, under}
 use Rattle.fiber_frames.proofs.Walk.{walk}
 use Rattle.fiber_frames.specs.Fiber.{kind_of}
-use Rattle.fiber_frames.specs.declared.mark.Mark.TheVariants as mark
-use Rattle.effect_term.specs.declared.reply.Outcome.TheVariants as outcome
-use Rattle.effect_term.specs.declared.reply.Reply.TheVariants as reply
 
 masks_put : (t : Tree) (p : Put) → masks (put p t) ≡ masks t
 masks_put (Let e v b) p = λ j. max (masks_put e p j) (masks_put b p j)
@@ -118,11 +115,11 @@ module _ (i B : ℕ) where
     branch_room : (o : Option Outcome) (f : Handle) (v : ℕ) (b : Tree) (w : ℕ) (c e : Tree) (up : List Mask) → Static (Join f v b w c e) →
         length up + masks (Join f v b w c e) ≤ B → Room up (branch o f v b w c e)
     branch_room None f v b w c e up l h = h
-    branch_room (Some (outcome.Succeeded z)) f v b w c e up l h =
+    branch_room (Some (Outcome.Succeeded z)) f v b w c e up l h =
         value_room up v b z l.0 (omega arith)
-    branch_room (Some (outcome.Errored z)) f v b w c e up l h =
+    branch_room (Some (Outcome.Errored z)) f v b w c e up l h =
         value_room up w c z l.1 (omega arith)
-    branch_room (Some outcome.Canceled) f v b w c e up l h = static_room e up l.2 (omega arith)
+    branch_room (Some Outcome.Canceled) f v b w c e up l h = static_room e up l.2 (omega arith)
 
     looped_room : (m : Turns) (e : Tree) (up : List Mask) → Static e → length up + masks e ≤ B → Room up (looped m e)
     looped_room Always e up s h = (static_room e up s h, h)
@@ -200,9 +197,6 @@ abbrev RoomyRow : Fiber → ℕ → Row Running → Type 0
 RoomyRow f B w = RoomRun f.number B w.becomes × If_born w.kind (Small B)
 
 rows_room : (f : Fiber) (r : Reply) (B : ℕ) (w : Running) → LiveRun w → RoomRun f.number B w → RoomyRow f B (row_at f.number f.next r (focus w) w)
-rows_room f r B (Over o) l h = (tt, tt)
-rows_room f r B Broken l h = (tt, tt)
-rows_room f r B (Final z []) l h = (tt, tt)
 rows_room f r B (Runs t) l h =
     let a = walk f.number f.next r [] t in
     let k = row_room f.number B f.next r t [] l h in
@@ -217,6 +211,7 @@ rows_room f r B (Final z (g ∷ gs)) l h =
       final_room f B z gs (end_of g) a l.1 h.1 k,
       born_root f.number f.next (At_final z gs) (end_of g) a (Small B) k.born,
     )
+rows_room f r B _ l h = (tt, tt)
 
 room-append : (B : ℕ) (a : List Tree) (g : Tree) → AllRoom B a → masks g + 1 ≤ B → AllRoom B (a ++ g ∷ [])
 room-append B [] g h k = (k, tt)
@@ -237,7 +232,7 @@ RoomOf B f = RoomRun f.number B f.running
 
 cut_room : (f : Fiber) (B : ℕ) (t : Tree) → f.running ≡ Runs t → Live t → Room f.number B [] t → RoomOf B (cut f)
 cut_room f B t e l m =
-    let after : RoomOf B (noted f (Final f.next (finalizers_below t)) (f.next + 1) (mark.Cut ∷ [])) =
+    let after : RoomOf B (noted f (Final f.next (finalizers_below t)) (f.next + 1) (Mark.Cut ∷ [])) =
     finals_room f.number B f.next (finalizers_below t) (pending_static t l) (pending_room f.number B t [] m) in
     subst (RoomOf B) (sym (cut_run f t e)) after
 
@@ -258,7 +253,7 @@ small_room c B e s = static_room c B e [] s.0 (omega (arith, s.1))
 
 -- what is started, or the unit value where nothing is
 pub child_room : (f : Fiber) (n B : ℕ) → LiveRun f.running → RoomOf B f → RoomOf B (child f n)
-child_room f n B l m = go (kind_of f (reply.Number n)) (born_room f (reply.Number n) B l m)
+child_room f n B l m = go (kind_of f (Reply.Number n)) (born_room f (Reply.Number n) B l m)
   where
     idle : RoomOf B (begins n unit)
     idle = small_room n B unit (tt, omega arith)
@@ -269,7 +264,5 @@ child_room f n B l m = go (kind_of f (reply.Number n)) (born_room f (reply.Numbe
 
 pub active_room : (i B : ℕ) (w : Running) → 1 ≤ B → RoomRun i B w → length (active_at i (focus w)) ≤ B
 active_room i B (Runs t) o h = omega (arith, ap (length {A = Mask}) (active_root i t), room_active i B t [] h)
-active_room i B (Final z []) o h = omega arith
 active_room i B (Final z (g ∷ gs)) o h = omega (arith, ap (length {A = Mask}) (active_path i (At_final z gs) [] g), room_active i B g (Pair i z ∷ []) h.0)
-active_room i B (Over x) o h = omega arith
-active_room i B Broken o h = omega arith
+active_room i B _ o h = omega arith

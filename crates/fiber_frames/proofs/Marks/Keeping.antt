@@ -14,8 +14,6 @@ use Rattle.fiber_frames.proofs.Marks.Typed.{AllOf, Fine, If_ends, In, Leads, Lea
 use Rattle.fiber_frames.proofs.Marks.Weaken.{Grows, if_ends_more, in_more, leads_more, typed_more, weaker_in}
 use Rattle.fiber_frames.specs.Path.{around as form_of}
 use Rattle.fiber_frames.proofs.Walk.{End, Gives, Throws, Works, end_of, under, walk, within}
-use Rattle.fiber_frames.specs.declared.mark.Mark.TheVariants as mark
-use Rattle.effect_term.specs.declared.reply.Outcome.TheVariants as outcome
 
 -- not the next mask
 abbrev pub Older : ℕ → ℕ → Masks
@@ -91,11 +89,11 @@ says_quiet : (i : ℕ) (ms : List Mark) (s : Stack) → Says ms → after_marks 
 says_quiet i _ s silent = refl
 says_quiet i _ s (said z) = refl
 
-in_quiet : (i : ℕ) (b : Bool) (n : ℕ) (s : Stack) → after_marks i (if b then mark.PollIn n ∷ [] else []) s ≡ Some s
+in_quiet : (i : ℕ) (b : Bool) (n : ℕ) (s : Stack) → after_marks i (if b then Mark.PollIn n ∷ [] else []) s ≡ Some s
 in_quiet i true n s = refl
 in_quiet i false n s = refl
 
-out_quiet : (i : ℕ) (b : Bool) (n : ℕ) (s : Stack) → after_marks i (if b then mark.PollOut n ∷ [] else []) s ≡ Some s
+out_quiet : (i : ℕ) (b : Bool) (n : ℕ) (s : Stack) → after_marks i (if b then Mark.PollOut n ∷ [] else []) s ≡ Some s
 out_quiet i true n s = refl
 out_quiet i false n s = refl
 
@@ -204,9 +202,9 @@ module _ (i : ℕ) (Q : ℕ → Masks) (closed : (n t : ℕ) → Q n (Named t) �
       (n x : Option Stack) → Around (Q next) (Older i next) up k s n x → In (Own i) s → Typed i (Q next) up k s n x (Join f v b w c e) →
       Typed i (Q next) up k s n x (branch o f v b w c e)
   branch_typed None f v b w c e up k s n x a o h = h
-  branch_typed (Some (outcome.Succeeded z)) f v b w c e up k s n x a o h = put_value up k s n x a o v z b h.1
-  branch_typed (Some (outcome.Errored z)) f v b w c e up k s n x a o h = put_value up k s n x a o w z c h.2
-  branch_typed (Some outcome.Canceled) f v b w c e up k s n x a o h = h.3
+  branch_typed (Some (Outcome.Succeeded z)) f v b w c e up k s n x a o h = put_value up k s n x a o v z b h.1
+  branch_typed (Some (Outcome.Errored z)) f v b w c e up k s n x a o h = put_value up k s n x a o w z c h.2
+  branch_typed (Some Outcome.Canceled) f v b w c e up k s n x a o h = h.3
 
   looped_typed : (m : Turns) (e : Tree) (up : List Mask) (k : Option Stack) (s : Stack) (n x : Option Stack) → In (Q next) s → Fine up k s →
       n ≡ Some s → Typed i (Q next) up k s (Some s) x e → Typed i (Q next) up k s n x (looped m e)

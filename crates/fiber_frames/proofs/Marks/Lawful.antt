@@ -9,7 +9,6 @@ use Rattle.fiber_frames.proofs.Marks.Opened.{after_mark, after_marks, and_then}
 use Rattle.fiber_frames.proofs.Marks.Typed.{In, Masks, Stack, Typed}
 use Rattle.fiber_frames.proofs.Marks.Weaken.{Grows, in_more, typed_more}
 use Rattle.fiber_frames.proofs.Walk.{End, Gives, Throws, Works, active_path, end_of, finalizers_below, masks_below, root_row, row_root, walk}
-use Rattle.fiber_frames.specs.declared.mark.Mark.TheVariants as mark
 
 -- the masks that a fiber may name: its own below the next, and those of older fibers
 abbrev pub Known : ℕ → ℕ → Masks
@@ -122,7 +121,7 @@ final_keeps f z gs s u l ks ku c m o (Gives v) e a k =
     (chain_lives f.number z f.next gs s l ks (subst (λ y. Chain f.number (Known_final f.number z f.next) gs y (Some [])) same c))
 final_keeps f z gs s u l ks ku c m o (Throws v) e a k =
     let same : u ≡ s = same_stack f.number u s e.1 in
-    lawful_end f.number f s (mark.Dropped _ ∷ []) _ refl m refl o
+    lawful_end f.number f s (Mark.Dropped _ ∷ []) _ refl m refl o
     (chain_lives f.number z f.next gs s l ks (subst (λ y. Chain f.number (Known_final f.number z f.next) gs y (Some [])) same c))
 final_keeps f z gs s u l ks ku c m o Works e a k =
     let w : Grows (Known_final f.number z f.next) (Known_final f.number z a.next) = record { more = k.grown; back = λ t h. absurd h.0 } in
@@ -180,9 +179,9 @@ cut_keeps f t e a h =
     let w = more_final f.number f.next in
     let P' = Known_final f.number f.next (f.next + 1) in
     let k : In P' h.now = in_more P P' w.more h.now l.0 in
-    let after : Lawful (noted f (Final f.next (finalizers_below t)) (f.next + 1) (mark.Cut ∷ [])) = record {
+    let after : Lawful (noted f (Final f.next (finalizers_below t)) (f.next + 1) (Mark.Cut ∷ [])) = record {
       now = h.now;
-      marks = after_more f.number f.marks (mark.Cut ∷ []) [] h.now h.now h.marks refl;
+      marks = after_more f.number f.marks (Mark.Cut ∷ []) [] h.now h.now h.marks refl;
       own = h.own;
       lives = chain_lives f.number f.next (f.next + 1) (finalizers_below t) h.now (omega arith) k
           (chain_later f.number P P' w (finalizers_below t) h.now (Some []) c);

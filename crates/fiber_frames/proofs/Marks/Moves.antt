@@ -2,7 +2,6 @@
 use Rattle.fiber_frames.proofs.Prelude.{◌≡◌, List, [], ◌∷◌, ◌++◌, ◌+◌, refl, sym, ap, ◌∙◌, ℕ, Mask, Tree, Reply, Fiber, active_of, case_in, cut, looked, move}
 use Rattle.fiber_frames.proofs.Prelude.{move_in, reduced, row_of, Final, Running, Runs, active_at, focus, pending_at, Look, Clear, Due, Seen, Mark}
 use Rattle.fiber_frames.proofs.Walk.{active_root, finalizers_below, masks_below, pending_root}
-use Rattle.fiber_frames.specs.declared.mark.Mark.TheVariants as mark
 
 pub active_run : (f : Fiber) (w : Running) (up : List Mask) → f.running ≡ w → active_of f ≡ up → active_at f.number (focus w) ≡ up
 active_run f w up e a = ap (λ y. active_at f.number (focus y)) (sym e) ∙ a
@@ -29,7 +28,7 @@ abbrev pub noted : Fiber → Running → ℕ → List Mark → Fiber
 noted f w n ms = record { number = f.number; running = w; look = Due; next = n; marks = f.marks ++ ms }
 
 -- the cut of a term leaves its pending finalizers
-pub cut_run : (f : Fiber) (t : Tree) → f.running ≡ Runs t → cut f ≡ noted f (Final f.next (finalizers_below t)) (f.next + 1) (mark.Cut ∷ [])
+pub cut_run : (f : Fiber) (t : Tree) → f.running ≡ Runs t → cut f ≡ noted f (Final f.next (finalizers_below t)) (f.next + 1) (Mark.Cut ∷ [])
 cut_run f t e =
     let left : pending_at (focus f.running) ≡ finalizers_below t = ap (λ w. pending_at (focus w)) e ∙ pending_root t in
-    ap (λ gs. noted f (Final f.next gs) (f.next + 1) (mark.Cut ∷ [])) left
+    ap (λ gs. noted f (Final f.next gs) (f.next + 1) (Mark.Cut ∷ [])) left

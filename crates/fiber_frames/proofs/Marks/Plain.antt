@@ -2,12 +2,12 @@
 use Rattle.fiber_frames.proofs.Prelude.{◌≡◌, ◌≢◌, ℕ, ◌+◌, ◌≤◌, ◌<◌, inl, inr, Bool, true, false, if◌then◌else◌, List, [], ◌∷◌, Some, None, refl, sym, ap, ◌∙◌}
 use Rattle.fiber_frames.proofs.Prelude.{subst, arith, ne_eqb, bracket_case, Act, Action, Cancel, Handle, Handled, If0, Join, Let, Loop, Make, Maker, Mask}
 use Rattle.fiber_frames.proofs.Prelude.{Named, On_cancel, Pair, Poll, Pure, Raise, Rest, Seq, Start, Tree, Turns, Uncancelable, Operand, same_mask, undone}
+use Rattle.fiber_frames.proofs.Prelude.{Reply}
 use Rattle.fiber_frames.proofs.Marks.Cutting.{Active, Static, only, spends}
 use Rattle.fiber_frames.proofs.Marks.Derived.{Neutral, Safe, bracket_neutral, named_ne, pair_named, safe_at, safe_fine}
 use Rattle.fiber_frames.proofs.Marks.Regions.{same_true}
 use Rattle.fiber_frames.proofs.Marks.Typed.{Fine, Leads, Masks, Typed, with_slot}
 use Rattle.fiber_frames.proofs.Marks.Weaken.{in_more}
-use Rattle.effect_term.specs.declared.reply.Reply.TheVariants as reply
 
 -- not bound by a piece that binds slots from d
 abbrev pub Below : ℕ → Mask → Type 0
@@ -163,7 +163,7 @@ active_undone q b (a ∷ up) ne h = go (same_mask q a) refl
   where
     go : (c : Bool) → same_mask q a ≡ c → Active b (if same_mask q a then up else a ∷ up)
     go true e =
-        let rest : Active b up = elim h [ inl g ↦ absurd (ne (same_true 0 0 reply.Done q a e ∙ sym g)) | inr g ↦ g ] in
+        let rest : Active b up = elim h [ inl g ↦ absurd (ne (same_true 0 0 Reply.Done q a e ∙ sym g)) | inr g ↦ g ] in
         subst (λ c. Active b (if c then up else a ∷ up)) (sym e) rest
     go false e = subst (λ c. Active b (if c then up else a ∷ up)) (sym e) h
 

@@ -13,9 +13,6 @@ use Rattle.fiber_frames.proofs.Marks.Putting.{AllOf-undone}
 use Rattle.fiber_frames.proofs.Marks.Spending.{Runtime, handle_runtime, mask_runtime, spends_put, value_runtime}
 use Rattle.fiber_frames.proofs.Marks.Typed.{AllOf}
 use Rattle.fiber_frames.proofs.Walk.{End, Gives, Throws, Works, end_of, masks_below, under, walk}
-use Rattle.fiber_frames.specs.declared.ask.Ask.TheVariants as ask
-use Rattle.fiber_frames.specs.declared.mark.Mark.TheVariants as mark
-use Rattle.effect_term.specs.declared.reply.Outcome.TheVariants as outcome
 
 -- what is beside the first part of a form has no mask of a run
 abbrev pub StaticStep : PathStep → Type 0
@@ -38,10 +35,7 @@ static_put (Loop m e) p z h = static_put e p z h
 static_put (Uncancelable v e) p z h = (static_put e p z h.0, omega (arith, spends_put e p (only (Named v)) (only (Named v)) (z v), h.1))
 static_put (Poll q e) p z h = static_put e p z h
 static_put (On_cancel e fin) p z h = (static_put e p z h.0, static_put fin p z h.1)
-static_put (Masked m e) p z h = absurd h
-static_put (Polled q e) p z h = absurd h
-static_put (Guarded e fin) p z h = absurd h
-static_put _ p z h = tt
+static_put _ p z h = h
 
 pub static_live : (t : Tree) → Static t → Live t
 static_live (Let e v b) h = (static_live e h.0, h.1)
@@ -50,11 +44,6 @@ static_live (Handled e v b) h = (static_live e h.0, h.1)
 static_live (Masked m e) h = absurd h
 static_live (Polled q e) h = absurd h
 static_live (Guarded e fin) h = absurd h
-static_live (Pure v) h = tt
-static_live (Raise v) h = tt
-static_live (Act c) h = tt
-static_live (Note e q) h = tt
-static_live (Cancel f) h = tt
 static_live _ h = h
 
 pub static_active : (i : ℕ) (t : Tree) (up : List Mask) → Static t → masks_below i up t ≡ up
@@ -110,9 +99,9 @@ module _ (i next : ℕ) (r : Reply) where
 
   pub branch_static : (o : Option Outcome) (f : Handle) (v : ℕ) (b : Tree) (w : ℕ) (c e : Tree) → Static (Join f v b w c e) → Static (branch o f v b w c e)
   branch_static None f v b w c e h = h
-  branch_static (Some (outcome.Succeeded z)) f v b w c e h = static_put b (Put_value v z) (value_runtime v z) h.0
-  branch_static (Some (outcome.Errored z)) f v b w c e h = static_put c (Put_value w z) (value_runtime w z) h.1
-  branch_static (Some outcome.Canceled) f v b w c e h = h.2
+  branch_static (Some (Outcome.Succeeded z)) f v b w c e h = static_put b (Put_value v z) (value_runtime v z) h.0
+  branch_static (Some (Outcome.Errored z)) f v b w c e h = static_put c (Put_value w z) (value_runtime w z) h.1
+  branch_static (Some Outcome.Canceled) f v b w c e h = h.2
 
   pub looped_static : (m : Turns) (e : Tree) → Static e → Static (looped m e)
   looped_static Always e h = (h, h)
@@ -138,19 +127,19 @@ module _ (i next : ℕ) (r : Reply) where
       go false c x y z = cc
 
   polls_in : (c : Ask) (q : Mask) (e : Tree) (up : List Mask) → AllOf (Own i) up → Static e →
-      Agrees i up up (switches i next (is_effective q up) c (mark.PollIn (mask_number q)) (Polled q e))
+      Agrees i up up (switches i next (is_effective q up) c (Mark.PollIn (mask_number q)) (Polled q e))
   polls_in c q e [] o h = record { live = static_live e h; agrees = λ m b w g. subst (Active (Pair i m)) (sym (static_active i e [] h)) (w g) }
   polls_in c q e (a ∷ up) o h = go (same_mask q a) refl
     where
-      go : (d : Bool) → same_mask q a ≡ d → Agrees i (a ∷ up) (a ∷ up) (switches i next (same_mask q a) c (mark.PollIn (mask_number q)) (Polled q e))
+      go : (d : Bool) → same_mask q a ≡ d → Agrees i (a ∷ up) (a ∷ up) (switches i next (same_mask q a) c (Mark.PollIn (mask_number q)) (Polled q e))
       go true x =
           let qa : q ≡ Pair i o.0.0 = same_true q a x ∙ o.0.1 in
           let n : mask_number q ≡ o.0.0 = ap mask_number qa in
           record {
             live = static_live e h;
             agrees = λ m b w g.
-                let marks : is_on m b (if same_mask q a then mark.PollIn (mask_number q) ∷ [] else []) ≡ (if nat_eq o.0.0 m then false else b) =
-                ap (λ y. is_on m b (if y then mark.PollIn (mask_number q) ∷ [] else [])) x ∙ ap (λ y. if nat_eq y m then false else b) n in
+                let marks : is_on m b (if same_mask q a then Mark.PollIn (mask_number q) ∷ [] else []) ≡ (if nat_eq o.0.0 m then false else b) =
+                ap (λ y. is_on m b (if y then Mark.PollIn (mask_number q) ∷ [] else [])) x ∙ ap (λ y. if nat_eq y m then false else b) n in
                 let below : masks_below i (undone q (a ∷ up)) e ≡ up = static_active i e (undone q (a ∷ up)) h ∙ ap (λ y. if y then up else a ∷ up) x in
                 subst (Active (Pair i m)) (sym below)
                 (on_left i m o.0.0 b (nat_eq o.0.0 m) up refl (λ y. subst (λ z. Active (Pair i m) (z ∷ up)) o.0.1 (w y)) (sym marks ∙ g));
@@ -158,26 +147,26 @@ module _ (i next : ℕ) (r : Reply) where
       go false x = record {
         live = static_live e h;
         agrees = λ m b w g.
-            let marks : is_on m b (if same_mask q a then mark.PollIn (mask_number q) ∷ [] else []) ≡ b =
-            ap (λ y. is_on m b (if y then mark.PollIn (mask_number q) ∷ [] else [])) x in
+            let marks : is_on m b (if same_mask q a then Mark.PollIn (mask_number q) ∷ [] else []) ≡ b =
+            ap (λ y. is_on m b (if y then Mark.PollIn (mask_number q) ∷ [] else [])) x in
             let below : masks_below i (undone q (a ∷ up)) e ≡ a ∷ up = static_active i e (undone q (a ∷ up)) h ∙ ap (λ y. if y then up else a ∷ up) x in
             subst (Active (Pair i m)) (sym below) (w (sym marks ∙ g));
       }
 
   polls_out : (c : Ask) (q : Mask) (v : Tree) (up : List Mask) → AllOf (Own i) up → Static v →
-      Agrees i (undone q up) up (switches i next (is_effective q up) c (mark.PollOut (mask_number q)) v)
+      Agrees i (undone q up) up (switches i next (is_effective q up) c (Mark.PollOut (mask_number q)) v)
   polls_out c q v [] o h = record { live = static_live v h; agrees = λ m b w g. subst (Active (Pair i m)) (sym (static_active i v [] h)) (w g) }
   polls_out c q v (a ∷ up) o h = go (same_mask q a) refl
     where
-      go : (d : Bool) → same_mask q a ≡ d → Agrees i (undone q (a ∷ up)) (a ∷ up) (switches i next (same_mask q a) c (mark.PollOut (mask_number q)) v)
+      go : (d : Bool) → same_mask q a ≡ d → Agrees i (undone q (a ∷ up)) (a ∷ up) (switches i next (same_mask q a) c (Mark.PollOut (mask_number q)) v)
       go true x =
           let qa : q ≡ Pair i o.0.0 = same_true q a x ∙ o.0.1 in
           let n : mask_number q ≡ o.0.0 = ap mask_number qa in
           record {
             live = static_live v h;
             agrees = λ m b w g.
-                let marks : is_on m b (if same_mask q a then mark.PollOut (mask_number q) ∷ [] else []) ≡ (if nat_eq o.0.0 m then true else b) =
-                ap (λ y. is_on m b (if y then mark.PollOut (mask_number q) ∷ [] else [])) x ∙ ap (λ y. if nat_eq y m then true else b) n in
+                let marks : is_on m b (if same_mask q a then Mark.PollOut (mask_number q) ∷ [] else []) ≡ (if nat_eq o.0.0 m then true else b) =
+                ap (λ y. is_on m b (if y then Mark.PollOut (mask_number q) ∷ [] else [])) x ∙ ap (λ y. if nat_eq y m then true else b) n in
                 let here : undone q (a ∷ up) ≡ up = ap (λ y. if y then up else a ∷ up) x in
                 let found : Active (Pair i m) (Pair i o.0.0 ∷ up) =
                 on_entered i m o.0.0 b (nat_eq o.0.0 m) up refl (λ y. subst (Active (Pair i m)) here (w y)) (sym marks ∙ g) in
@@ -186,8 +175,8 @@ module _ (i next : ℕ) (r : Reply) where
       go false x = record {
         live = static_live v h;
         agrees = λ m b w g.
-            let marks : is_on m b (if same_mask q a then mark.PollOut (mask_number q) ∷ [] else []) ≡ b =
-            ap (λ y. is_on m b (if y then mark.PollOut (mask_number q) ∷ [] else [])) x in
+            let marks : is_on m b (if same_mask q a then Mark.PollOut (mask_number q) ∷ [] else []) ≡ b =
+            ap (λ y. is_on m b (if y then Mark.PollOut (mask_number q) ∷ [] else [])) x in
             let here : undone q (a ∷ up) ≡ a ∷ up = ap (λ y. if y then up else a ∷ up) x in
             subst (Active (Pair i m)) (sym (static_active i v (a ∷ up) h)) (subst (Active (Pair i m)) here (w (sym marks ∙ g)));
       }
@@ -203,7 +192,7 @@ module _ (i next : ℕ) (r : Reply) where
   stops (Raise v) up = refl
   stops _ up = tt
 
-  leaves : (before up : List Mask) (n : ℕ) (v : Tree) → Static v → before ≡ Pair i n ∷ up → Agrees i before up (notes i next ask.Unmask (mark.Leave n) v)
+  leaves : (before up : List Mask) (n : ℕ) (v : Tree) → Static v → before ≡ Pair i n ∷ up → Agrees i before up (notes i next Ask.Unmask (Mark.Leave n) v)
   leaves before up n v h e = record {
     live = static_live v h;
     agrees = λ m b w g. subst (Active (Pair i m)) (sym (static_active i v up h))
@@ -218,11 +207,11 @@ module _ (i next : ℕ) (r : Reply) where
   step_agrees before up (In_masked n) h o (Gives w) e a g = leaves before up n (Pure w) tt e
   step_agrees before up (In_masked n) h o (Throws w) e a g = leaves before up n (Raise w) tt e
   step_agrees before up (In_polled q) h o (Gives w) e a g =
-      subst (λ y. Agrees i y up (switches i next (is_effective q up) ask.Mask (mark.PollOut (mask_number q)) (Pure w))) (sym e)
-      (polls_out ask.Mask q (Pure w) up o tt)
+      subst (λ y. Agrees i y up (switches i next (is_effective q up) Ask.Mask (Mark.PollOut (mask_number q)) (Pure w))) (sym e)
+      (polls_out Ask.Mask q (Pure w) up o tt)
   step_agrees before up (In_polled q) h o (Throws w) e a g =
-      subst (λ y. Agrees i y up (switches i next (is_effective q up) ask.Mask (mark.PollOut (mask_number q)) (Raise w))) (sym e)
-      (polls_out ask.Mask q (Raise w) up o tt)
+      subst (λ y. Agrees i y up (switches i next (is_effective q up) Ask.Mask (Mark.PollOut (mask_number q)) (Raise w))) (sym e)
+      (polls_out Ask.Mask q (Raise w) up o tt)
   step_agrees before up (In_masked n) h o Works e a g = record { live = g.live; agrees = g.agrees }
   step_agrees before up (In_polled q) h o Works e a g = record { live = g.live; agrees = g.agrees }
   step_agrees before up _ h o Works e a g = record { live = (g.live, h); agrees = g.agrees }
@@ -247,7 +236,7 @@ module _ (i next : ℕ) (r : Reply) where
       }
   row_agrees (Loop m e) up o h = quiet _ up up _ (looped_static m e h) refl
   row_agrees (Uncancelable v e) up o h = enters_agrees up _ (static_put e (Put_mask v i next) (mask_runtime v i next) h.0)
-  row_agrees (Poll q e) up o h = polls_in ask.Unmask q e up o h
+  row_agrees (Poll q e) up o h = polls_in Ask.Unmask q e up o h
   row_agrees (On_cancel e fin) up o h =
       record { live = (static_live e h.0, h.1); agrees = λ m c w g. subst (Active (Pair i m)) (sym (static_active i e up h.0)) (w g) }
   row_agrees (Masked n e) up o h =

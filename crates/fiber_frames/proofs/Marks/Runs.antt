@@ -3,8 +3,8 @@ use Rattle.fiber_frames.proofs.Prelude.{◌≡◌, ◌≢◌, ◌⊎◌, inl, in
 use Rattle.fiber_frames.proofs.Prelude.{None, refl, sym, ap, ◌∙◌, subst, arith, eqb-true, append-nil, ◌&&◌, Guarded, Handled, Let, Mask, Masked, Pair, Polled}
 use Rattle.fiber_frames.proofs.Prelude.{Seq, Tree, Operand, Outcome, Reply, Fiber, Move_case, Reduces, begins, child, cut, kind_in, looked, lost, move}
 use Rattle.fiber_frames.proofs.Prelude.{move_case, outcome_of, reduced, term_born, AreLawful, EndsLawfully, Has, IsCutOnce, NoCut, UncutRegions, bracket_steps}
-use Rattle.fiber_frames.proofs.Prelude.{times_acquired, At_final, At_term, Broken, Final, Over, Root, Running, Runs, focus, Born, Ceded, Ended, RowKind, Plain}
-use Rattle.fiber_frames.proofs.Prelude.{Row, Waited, number_of, row_at, unit, Mark}
+use Rattle.fiber_frames.proofs.Prelude.{times_acquired, At_final, At_term, Broken, Final, Over, Root, Running, Runs, focus, Born, RowKind, Row, number_of}
+use Rattle.fiber_frames.proofs.Prelude.{row_at, unit, Mark}
 use Rattle.fiber_frames.proofs.Marks.Actions.{If_born}
 use Rattle.fiber_frames.proofs.Marks.Balance.{empty_balanced, open_balanced, signs}
 use Rattle.fiber_frames.proofs.Marks.Cutting.{Active, Live, Static, is_on, only, spends}
@@ -19,9 +19,6 @@ use Rattle.fiber_frames.proofs.Marks.Typed.{Typed}
 use Rattle.fiber_frames.proofs.Marks.Weaken.{Grows, typed_more}
 use Rattle.fiber_frames.proofs.Walk.{End, Gives, Throws, Works, end_of, finalizers_below, masks_below, root_row, row_root, walk}
 use Rattle.fiber_frames.specs.Fiber.{kind_of, outcome_in}
-use Rattle.fiber_frames.specs.declared.mark.Mark.TheVariants as mark
-use Rattle.effect_term.specs.declared.reply.Outcome.TheVariants as outcome
-use Rattle.effect_term.specs.declared.reply.Reply.TheVariants as reply
 
 abbrev pub AllStatic : List Tree → Type 0
 AllStatic [] = Unit {0}
@@ -48,7 +45,7 @@ spends_in w Broken = 0
 abbrev pub Cutness : ℕ → Running → List Mark → Type 0
 Cutness i (Runs t) ms = NoCut ms × ((m : ℕ) → is_on m false ms ≡ true → Active (Pair i m) (masks_below i [] t))
 Cutness i (Final z gs) ms = IsCutOnce ms
-Cutness i (Over o) ms = (NoCut ms × (o ≢ outcome.Canceled)) ⊎ (IsCutOnce ms × (o ≡ outcome.Canceled))
+Cutness i (Over o) ms = (NoCut ms × (o ≢ Outcome.Canceled)) ⊎ (IsCutOnce ms × (o ≡ Outcome.Canceled))
 Cutness i Broken ms = UncutRegions ms
 
 pub record Remains (i n : ℕ) (w : Running) (ms : List Mark) : Type 0 where
@@ -115,8 +112,8 @@ over_rest i n o w ms h c =
 
 root_rest : (f : Fiber) (t : Tree) (E : End) (a : Row Tree) → Remains f.number f.next (Runs t) f.marks → Saves f.number f.next t a →
     Agrees f.number (masks_below f.number [] t) [] a → RestOf (reduced f (root_row f.number f.next At_term E a))
-root_rest f t (Gives v) a h s g = over_rest f.number f.next (outcome.Succeeded (number_of v)) (Runs t) f.marks h (inl (h.cutness.0, (λ e. cc)))
-root_rest f t (Throws v) a h s g = over_rest f.number f.next (outcome.Errored (number_of v)) (Runs t) f.marks h (inl (h.cutness.0, (λ e. cc)))
+root_rest f t (Gives v) a h s g = over_rest f.number f.next (Outcome.Succeeded (number_of v)) (Runs t) f.marks h (inl (h.cutness.0, (λ e. cc)))
+root_rest f t (Throws v) a h s g = over_rest f.number f.next (Outcome.Errored (number_of v)) (Runs t) f.marks h (inl (h.cutness.0, (λ e. cc)))
 root_rest f t Works a h s g =
     let i = f.number in
     let n = f.next in
@@ -140,7 +137,7 @@ finals_live : (z : ℕ) (gs : List Tree) → AllStatic gs → LiveRun (Final z g
 finals_live z [] h = tt
 finals_live z (g ∷ gs) h = (static_live g h.0, h.1)
 
-one_dropped : (v : Operand) → NoCut (mark.Dropped (number_of v) ∷ [])
+one_dropped : (v : Operand) → NoCut (Mark.Dropped (number_of v) ∷ [])
 one_dropped v = elim [ inl e ↦ cc | inr e ↦ e ]
 
 final_rest : (f : Fiber) (z : ℕ) (t : Tree) (gs : List Tree) (E : End) (a : Row Tree) → Remains f.number f.next (Final z (t ∷ gs)) f.marks →
@@ -153,9 +150,9 @@ final_rest f z t gs (Gives v) a h s l = record {
 }
 final_rest f z t gs (Throws v) a h s l = record {
   live = finals_live z gs h.live.1;
-  once = λ m. omega (arith, h.once m, taken-append f.number (only (Pair f.number m)) f.marks (mark.Dropped (number_of v) ∷ []));
-  unknown = λ y m u. omega (arith, h.unknown y m u, taken-append f.number (only (Pair y m)) f.marks (mark.Dropped (number_of v) ∷ []));
-  cutness = cut_once_more f.marks (mark.Dropped (number_of v) ∷ []) h.cutness (one_dropped v);
+  once = λ m. omega (arith, h.once m, taken-append f.number (only (Pair f.number m)) f.marks (Mark.Dropped (number_of v) ∷ []));
+  unknown = λ y m u. omega (arith, h.unknown y m u, taken-append f.number (only (Pair y m)) f.marks (Mark.Dropped (number_of v) ∷ []));
+  cutness = cut_once_more f.marks (Mark.Dropped (number_of v) ∷ []) h.cutness (one_dropped v);
 }
 final_rest f z t gs Works a h s l =
     let i = f.number in
@@ -184,7 +181,7 @@ rows_rest : (f : Fiber) (r : Reply) (w : Running) → f.running ≡ w → Lawful
     RestOf (reduced f (row_at f.number f.next r (focus w) w))
 rows_rest f r (Over o) e h g = over_rest f.number f.next o (Over o) f.marks g g.cutness
 rows_rest f r Broken e h g = subst (λ y. Remains f.number f.next Broken y) (sym (append-nil f.marks)) g
-rows_rest f r (Final z []) e h g = over_rest f.number f.next outcome.Canceled (Final z []) f.marks g (inr (g.cutness, refl))
+rows_rest f r (Final z []) e h g = over_rest f.number f.next Outcome.Canceled (Final z []) f.marks g (inr (g.cutness, refl))
 rows_rest f r (Runs t) e h g =
     subst (λ y. RestOf (reduced f y)) (sym (row_root f.number f.next r At_term t))
     (root_rest f t (end_of t) (walk f.number f.next r [] t) g (saves_runs f r t h e g.live) (row_agrees f.number f.next r t [] tt g.live))
@@ -225,13 +222,13 @@ nothing_active i m up e h = subst (Active (Pair i m)) e h
 
 cut_rest : (f : Fiber) (t : Tree) → f.running ≡ Runs t → masks_below f.number [] t ≡ [] → Remains f.number f.next (Runs t) f.marks → RestOf (cut f)
 cut_rest f t e none h =
-    let after : RestOf (noted f (Final f.next (finalizers_below t)) (f.next + 1) (mark.Cut ∷ [])) = record {
+    let after : RestOf (noted f (Final f.next (finalizers_below t)) (f.next + 1) (Mark.Cut ∷ [])) = record {
       live = finals_live f.next (finalizers_below t) (pending_static t h.live);
-      once = λ m. omega (arith, h.once m, taken-append f.number (only (Pair f.number m)) f.marks (mark.Cut ∷ []), pending_spends (only (Pair f.number m)) t);
+      once = λ m. omega (arith, h.once m, taken-append f.number (only (Pair f.number m)) f.marks (Mark.Cut ∷ []), pending_spends (only (Pair f.number m)) t);
       unknown = λ y m u.
           let before : taken f.number (only (Pair y m)) f.marks + spends (only (Pair y m)) t ≡ 0 =
           h.unknown y m (λ k. u (known_later f.number f.next (f.next + 1) (omega arith) y m k)) in
-          omega (arith, taken-append f.number (only (Pair y m)) f.marks (mark.Cut ∷ []), pending_spends (only (Pair y m)) t);
+          omega (arith, taken-append f.number (only (Pair y m)) f.marks (Mark.Cut ∷ []), pending_spends (only (Pair y m)) t);
       cutness = (
         f.marks,
         [],
@@ -271,18 +268,12 @@ final_more i z n = record { more = λ q h. h.0; back = λ t h. absurd h }
 -- what is started is what a part of the row starts
 born_both : (k : RowKind) (F G H : Tree → Type 0) → ((e : Tree) → F e → G e → H e) → If_born k F → If_born k G → If_born k H
 born_both (Born e) F G H f x y = f e x y
-born_both Plain F G H f x y = tt
-born_both Waited F G H f x y = tt
-born_both Ceded F G H f x y = tt
-born_both (Ended o) F G H f x y = tt
+born_both _ F G H f x y = tt
 
 pub born_root : (i n : ℕ) (b : Root) (E : End) (a : Row Tree) (F : Tree → Type 0) → If_born a.kind F → If_born (root_row i n b E a).kind F
-born_root i n At_term (Gives v) a F h = tt
-born_root i n At_term (Throws v) a F h = tt
 born_root i n At_term Works a F h = h
-born_root i n (At_final m gs) (Gives v) a F h = tt
-born_root i n (At_final m gs) (Throws v) a F h = tt
 born_root i n (At_final m gs) Works a F h = h
+born_root i n _ _ a F h = tt
 
 abbrev Born_ok : Fiber → Running → Tree → Type 0
 Born_ok f w e = ((c : ℕ) → Typed c (Known f.number f.next) [] (Some []) [] (Some []) (Some []) e) × Static e ×
@@ -341,7 +332,7 @@ holds_from f c e h l k =
 
 -- what is started, or the unit value where nothing is
 pub child_holds : (f : Fiber) (n : ℕ) → Holds f → f.number < n → Holds (child f n)
-child_holds f n h l = go (kind_of f (reply.Number n)) (born_move f (reply.Number n) h.lawful h.rest)
+child_holds f n h l = go (kind_of f (Reply.Number n)) (born_move f (Reply.Number n) h.lawful h.rest)
   where
     idle : Holds (begins n unit)
     idle = holds_from f n unit h l ((λ c. (refl, refl)), tt, (λ g m. omega arith))
@@ -363,8 +354,8 @@ lost_holds f h = record { lawful = lost_keeps f h.lawful; rest = lost_rest f h.r
 times_once : (f : Fiber) → RestOf f → (m : ℕ) → times_acquired m (bracket_steps f.marks) ≤ 1
 times_once f h m = omega (arith, times_taken f.number m f.marks, h.once m)
 
-cut_there : (ms : List Mark) → IsCutOnce ms → Has mark.Cut ms
-cut_there ms h = subst (Has mark.Cut) (sym h.2) (has_middle mark.Cut h.0 h.1)
+cut_there : (ms : List Mark) → IsCutOnce ms → Has Mark.Cut ms
+cut_there ms h = subst (Has Mark.Cut) (sym h.2) (has_middle Mark.Cut h.0 h.1)
 
 end_of_run : (f : Fiber) (w : Running) → f.running ≡ w → Lawful f → RestOf f → Cutness f.number w f.marks → EndsLawfully f.marks (outcome_in w)
 end_of_run f (Over o) e h g c =

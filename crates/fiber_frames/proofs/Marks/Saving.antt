@@ -13,14 +13,11 @@ use Rattle.fiber_frames.proofs.Marks.Putting.{AllOf-undone}
 use Rattle.fiber_frames.proofs.Marks.Spending.{other_weight, spends_handle, spends_new, spends_put, spends_value}
 use Rattle.fiber_frames.proofs.Marks.Typed.{AllOf, Masks, Stack, Typed}
 use Rattle.fiber_frames.proofs.Walk.{End, Gives, Throws, Works, end_of, under, walk, within}
-use Rattle.fiber_frames.specs.declared.ask.Ask.TheVariants as ask
-use Rattle.fiber_frames.specs.declared.mark.Mark.TheVariants as mark
-use Rattle.effect_term.specs.declared.reply.Outcome.TheVariants as outcome
 
 -- what the acquire marks of a fiber weigh
 abbrev pub taken : ℕ → (Mask → ℕ) → List Mark → ℕ
 taken i w [] = 0
-taken i w (mark.Acquired n ∷ ms) = w (Pair i n) + taken i w ms
+taken i w (Mark.Acquired n ∷ ms) = w (Pair i n) + taken i w ms
 taken i w (_ ∷ ms) = taken i w ms
 
 -- the weight that a new mask may add
@@ -78,7 +75,7 @@ module _ (i next : ℕ) (r : Reply) where
   switch_saves : (b : Bool) (c : Ask) (m : Mark) (t u : Tree) → ((w : Mask → ℕ) → taken i w (m ∷ []) ≡ 0) → NoCut (m ∷ []) →
       ((w : Mask → ℕ) → spends w t ≤ 1 → spends w u ≤ spends w t) → Saves i next t (switches i next b c m u)
   switch_saves true c m t u q z h = quiet_saves c Plain t u (m ∷ []) tt q z h
-  switch_saves false c m t u q z h = plain_saves ask.Silent t u h
+  switch_saves false c m t u q z h = plain_saves Ask.Silent t u h
 
   smaller_more : (e t : Tree) (o : RowKind) → ((w : Mask → ℕ) → spends w e ≤ spends w t) → If_born o (Smaller e) → If_born o (Smaller t)
   smaller_more e t (Born b) l h = (h.0, λ f m. omega (arith, h.1 f m, l (only (Pair f m))))
@@ -97,19 +94,19 @@ module _ (i next : ℕ) (r : Reply) where
     born = smaller_more e t a.kind (λ w. omega (arith, z w)) h.born;
   }
 
-  no_left : (m : ℕ) → NoCut (mark.Leave m ∷ [])
+  no_left : (m : ℕ) → NoCut (Mark.Leave m ∷ [])
   no_left m = elim [ inl e ↦ cc | inr e ↦ e ]
 
   polled_out : (up : List Mask) (q : Mask) (e t : Tree) → ((w : Mask → ℕ) → spends w (Polled q e) ≤ 1 → spends w t ≤ spends w (Polled q e)) →
-      Saves i next (Polled q e) (switches i next (is_effective q up) ask.Mask (mark.PollOut (mask_number q)) t)
+      Saves i next (Polled q e) (switches i next (is_effective q up) Ask.Mask (Mark.PollOut (mask_number q)) t)
   polled_out up q e t h =
-      switch_saves (is_effective q up) ask.Mask (mark.PollOut (mask_number q)) (Polled q e) t (λ w. refl) (elim [ inl e ↦ cc | inr e ↦ e ]) h
+      switch_saves (is_effective q up) Ask.Mask (Mark.PollOut (mask_number q)) (Polled q e) t (λ w. refl) (elim [ inl e ↦ cc | inr e ↦ e ]) h
 
   step_saves : (up : List Mask) (s : PathStep) (e : Tree) (E : End) (a : Row Tree) → Saves i next e a → Saves i next (around s e) (under i next up s E a)
   step_saves up (In_let v b) e (Gives w) a h = plain_saves _ (Let e v b) _ (λ u l. omega (arith, spends_value v (number_of w) u b))
   step_saves up (In_handle v b) e (Throws c) a h = plain_saves _ (Handled e v b) _ (λ u l. omega (arith, spends_value v (number_of c) u b))
-  step_saves up (In_masked m) e (Gives w) a h = quiet_saves _ _ (Masked m e) _ (mark.Leave m ∷ []) tt (λ w. refl) (no_left m) (λ u l. omega arith)
-  step_saves up (In_masked m) e (Throws c) a h = quiet_saves _ _ (Masked m e) _ (mark.Leave m ∷ []) tt (λ w. refl) (no_left m) (λ u l. omega arith)
+  step_saves up (In_masked m) e (Gives w) a h = quiet_saves _ _ (Masked m e) _ (Mark.Leave m ∷ []) tt (λ w. refl) (no_left m) (λ u l. omega arith)
+  step_saves up (In_masked m) e (Throws c) a h = quiet_saves _ _ (Masked m e) _ (Mark.Leave m ∷ []) tt (λ w. refl) (no_left m) (λ u l. omega arith)
   step_saves up (In_polled q) e (Gives w) a h = polled_out up q e (Pure w) (λ u l. omega arith)
   step_saves up (In_polled q) e (Throws c) a h = polled_out up q e (Raise c) (λ u l. omega arith)
   step_saves up (In_let v b) e Works a h = frame_saves e _ (In_let v b) (λ w. spends w b) a (λ w u. refl) (λ w. refl) h
@@ -153,8 +150,8 @@ module _ (i next : ℕ) (r : Reply) where
 
   branch_saves : (o : Option Outcome) (f : Handle) (v : ℕ) (b : Tree) (w : ℕ) (c e : Tree) (u : Mask → ℕ) →
       spends u (branch o f v b w c e) ≤ spends u (Join f v b w c e)
-  branch_saves (Some (outcome.Succeeded z)) f v b w c e u = omega (arith, spends_value v z u b)
-  branch_saves (Some (outcome.Errored z)) f v b w c e u = omega (arith, spends_value w z u c)
+  branch_saves (Some (Outcome.Succeeded z)) f v b w c e u = omega (arith, spends_value v z u b)
+  branch_saves (Some (Outcome.Errored z)) f v b w c e u = omega (arith, spends_value w z u c)
   branch_saves _ f v b w c e u = omega arith
 
   looped_saves : (m : Turns) (e : Tree) (u : Mask → ℕ) → spends u (Loop m e) ≤ 1 → spends u (looped m e) ≤ spends u (Loop m e)
@@ -212,7 +209,7 @@ module _ (i next : ℕ) (r : Reply) where
   row_saves (Loop m e) up l o = plain_saves _ (Loop m e) _ (looped_saves m e)
   row_saves (Uncancelable v e) up l o = entered_saves (Uncancelable v e) _ (masking v e l.1)
   row_saves (Poll q e) up l o =
-      switch_saves (is_effective q up) ask.Unmask (mark.PollIn (mask_number q)) (Poll q e) (Polled q e) (λ w. refl) (elim [ inl e ↦ cc | inr e ↦ e ])
+      switch_saves (is_effective q up) Ask.Unmask (Mark.PollIn (mask_number q)) (Poll q e) (Polled q e) (λ w. refl) (elim [ inl e ↦ cc | inr e ↦ e ])
       (λ w l. omega arith)
   row_saves (On_cancel e fin) up l o = plain_saves _ (On_cancel e fin) (Guarded e fin) (λ w l. omega arith)
   row_saves (Masked m e) up l o = step_saves up (In_masked m) e (end_of e) (walk i next r (Pair i m ∷ up) e) (row_saves e (Pair i m ∷ up) l o)

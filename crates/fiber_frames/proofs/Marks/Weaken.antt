@@ -1,6 +1,6 @@
 -- A term stays typed where more masks may be named.
-use Rattle.fiber_frames.proofs.Prelude.{ℕ, inl, inr, List, [], ◌∷◌, Option, Some, None, sym, subst, Act, Cancel, Guarded, Handled, If0, Join, Let, Loop, Make}
-use Rattle.fiber_frames.proofs.Prelude.{Mask, Masked, Named, Note, On_cancel, Pair, Poll, Polled, Pure, Raise, Seq, Start, Tree, Uncancelable, undone}
+use Rattle.fiber_frames.proofs.Prelude.{ℕ, inl, inr, List, [], ◌∷◌, Option, Some, None, sym, subst, Guarded, Handled, If0, Join, Let, Loop, Make, Mask, Masked}
+use Rattle.fiber_frames.proofs.Prelude.{Named, Note, On_cancel, Pair, Poll, Polled, Seq, Start, Tree, Uncancelable, undone}
 use Rattle.fiber_frames.proofs.Marks.Opened.{Freeing, Held}
 use Rattle.fiber_frames.proofs.Marks.Typed.{AllOf, If_ends, In, Leads, Masks, Stack, Typed, Weaker, with_slot}
 
@@ -35,11 +35,7 @@ leads_more (Some j) (Some k) F G f h = f j k h
 
 pub typed_more : (t : Tree) (i : ℕ) (P P' : Masks) (up : List Mask) (k : Option Stack) (s : Stack) (n x : Option Stack) → Grows P P' →
     Typed i P up k s n x t → Typed i P' up k s n x t
-typed_more (Pure v) i P P' up k s n x w h = h
-typed_more (Raise v) i P P' up k s n x w h = h
-typed_more (Act c) i P P' up k s n x w h = h
 typed_more (Note e q) i P P' up k s n x w h = (h.0, w.more q h.1, h.2, h.3, h.4, h.5)
-typed_more (Cancel f) i P P' up k s n x w h = h
 typed_more (Let e v b) i P P' up k s n x w h = (
   h.0,
   if_ends_more h.0 (In P) (In P') (in_more P P' w.more) h.1,
@@ -91,6 +87,7 @@ typed_more (Guarded e fin) i P P' up k s n x w h = (
   h.4,
   h.5,
 )
+typed_more _ i P P' up k s n x w h = h
 
 -- what a weaker expectation expects is known
 pub weaker_in : (P : Masks) (j k : Option Stack) → Weaker j k → If_ends k (In P) → If_ends j (In P)
