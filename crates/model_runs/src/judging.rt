@@ -18,9 +18,11 @@ use crate::named::{Named, replay_named};
 use crate::plan::Plan;
 use crate::prepared::prepare;
 use crate::result::{ClaimResult, NamedAnswer, Search};
+use crate::waits::with_waits;
 use model_claims::{Claim, Judged, Truth, judge, truth_in};
 use model_terms::{Probe, Refused, Source};
 use model_text::Model;
+use scheduled_core::same_end;
 use std::alloc::{AllocError, Global};
 
 // Returns the truth of a claim at each of these answers.
@@ -81,7 +83,7 @@ pub(crate) fn claim_result(
         plan,
         judged.shown,
         answers,
-        search.marked,
+        true,
     )?;
     Ok(ClaimResult {
         form: claim.form,
@@ -151,8 +153,8 @@ fn decisive_answers<'a>(
     }
 }
 
-// The replay of the answer of this number, if there is one, in the term with this probe. If `waits` is set, each fiber
-// that hasn't ended has one more entry, at which it waits.
+// The replay of the answer of this number, if there is one, in the term with this probe. If `waits` is set, it goes on
+// until each fiber that hasn't ended waits.
 fn replay_of(
     alloc: Global,
     source: &Source,
@@ -172,23 +174,17 @@ fn replay_of(
         return Ok(None);
     };
     let prepared = prepare(alloc, source, model, probe)?;
-    let entries = shown_entries(alloc, answer, waits)?;
-    let replay = replay_named(alloc, &prepared, entries.as_slice(), plan.limits)?;
-    Ok(Some(replay))
-}
-
-// The entries of an answer, and if `waits` is set and the answer is no fault, one of each fiber that hasn't ended.
-fn shown_entries(alloc: Global, answer: &NamedAnswer, waits: bool) -> Result<Vec<u16>, AllocError> {
-    let mut entries = Vec::from_slice(alloc, answer.schedule.as_slice())?;
-    if !waits || answer.fault.is_some() {
-        return Ok(entries);
+    let entries = answer.schedule.as_slice();
+    let replay = replay_named(alloc, &prepared, entries, plan.limits)?;
+    if !waits {
+        return Ok(Some(replay));
     }
-    for (number, fiber) in answer.seen.fibers.iter().enumerate() {
-        if fiber.outcome.is_none()
-            && let Ok(number) = u16::try_from(number)
-        {
-            entries.push(number)?;
-        }
+    let longer = with_waits(alloc, &prepared.program, entries, plan.limits)?;
+    let waiting = replay_named(alloc, &prepared, longer.as_slice(), plan.limits)?;
+    // What fibers wait for is shown only if the report is the same.
+    if same_end(&waiting.end, &replay.end) {
+        Ok(Some(waiting))
+    } else {
+        Ok(Some(replay))
     }
-    Ok(entries)
 }

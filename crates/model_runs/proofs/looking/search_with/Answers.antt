@@ -8,6 +8,6 @@ returns-then-may_leave_marks g c = record {
 
 pub returns : goal.returns
 returns g c = record {
-  each = c.in_ok-found.ensures.met;
-  none = c.in_ok-found.ensures.unmet;
+  each = c.in_ok-found-2.ensures.met;
+  none = c.in_ok-found-2.ensures.unmet;
 }
