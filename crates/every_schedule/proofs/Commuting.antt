@@ -3,32 +3,22 @@ use Rattle.std.proofs.Common.{◌≡◌, ◌≢◌, ℕ, zero, suc, true, List, 
 use Rattle.std.specs.List.{slice_get}
 use Rattle.effect_term.specs.declared.reply.Reply.{Reply}
 use Rattle.fiber_frames.specs.Fiber.{Fiber, ask_of, move, silent_move}
-use Rattle.cell_registry.specs.declared.limits.Limits.{Limits}
-use Rattle.cell_registry.specs.declared.limits.CellError.{CellError}
-use Rattle.cell_registry.specs.declared.limits.RunError.{RunError}
-use Rattle.cell_registry.specs.declared.call.Call.{Call}
-use Rattle.cell_registry.specs.declared.call.Call.TheVariants.{Start}
-use Rattle.cell_registry.specs.Cells.{after, refusal, reply_of}
-use Rattle.scheduled_core.specs.declared.wish.Wish.{Wish}
-use Rattle.scheduled_core.specs.declared.wish.Wish.TheVariants.{Shared, Alone, Nothing}
-use Rattle.scheduled_core.specs.Core.{World, answered, born, called, turned, wish_of, wished}
-use Rattle.scheduled_core.specs.Finals.{reply_to}
-use Rattle.scheduled_core.proofs.Lists.{slice_get-set_other}
-use Rattle.scheduled_core.proofs.Standing.Lists.{get_early}
+use Rattle.cell_registry.specs.{declared.{limits.{Limits.Limits, CellError.CellError, RunError.RunError}, call.Call.{Call, TheVariants.Start}}, Cells.after}
+use Rattle.cell_registry.specs.Cells.{refusal, reply_of}
+use Rattle.scheduled_core.specs.{declared.wish.Wish.{Wish, TheVariants.{Shared, Alone, Nothing}}, Core.{World, answered, born, called, turned, wish_of, wished}}
+use Rattle.scheduled_core.{specs.Finals.reply_to, proofs.{Lists.slice_get-set_other, Standing.Lists.get_early}}
 use Rattle.world_search.specs.Free.{AreFree, Commutes}
-use Rattle.every_schedule.specs.Places.{Place, placed, entering as stepped}
-use Rattle.every_schedule.specs.Reduced.{IsOwn, has_own, is_own}
-use Rattle.every_schedule.proofs.OwnCalls.{IsAdmitted, left_by, other_refusal, other_reply, own_reply, room_stays, swaps}
-use Rattle.every_schedule.proofs.OwnKept.{calm_called, kept_called, kept_silent}
+use Rattle.every_schedule.{specs.{Places.{Place, placed, entering as stepped}, Reduced.{IsOwn, has_own, is_own}}, proofs.OwnCalls.{IsAdmitted, left_by}}
+use Rattle.every_schedule.proofs.{OwnCalls.{other_refusal, other_reply, own_reply, room_stays, swaps}, OwnKept.{calm_called, kept_called, kept_silent}}
 
 -- ---- lists
 -- changes of elements, and further elements at the end, in either order
-set_early : {A : Type 0} (xs ys : List A) (f : ℕ) (a b : A) → slice_get xs f ≡ Some a → set (xs ++ ys) f b ≡ set xs f b ++ ys
+pub set_early : {A : Type 0} (xs ys : List A) (f : ℕ) (a b : A) → slice_get xs f ≡ Some a → set (xs ++ ys) f b ≡ set xs f b ++ ys
 set_early [] ys f a b e = absurd (cc)
 set_early (x ∷ xs) ys zero a b e = refl
 set_early (x ∷ xs) ys (suc f) a b e = ap (λ l. x ∷ l) (set_early xs ys f a b e)
 
-set_apart : {A : Type 0} (xs : List A) (f g : ℕ) (a b : A) → f ≢ g → set (set xs f a) g b ≡ set (set xs g b) f a
+pub set_apart : {A : Type 0} (xs : List A) (f g : ℕ) (a b : A) → f ≢ g → set (set xs f a) g b ≡ set (set xs g b) f a
 set_apart [] f g a b apart = refl
 set_apart (x ∷ xs) zero zero a b apart = absurd (apart refl)
 set_apart (x ∷ xs) zero (suc g) a b apart = refl

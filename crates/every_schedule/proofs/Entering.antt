@@ -1,31 +1,17 @@
 -- How an entry changes the kept worlds.
-use Rattle.std.proofs.Common.{◌≡◌, ◌≢◌, ℕ, zero, suc, ◌≤◌, Bool, List, [], ◌∷◌, length, map, Option, Some, None, Ok, Err, Result, refl, sym, ap, ◌∙◌, subst, arith}
-use Rattle.std.specs.Prelude.{IfOk, max}
-use Rattle.std.specs.List.{slice_get}
-use Rattle.std.proofs.lemmas.List.{length-map}
-use Rattle.std.proofs.lemmas.Option.{same_Some, slice_get_past}
-use Rattle.cell_registry.specs.declared.limits.Limits.{Limits}
-use Rattle.cell_registry.specs.declared.limits.RunError.{RunError}
-use Rattle.cell_registry.specs.Plain.{IsPlain, PlainView}
+use Rattle.std.proofs.Common.{◌≡◌, ◌≢◌, ℕ, zero, suc, ◌≤◌, Bool, List, [], ◌∷◌, length, map, Option, Some, None, Ok, Err, Result, refl, sym, ap, ◌∙◌, subst}
+use Rattle.std.{proofs.{Common.arith, lemmas.{List.length-map, Option.{same_Some, slice_get_past}}}, specs.{Prelude.{IfOk, max}, List.slice_get}}
+use Rattle.cell_registry.specs.{declared.limits.{Limits.Limits, RunError.RunError}, Plain.{IsPlain, PlainView}}
 use Rattle.fiber_frames.specs.Fiber.{Fiber}
-use Rattle.scheduled_core.specs.Core.{World, entered}
-use Rattle.scheduled_core.specs.Fitting.{AllFit}
-use Rattle.scheduled_core.specs.declared.report.Report.{Report}
+use Rattle.scheduled_core.specs.{Core.{World, entered}, Fitting.AllFit, declared.report.Report.Report}
+use Rattle.world_search.{specs.{declared.landings.Entered.Entered, Landings.{EntersAt, IsNext}, Lists.IsMore}, proofs.Lists.more_same}
+use Rattle.every_schedule.specs.{declared.leaping.AtOnce.AtOnce, Places.{Place, placed, report_at, stepped}, Reduced.{after_own, behind, leapt, leapt_by}}
+use Rattle.every_schedule.specs.{Reduced.{or_stays, own_of, pushed, pushed_once, swept}, Private.{Keeping.IsKept, Numbered.{AreAt, AreWorlds, IsWorld}}}
+use Rattle.every_schedule.{specs.Private.{Numbered.{IsWorldOf, MayAdd, Numbers, picked, place_of}, Reporting.{AreAlike, AreOther}}, proofs.Bare.step_limits}
+use Rattle.every_schedule.proofs.{Bare.unborn_stays, Alikeness.{alike_reports, other_reports, same_lists}, Numbered.{is_place, map_get, one_world, picked_is}}
+use Rattle.every_schedule.proofs.Numbered.{places_added, places_more, rows_added, world_is, worlds_more}
 use Rattle.world_search.specs.declared.landings.Landing.TheVariants as to
-use Rattle.world_search.specs.declared.landings.Entered.{Entered}
 use Rattle.world_search.specs.declared.landings.Entered.TheVariants as came
-use Rattle.world_search.specs.Landings.{EntersAt, IsNext}
-use Rattle.world_search.specs.Lists.{IsMore}
-use Rattle.world_search.proofs.Lists.{more_same}
-use Rattle.every_schedule.specs.declared.leaping.AtOnce.{AtOnce}
-use Rattle.every_schedule.specs.Places.{Place, placed, report_at, stepped}
-use Rattle.every_schedule.specs.Reduced.{after_own, behind, leapt, leapt_by, or_stays, own_of, pushed, pushed_once, swept}
-use Rattle.every_schedule.specs.Private.Keeping.{IsKept}
-use Rattle.every_schedule.specs.Private.Numbered.{AreAt, AreWorlds, IsWorld, IsWorldOf, MayAdd, Numbers, picked, place_of}
-use Rattle.every_schedule.specs.Private.Reporting.{AreAlike, AreOther}
-use Rattle.every_schedule.proofs.Bare.{step_limits, unborn_stays}
-use Rattle.every_schedule.proofs.Alikeness.{alike_reports, other_reports, same_lists}
-use Rattle.every_schedule.proofs.Numbered.{is_place, map_get, one_world, picked_is, places_added, places_more, rows_added, world_is, worlds_more}
 
 -- an entry keeps the limits of its place
 limits_kept : (k : Limits) (x : Result World RunError) (q : Place) → placed k x ≡ Ok q → q.limits ≡ k
@@ -44,20 +30,20 @@ once_limits p (Some f) = by (stepped p f) refl
     by (Ok q) e = stepped_limits p f q e
     by (Err d) e = refl
 
-swept_limits : (b : Bool) (n : ℕ) (p : Place) → (swept b n p).limits ≡ p.limits
+swept_limits : (b : AtOnce) (n : ℕ) (p : Place) → (swept b n p).limits ≡ p.limits
 unfolding swept
 swept_limits b zero p = refl
 swept_limits b (suc n) p = swept_limits b n (after_own p (own_of b p n)) ∙ once_limits p (own_of b p n)
 
-pushed_limits : (b : Bool) (n : ℕ) (p : Place) → (pushed b n p).limits ≡ p.limits
+pushed_limits : (b : AtOnce) (n : ℕ) (p : Place) → (pushed b n p).limits ≡ p.limits
 unfolding pushed
 pushed_limits b zero p = refl
 pushed_limits b (suc n) p = pushed_limits b n (pushed_once b p) ∙ swept_limits b (length p.world.fibers) p
 
 behind_limits : (n : AtOnce) (p : Place) (f : ℕ) (y : Result Place RunError) (q : Place) → stepped p f ≡ y → behind n y ≡ Ok q → q.limits ≡ p.limits
 behind_limits n p f (Ok x) q is e =
-    let same : pushed n.stores n.most x ≡ q = cc in
-    ap (λ (r : Place). r.limits) (sym same) ∙ pushed_limits n.stores n.most x ∙ stepped_limits p f x is
+    let same : pushed n n.most x ≡ q = cc in
+    ap (λ (r : Place). r.limits) (sym same) ∙ pushed_limits n n.most x ∙ stepped_limits p f x is
 behind_limits n p f (Err d) q is e = absurd (cc)
 
 leapt_limits : (n : AtOnce) (p : Place) (f : ℕ) (q : Place) (o : Option Fiber) → leapt_by n p f o ≡ Ok q → q.limits ≡ p.limits

@@ -1,20 +1,16 @@
 -- What is known of states, as more becomes known.
 use Rattle.std.proofs.Common.{◌≡◌, ℕ, zero, suc, ◌<◌, refl, lit<, Bool, List, [], ◌∷◌, ◌++◌, length, set, inl, inr, sym, ap, ◌∙◌, subst, arith}
-use Rattle.std.specs.Prelude.{Option, Some, None}
-use Rattle.std.specs.List.{slice_get}
-use Rattle.std.proofs.lemmas.Option.{same_Some}
+use Rattle.std.{proofs.lemmas.Option.same_Some, specs.{Prelude.{Option, Some, None}, List.slice_get}}
 use mathlib.Core.Logic.{dite}
 use native.Mathlib.Decide.{ℕ_discrete}
 use Rattle.derived_ops.specs.Naming.{Given}
 use Rattle.fiber_frames.specs.declared.uses.Use.{Use}
-use Rattle.fiber_frames.specs.declared.uses.Use.TheVariants.{Awaits, Cancels, Completes, Gets, Joins, Stores}
+use Rattle.fiber_frames.specs.declared.uses.Use.TheVariants.{Awaits, Cancels, Completes, Gets, Joins, MakesDeferreds, MakesRefs, Starts, Stores}
 use Rattle.fiber_frames.specs.Fiber.{Fiber}
 use Rattle.fiber_frames.specs.Naming.{NamedRun}
 use Rattle.fiber_frames.specs.Uses.{is_some, uses_in}
-use Rattle.world_search.specs.Lists.{IsMore}
-use Rattle.world_search.proofs.Lists.{get_end, more_get, set_other, set_same}
-use Rattle.every_schedule.specs.declared.known.Known.{Known}
-use Rattle.every_schedule.specs.Private.Knowing.{AreKnownOf, IsKnown, TellUses, use_code, use_place}
+use Rattle.world_search.{specs.Lists.IsMore, proofs.Lists.{get_end, more_get, set_other, set_same}}
+use Rattle.every_schedule.specs.{declared.known.Known.Known, Private.Knowing.{AreKnownOf, IsKnown, TellUses, use_code, use_place}}
 
 -- each use has a number of its own
 use_of : ℕ → Use
@@ -23,7 +19,10 @@ use_of (suc zero) = Joins
 use_of (suc (suc zero)) = Gets
 use_of (suc (suc (suc zero))) = Stores
 use_of (suc (suc (suc (suc zero)))) = Completes
-use_of (suc (suc (suc (suc (suc n))))) = Awaits
+use_of (suc (suc (suc (suc (suc zero))))) = Awaits
+use_of (suc (suc (suc (suc (suc (suc zero)))))) = Starts
+use_of (suc (suc (suc (suc (suc (suc (suc zero))))))) = MakesRefs
+use_of (suc (suc (suc (suc (suc (suc (suc (suc n)))))))) = MakesDeferreds
 
 decoded : (u : Use) → use_of (use_code u) ≡ u
 unfolding use_of
@@ -33,14 +32,20 @@ decoded Gets = refl
 decoded Stores = refl
 decoded Completes = refl
 decoded Awaits = refl
+decoded Starts = refl
+decoded MakesRefs = refl
+decoded MakesDeferreds = refl
 
-few_uses : (u : Use) → use_code u < 6
+few_uses : (u : Use) → use_code u < 9
 few_uses Cancels = lit< tt
 few_uses Joins = lit< tt
 few_uses Gets = lit< tt
 few_uses Stores = lit< tt
 few_uses Completes = lit< tt
 few_uses Awaits = lit< tt
+few_uses Starts = lit< tt
+few_uses MakesRefs = lit< tt
+few_uses MakesDeferreds = lit< tt
 
 same_use : (u v : Use) (m n : ℕ) → use_place u m ≡ use_place v n → (u ≡ v) × (m ≡ n)
 same_use u v m n e =

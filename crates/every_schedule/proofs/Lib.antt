@@ -18,6 +18,7 @@ pub mod Commuting
 pub mod Growing
 pub mod Bare
 pub mod Still
+pub mod EarlyMoves
 pub mod Leaps
 pub mod Trails
 pub mod PastBound
@@ -28,3 +29,4 @@ pub mod SeenRows
 pub mod SeenLeaps
 pub mod RefValues
 pub mod Prefixes
+pub mod Certified

@@ -34,14 +34,14 @@ use Rattle.every_schedule.specs.Reduced.{has_come_to_end, is_another, is_complet
 use Rattle.every_schedule.proofs.OwnCalls.{IsCalm, IsNoStore, IsOffDeferred, IsOffFiber, IsOffRef, filled_after}
 
 -- ---- truth values
-both_true : (a b : Bool) → a && b ≡ true → (a ≡ true) × (b ≡ true)
+pub both_true : (a b : Bool) → a && b ≡ true → (a ≡ true) × (b ≡ true)
 both_true true b e = (refl, e)
 both_true false b e = absurd (cc)
 
 pub and_true : (a b : Bool) → a ≡ true → b ≡ true → a && b ≡ true
 and_true a b e f = ap₂ (λ x y. x && y) e f
 
-or_cases : (a b : Bool) → a || b ≡ true → (a ≡ true) ⊎ (b ≡ true)
+pub or_cases : (a b : Bool) → a || b ≡ true → (a ≡ true) ⊎ (b ≡ true)
 or_cases true b e = inl refl
 or_cases false b e = inr e
 
@@ -74,7 +74,7 @@ below_true m n e = elim (cases_lt m n) [ inl low ↦ low | inr past ↦ let no :
 
 -- ---- the other fibers
 module _ (p : Fiber → Bool) (f : ℕ) where
-  others_at : (gs : List Fiber) (i g : ℕ) (b : Fiber) → others p f i gs ≡ true → slice_get gs g ≡ Some b → i + g ≢ f → p b ≡ true
+  pub others_at : (gs : List Fiber) (i g : ℕ) (b : Fiber) → others p f i gs ≡ true → slice_get gs g ≡ Some b → i + g ≢ f → p b ≡ true
   others_at [] i g b all at apart = absurd (cc)
   others_at (c ∷ gs) i zero b all at apart =
       let here = both_true (nat_eq i f || p c) (others p f (suc i) gs) all in
@@ -86,7 +86,7 @@ module _ (p : Fiber → Bool) (f : ℕ) where
   others_at (c ∷ gs) (i) (suc g) b all at apart =
       others_at gs (suc i) g b (both_true (nat_eq i f || p c) (others p f (suc i) gs) all).1 at (λ e. apart (omega (arith, e)))
 
-  others_set : (gs : List Fiber) (i g : ℕ) (b : Fiber) → others p f i gs ≡ true → p b ≡ true → others p f i (set gs g b) ≡ true
+  pub others_set : (gs : List Fiber) (i g : ℕ) (b : Fiber) → others p f i gs ≡ true → p b ≡ true → others p f i (set gs g b) ≡ true
   others_set [] i g b all so = refl
   others_set (c ∷ gs) i zero b all so =
       and_true (nat_eq i f || p b) (others p f (suc i) gs) (or_second (nat_eq i f) (p b) so)
@@ -101,7 +101,7 @@ module _ (p : Fiber → Bool) (f : ℕ) where
       let here = both_true (nat_eq i f || p c) (others p f (suc i) gs) all in
       and_true (nat_eq i f || p c) (others p f (suc i) (gs ++ b ∷ [])) here.0 (others_more gs (suc i) b here.1 so)
 
-  others_born : (gs : List Fiber) (b : Fiber) (d : Call) (q : Reply) → others p f 0 gs ≡ true → (d ≡ Start → p (child b (number_in q)) ≡ true) →
+  pub others_born : (gs : List Fiber) (b : Fiber) (d : Call) (q : Reply) → others p f 0 gs ≡ true → (d ≡ Start → p (child b (number_in q)) ≡ true) →
       others p f 0 (gs ++ born b d q) ≡ true
   others_born gs b Start q all so = others_more gs 0 (child b (number_in q)) all (so refl)
   others_born gs b _ q all so = ap (others p f 0) (append-nil gs) ∙ all
@@ -121,10 +121,10 @@ module _ (u : Use) (n : ℕ) (b : Fiber) (keeps_off : keeps u n b ≡ true) wher
   spares : Spares u n b.running
   spares = not_some (uses_in u n b.running) keeps_off
 
-  keeps_move : (q : Reply) → NumberApart u n (ask_of b) q → keeps u n (move b q) ≡ true
+  pub keeps_move : (q : Reply) → NumberApart u n (ask_of b) q → keeps u n (move b q) ≡ true
   keeps_move q apart = some_not (uses_in u n (move b q).running) (unused_move u n b q spares apart)
 
-  keeps_child : (m : ℕ) → keeps u n (child b m) ≡ true
+  pub keeps_child : (m : ℕ) → keeps u n (child b m) ≡ true
   keeps_child m = some_not (uses_in u n (child b m).running) (unused_child u n b m spares)
 
   pub asks_apart : AskApart u n b.number (ask_of b)

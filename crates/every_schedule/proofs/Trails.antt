@@ -1,19 +1,19 @@
 -- Trails that get longer, and the unfolded answers of the reduced search.
-use Rattle.std.proofs.Common.{◌≡◌, ◌≢◌, ◌⊎◌, inl, inr, ℕ, suc, Bool, ◌+◌, ◌<◌, ◌≤◌, List, [], ◌∷◌, ◌++◌, length, Some, Result, Ok, Err, refl, sym}
+use Rattle.std.proofs.Common.{◌≡◌, ◌≢◌, ◌⊎◌, inl, inr, ℕ, suc, ◌+◌, ◌<◌, ◌≤◌, List, [], ◌∷◌, ◌++◌, length, Some, Result, Ok, Err, refl, sym}
 use Rattle.std.proofs.Common.{ap, ◌∙◌, subst, arith, append-nil, append_assoc, get_or}
 use Rattle.std.specs.List.{All, slice_get, swap}
 use Rattle.std.specs.List.Sorted.{IsNonDecreasingBy, IsPermutation}
-use Rattle.std.proofs.lemmas.List.Elements.{All-push}
-use Rattle.std.proofs.lemmas.Bool.{cases_order}
-use Rattle.std.proofs.lemmas.List.Edits.{length-swap, swapped_from_swap}
-use Rattle.std.proofs.lemmas.List.Sorted.{All-permutation, IsPermutation-keeps, IsPermutation-sym}
-use Rattle.std.proofs.lemmas.Option.{get_or_from_slice_get, same_Some, slice_get-get_or, slice_get_past, slice_get_within}
 use mathlib.Core.Logic.{dite}
 use native.Mathlib.Decide.{ℕ_discrete}
 use Rattle.cell_registry.specs.declared.limits.RunError.{RunError}
 use Rattle.scheduled_core.proofs.Lists.{parted}
-use Rattle.world_search.specs.declared.answers.Answer.{Answer as Found}
-use Rattle.world_search.specs.declared.landings.Landing.{Landing}
+use Rattle.world_search.{specs.{declared.{answers.Answer.Answer as Found, landings.Landing.Landing}, Lists.IsIn, Systems.run}, proofs.Closed.run-append}
+use Rattle.world_search.proofs.{Lists.{get_end, get_last, more_by, more_in}, Free.{covers, goes_onward, leads_up}}
+use Rattle.every_schedule.specs.{Places.{Kept, Place, report_at, stepped}, declared.leaping.AtOnce.AtOnce, Reduced.{MayOwn, leapt}, Explored.HasMove}
+use Rattle.every_schedule.specs.Private.Trails.{AreMade, AreSorted, AreUnfolded, EndApart, EndsAlone, IsFirstOf, IsKeptIn, IsLeapTrail, IsOwnTrail, IsTrail}
+use Rattle.every_schedule.{specs.Private.Trails.{IsUnfolded, IsUnfoldedOf, MakesAtOnce, rank_of}, proofs.Bare.{reports_grow, unborn_stays}}
+use Rattle.every_schedule.proofs.{Still.may_are_free, Growing.size, Leaps.{leaps, leapt_rests}, Told.{all_at, all_from}}
+use Rattle.fair_ends.{specs.Fair.IsBehind, proofs.Ahead.{led_append, led_run}}
 use Rattle.world_search.specs.declared.landings.Landing.TheVariants as to
 use Rattle.world_search.specs.Answers as search
 use Rattle.world_search.specs.Lists.{IsIn}
@@ -23,14 +23,14 @@ use Rattle.world_search.proofs.Lists.{get_end, get_last, more_by, more_in}
 use Rattle.world_search.proofs.Free.{covers, goes_onward, leads_up}
 use Rattle.every_schedule.specs.Places.{Kept, Place, report_at, stepped}
 use Rattle.every_schedule.specs.declared.leaping.AtOnce.{AtOnce}
-use Rattle.every_schedule.specs.Reduced.{MayOwn, leapt}
+use Rattle.every_schedule.specs.Reduced.{IsMade, leapt}
 use Rattle.every_schedule.specs.Explored.{HasMove}
 use Rattle.fair_ends.specs.Fair.{IsBehind}
 use Rattle.fair_ends.proofs.Ahead.{led_append, led_run}
 use Rattle.every_schedule.specs.Private.Trails.{AreMade, AreSorted, AreUnfolded, EndApart, EndsAlone, IsFirstOf, IsKeptIn}
 use Rattle.every_schedule.specs.Private.Trails.{IsLeapTrail, IsOwnTrail, IsTrail, IsUnfolded, IsUnfoldedOf, MakesAtOnce, rank_of}
 use Rattle.every_schedule.proofs.Bare.{reports_grow, unborn_stays}
-use Rattle.every_schedule.proofs.Still.{may_are_free}
+use Rattle.every_schedule.proofs.EarlyMoves.{made_early}
 use Rattle.every_schedule.proofs.Growing.{size}
 use Rattle.every_schedule.proofs.Leaps.{leaps, leapt_rests}
 use Rattle.every_schedule.proofs.Told.{all_at, all_from}
@@ -77,12 +77,12 @@ trail_more old mid new p q y a b = record {
 }
 
 -- ---- own moves
-pub own_none : (stores : Bool) (old : List ℕ) (p : Place) → IsOwnTrail stores old old p p
-own_none stores old p = record { added = []; is = sym (append-nil old); led = refl; few = none_few; moves = tt }
+pub own_none : (m : AtOnce) (old : List ℕ) (p : Place) → IsOwnTrail m old old p p
+own_none m old p = record { added = []; is = sym (append-nil old); led = refl; few = none_few; moves = tt }
 
-pub own_one : (stores : Bool) (old : List ℕ) (p : Place) (f : ℕ) (q : Place) → f < 1000 → HasMove p.world f → MayOwn stores p f → stepped p f ≡ Ok q →
-    IsOwnTrail stores old (old ++ f ∷ []) p q
-own_one stores old p f q low has may goes = record {
+pub own_one : (m : AtOnce) (old : List ℕ) (p : Place) (f : ℕ) (q : Place) → f < 1000 → HasMove p.world f → IsMade m p f → stepped p f ≡ Ok q →
+    IsOwnTrail m old (old ++ f ∷ []) p q
+own_one m old p f q low has may goes = record {
   added = f ∷ [];
   is = refl;
   led = (may, q, goes, refl);
@@ -90,20 +90,20 @@ own_one stores old p f q low has may goes = record {
   moves = (has, λ x led. tt);
 }
 
-pub own_more : (stores : Bool) (old mid new : List ℕ) (p q r : Place) → IsOwnTrail stores old mid p q → IsOwnTrail stores mid new q r →
-    IsOwnTrail stores old new p r
-own_more stores old mid new p q r a b = record {
+pub own_more : (m : AtOnce) (old mid new : List ℕ) (p q r : Place) → IsOwnTrail m old mid p q → IsOwnTrail m mid new q r →
+    IsOwnTrail m old new p r
+own_more m old mid new p q r a b = record {
   added = a.added ++ b.added;
   is = b.is ∙ ap (λ l. l ++ b.added) a.is ∙ append_assoc old a.added b.added;
-  led = led_append stepped (MayOwn stores) a.added b.added p q r a.led b.led;
+  led = led_append stepped (IsMade m) a.added b.added p q r a.led b.led;
   few = few_append a.added b.added a.few b.few;
-  moves = made_append p q a.added b.added a.moves (led_run stepped (MayOwn stores) a.added p q a.led) b.moves;
+  moves = made_append p q a.added b.added a.moves (led_run stepped (IsMade m) a.added p q a.led) b.moves;
 }
 
 -- ---- an entry followed by own moves
 module _ (n : AtOnce) (p : Place) (f : ℕ) where
   abbrev Behind : List ℕ → Result Place RunError → Type 0
-  Behind made y = IsBehind stepped (MayOwn n.stores) made y (leapt n p f)
+  Behind made y = IsBehind stepped (IsMade n) made y (leapt n p f)
 
   in_few : (made : List ℕ) → AreFew made → (g : ℕ) → IsIn g made → g < 1000
   in_few made few g i = all_at (λ h. h < 1000) made i.0 g i.1 few
@@ -122,14 +122,14 @@ module _ (n : AtOnce) (p : Place) (f : ℕ) where
   leap_none old past = record { added = []; is = sym (append-nil old); makes = none_made past; few = none_few; moves = tt }
 
   module _ (low : f < 1000) (old mid : List ℕ) where
-    pub leap_more : (new : List ℕ) (q r : Place) → IsFirstOf old mid p f → stepped p f ≡ Ok q → IsOwnTrail n.stores mid new q r → leapt n p f ≡ Ok r →
+    pub leap_more : (new : List ℕ) (q r : Place) → IsFirstOf old mid p f → stepped p f ≡ Ok q → IsOwnTrail n mid new q r → leapt n p f ≡ Ok r →
         IsLeapTrail n old new p f
     leap_more new q r (inl first) goes own to =
         let few = few_append (f ∷ []) own.added (All-push (λ g. g < 1000) [] f none_few low) own.few in record {
           added = f ∷ own.added;
           is = own.is ∙ ap (λ l. l ++ own.added) first.0 ∙ append_assoc old (f ∷ []) own.added;
           makes = record {
-            leads = ap (λ x. run stepped x own.added) goes ∙ led_run stepped (MayOwn n.stores) own.added q r own.led ∙ sym to;
+            leads = ap (λ x. run stepped x own.added) goes ∙ led_run stepped (IsMade n) own.added q r own.led ∙ sym to;
             free = subst (Behind (f ∷ own.added)) (sym goes) (own.added, r, own.led, to, λ g i. (suc i.0, i.1));
             still = λ none. absurd (none (0, refl));
             few = in_few (f ∷ own.added) few;
@@ -142,7 +142,7 @@ module _ (n : AtOnce) (p : Place) (f : ℕ) where
           added = own.added;
           is = own.is ∙ ap (λ l. l ++ own.added) none.0;
           makes = record {
-            leads = ap (λ x. run stepped (Ok x) own.added) (sym same) ∙ led_run stepped (MayOwn n.stores) own.added q r own.led ∙ sym to;
+            leads = ap (λ x. run stepped (Ok x) own.added) (sym same) ∙ led_run stepped (IsMade n) own.added q r own.led ∙ sym to;
             free = subst (Behind own.added) (sym goes) (own.added, r, own.led, to, λ g i. i);
             still = λ apart. none.1;
             few = in_few own.added own.few;
@@ -218,7 +218,7 @@ module _ (kept : Kept) (first : Place) (n : AtOnce) (most : ℕ) (found answers 
       let u = each i a e in
       let there = all_at (search.IsRight (leapt n) report_at kept.places kept.faults first) found u.number u.answer u.at h in
       subst (λ (l : Landing). search.LeadsTo stepped report_at kept.places kept.faults first a.schedule.items l) (sym u.end)
-      (leads_up stepped (MayOwn n.stores) (may_are_free n.stores) (leapt n) (leaps n) report_at size reports_grow kept.places kept.faults first a.schedule.items
+      (leads_up stepped (IsMade n) (made_early n) (leapt n) (leaps n) report_at size reports_grow kept.places kept.faults first a.schedule.items
       u.answer.schedule.items u.answer.end u.entries.leads there))
 
   pub few : All (search.IsNumbered 1000) answers
@@ -250,13 +250,13 @@ module _ (kept : Kept) (first : Place) (n : AtOnce) (most : ℕ) (found answers 
     pub all_covered : ((t : List ℕ) → search.IsCovered (leapt n) report_at kept.places kept.faults found (run (leapt n) (Ok first) t)) →
         (s : List ℕ) → search.IsCovered stepped report_at kept.places kept.faults answers (run stepped (Ok first) s)
     all_covered h s = covered_so (run stepped (Ok first) s)
-        (covers stepped (MayOwn n.stores) (may_are_free n.stores) (leapt n) (leaps n) report_at size reports_grow kept.places kept.faults found first h s)
+        (covers stepped (IsMade n) (made_early n) (leapt n) (leaps n) report_at size reports_grow kept.places kept.faults found first h s)
 
     pub all_onward : ((t : List ℕ) → (more : List ℕ) ×
         search.IsEnd (leapt n) report_at kept.places kept.faults found (run (leapt n) (Ok first) (t ++ more))) → (s : List ℕ) → (more : List ℕ) ×
         search.IsEnd stepped report_at kept.places kept.faults answers (run stepped (Ok first) (s ++ more))
     all_onward h s =
-        let on = goes_onward stepped (MayOwn n.stores) (may_are_free n.stores) (leapt n) (leaps n) report_at size reports_grow kept.places kept.faults found first h s in
+        let on = goes_onward stepped (IsMade n) (made_early n) (leapt n) (leaps n) report_at size reports_grow kept.places kept.faults found first h s in
         (on.0, end_so (run stepped (Ok first) (s ++ on.0)) on.1)
 
 -- ---- ends at different numbers

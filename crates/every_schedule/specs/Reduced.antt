@@ -1,5 +1,6 @@
 -- Own moves, which the reduced exploration makes at once after each entry: no other fiber can see or influence them.
-use Rattle.std.specs.Prelude.{◌≡◌, ◌<◌, ℕ, zero, suc, nat_eq, nat_lt, Bool, true, false, not, ◌&&◌, ◌||◌, is_none, List, [], ◌∷◌}
+use Rattle.std.specs.Prelude.{◌≡◌, ◌⊎◌, ◌<◌, ℕ, zero, suc, nat_eq, nat_lt, Bool, true, false, not, ◌&&◌, ◌||◌}
+use Rattle.std.specs.Prelude.{is_none, List, [], ◌∷◌}
 use Rattle.std.specs.Prelude.{length, Option, Some, None}
 use Rattle.std.specs.Prelude.{Result, Ok, Err}
 use Rattle.std.specs.List.{slice_get}
@@ -13,6 +14,7 @@ use Rattle.derived_ops.specs.Naming as naming
 use Rattle.derived_ops.specs.Naming.{A_fiber, A_ref, A_deferred, No_handle}
 use Rattle.fiber_frames.specs.declared.uses.Use.{Use}
 use Rattle.fiber_frames.specs.declared.uses.Use.TheVariants.{Cancels, Joins, Gets, Stores, Completes, Awaits}
+use Rattle.fiber_frames.specs.declared.uses.Use.TheVariants.{Starts, MakesRefs, MakesDeferreds}
 use Rattle.fiber_frames.specs.Fiber.{Fiber, ask_of, waits_alone}
 use Rattle.fiber_frames.specs.Uses.{is_some, used_place, uses_in}
 use Rattle.scheduled_core.specs.declared.wish.Wish.{Wish}
@@ -114,7 +116,24 @@ abbrev pub has_own : World → ℕ → Option Fiber → Bool
 has_own w f None = false
 has_own w f (Some g) = is_own w f g (wish_of (ask_of g))
 
--- the fiber of this number, if its next move is an own move
+-- The call is a birth of fiber f: a start, a new ref or a new deferred, and no other fiber can still make one. The
+-- number that it is given is the same, whenever it is made
+abbrev pub is_birth_call : World → ℕ → Call → Bool
+is_birth_call w f Start = others (keeps Starts 0) f 0 w.fibers
+is_birth_call w f NewRef = others (keeps MakesRefs 0) f 0 w.fibers
+is_birth_call w f NewDeferred = others (keeps MakesDeferreds 0) f 0 w.fibers
+is_birth_call w f _ = false
+
+abbrev pub is_birth : World → ℕ → Wish → Bool
+is_birth w f (Shared c) = is_birth_call w f c
+is_birth w f _ = false
+
+-- the fiber of this number is born, and its next move is a birth
+abbrev pub has_birth : World → ℕ → Option Fiber → Bool
+has_birth w f None = false
+has_birth w f (Some g) = is_birth w f (wish_of (ask_of g))
+
+-- the fiber of this number, if its next move is made at once
 abbrev pub if_own : Bool → ℕ → Option ℕ
 if_own true f = Some f
 if_own false f = None
@@ -123,13 +142,18 @@ if_own false f = None
 abbrev pub may_be : Bool → Option Fiber → Bool
 may_be stores o = stores || is_none (stored_by o)
 
-abbrev pub is_made : Bool → World → ℕ → Bool
-is_made stores w f = has_own w f (slice_get w.fibers f) && may_be stores (slice_get w.fibers f)
+-- the fiber's next move is an own move that is allowed at once
+abbrev pub is_own_at_once : Bool → World → ℕ → Bool
+is_own_at_once stores w f = has_own w f (slice_get w.fibers f) && may_be stores (slice_get w.fibers f)
 
-abbrev pub own_of : Bool → Place → ℕ → Option ℕ
-own_of stores p f = if_own (is_made stores p.world f) f
+-- the fiber's next move is such a move, or a birth, if births are allowed
+abbrev pub is_made : AtOnce → World → ℕ → Bool
+is_made n w f = is_own_at_once n.stores w f || (n.births && has_birth w f (slice_get w.fibers f))
 
--- an own move is made, unless its call is refused
+abbrev pub own_of : AtOnce → Place → ℕ → Option ℕ
+own_of n p f = if_own (is_made n p.world f) f
+
+-- the move is made, unless its call is refused
 abbrev pub or_stays : Place → Result Place RunError → Place
 or_stays p (Ok q) = q
 or_stays p (Err e) = p
@@ -138,44 +162,48 @@ abbrev pub after_own : Place → Option ℕ → Place
 after_own p None = p
 after_own p (Some f) = or_stays p (stepped p f)
 
--- one own move of each of the first n fibers that has one, the last fiber first
-unfoldable pub swept : Bool → ℕ → Place → Place
-swept stores zero p = p
-swept stores (suc n) p = swept stores n (after_own p (own_of stores p n))
+-- one such move of each of the first n fibers that has one, the last fiber first
+unfoldable pub swept : AtOnce → ℕ → Place → Place
+swept m zero p = p
+swept m (suc n) p = swept m n (after_own p (own_of m p n))
 
--- one own move of each fiber that has one
-abbrev pub pushed_once : Bool → Place → Place
-pushed_once stores p = swept stores (length p.world.fibers) p
+-- one such move of each fiber that has one
+abbrev pub pushed_once : AtOnce → Place → Place
+pushed_once m p = swept m (length p.world.fibers) p
 
--- at most n own moves of each fiber
-unfoldable pub pushed : Bool → ℕ → Place → Place
-pushed stores zero p = p
-pushed stores (suc n) p = pushed stores n (pushed_once stores p)
+-- at most n such moves of each fiber
+unfoldable pub pushed : AtOnce → ℕ → Place → Place
+pushed m zero p = p
+pushed m (suc n) p = pushed m n (pushed_once m p)
 
--- where an entry has led, followed by own moves
+-- where an entry has led, followed by such moves
 abbrev pub behind : AtOnce → Result Place RunError → Result Place RunError
-behind n (Ok q) = Ok (pushed n.stores n.most q)
+behind n (Ok q) = Ok (pushed n n.most q)
 behind n (Err e) = Err e
 
 abbrev pub leapt_by : AtOnce → Place → ℕ → Option Fiber → Result Place RunError
 leapt_by n p f None = Ok p
 leapt_by n p f (Some g) = behind n (stepped p f)
 
--- the entry of a fiber, if it is born, followed by own moves
+-- the entry of a fiber, if it is born, followed by such moves
 abbrev pub leapt : AtOnce → Place → ℕ → Result Place RunError
 leapt n p f = leapt_by n p f (slice_get p.world.fibers f)
 
--- up to 100 own moves of each fiber
+-- up to 100 own moves and births of each fiber
 abbrev pub hundred : AtOnce
-hundred = record { most = 100; stores = true }
+hundred = record { most = 100; stores = true; births = true }
 
--- up to 100 own moves of each fiber, none of which sets or changes a ref
+-- up to 100 own moves of each fiber
+abbrev pub hundred_own : AtOnce
+hundred_own = record { most = 100; stores = true; births = false }
+
+-- up to 100 own moves and births of each fiber, none of which sets or changes a ref
 abbrev pub hundred_still : AtOnce
-hundred_still = record { most = 100; stores = false }
+hundred_still = record { most = 100; stores = false; births = true }
 
 -- no own moves
 abbrev pub none_at_once : AtOnce
-none_at_once = record { most = 0; stores = true }
+none_at_once = record { most = 0; stores = true; births = false }
 
 -- the fiber's next move is an own move, and its call isn't refused
 pub record IsOwn (p : Place) (f : ℕ) : Type 0 where
@@ -187,3 +215,13 @@ pub record IsOwn (p : Place) (f : ℕ) : Type 0 where
 pub record MayOwn (stores : Bool) (p : Place) (f : ℕ) : Type 0 where
   pub own : IsOwn p f
   pub may : may_be stores (slice_get p.world.fibers f) ≡ true
+
+-- the fiber's next move is a birth, and its call isn't refused
+pub record IsBirth (p : Place) (f : ℕ) : Type 0 where
+  pub birth : has_birth p.world f (slice_get p.world.fibers f) ≡ true
+  pub next : Place
+  pub goes : entering p f ≡ Ok next
+
+-- the fiber's next move is made at once
+abbrev pub IsMade : AtOnce → Place → ℕ → Type 0
+IsMade n p f = MayOwn n.stores p f ⊎ ((n.births ≡ true) × IsBirth p f)

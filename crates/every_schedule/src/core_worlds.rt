@@ -36,6 +36,7 @@ use world_search::{Entered, Landing, Worlds};
 pub(crate) const NONE: AtOnce = AtOnce {
     most: 0,
     stores: true,
+    births: false,
 };
 
 /// All worlds and faults that were found. The states of fibers and registries are kept once, and a world is a row of

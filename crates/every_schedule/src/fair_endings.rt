@@ -7,7 +7,7 @@ ghost use Rattle.fair_ends.specs.declared.ending.Cycle.{Cycle as TheCycle};
 ghost use Rattle.fair_ends.specs.Fair.{IsFair};
 ghost use Rattle.every_schedule.specs.Fairness.{Ends, IsForever};
 
-use crate::reduced_worlds::ReducedWorlds;
+use crate::ending_worlds::EndingWorlds;
 use cell_registry::{Limits, RunError};
 use effect_term::Program;
 use fair_ends::{Ending, decide_ends};
@@ -47,7 +47,7 @@ pub fn explore_ends<V: Watcher>(
     ensures watches { V.can_stop watcher.new ≡ V.can_stop watcher.old }
     ensures memory { IfErr result (λ e. e ≡ RunError.NoMemory) }
 {
-    let mut worlds = ReducedWorlds::new(alloc, program, limits)?;
+    let mut worlds = EndingWorlds::new(alloc, program, limits)?;
     let ending = decide_ends(alloc, &mut worlds, bounds, watcher)?;
     Ok(ending)
 }

@@ -33,7 +33,7 @@ pub(crate) struct Known {
     pub(crate) wish: Wish,
     pub(crate) waits_alone: bool,
     pub(crate) owned: Owned,
-    // The six uses of each number in turn, in the order of `code_of`. `None` for a use that wasn't looked up.
+    // The nine uses of each number in turn, in the order of `code_of`. `None` for a use that wasn't looked up.
     uses: Vec<Option<bool>>,
 }
 
@@ -60,7 +60,7 @@ impl Known {
         ensures exact { (given : Given) → NamedRun given fiber.now.running →
             result ≡ is_some (uses_in what number fiber.now.running) }
     {
-        let place = 6 * usize::from(number) + code_of(what);
+        let place = 9 * usize::from(number) + code_of(what);
         if place >= self.uses.len() {
             return fiber.uses(what, number);
         }
@@ -110,11 +110,11 @@ fn owned_by_call(call: Call) -> Owned
     }
 }
 
-// The number of a use, from 0 to 5.
+// The number of a use, from 0 to 8.
 #[inline(always)]
 fn code_of(what: Use) -> usize
     ensures code { result ≡ use_code what }
-    ensures few { result < 6 }
+    ensures few { result < 9 }
 {
     match what {
         Use::Cancels => 0,
@@ -123,6 +123,9 @@ fn code_of(what: Use) -> usize
         Use::Stores => 3,
         Use::Completes => 4,
         Use::Awaits => 5,
+        Use::Starts => 6,
+        Use::MakesRefs => 7,
+        Use::MakesDeferreds => 8,
     }
 }
 
@@ -130,7 +133,7 @@ fn code_of(what: Use) -> usize
 fn unknown(alloc: Global, many: u16) -> Result<Vec<Option<bool>>, AllocError>
     ensures { IfOk result (λ it. (g : Fiber) → TellUses g it.items) }
 {
-    let most = 6 * usize::from(many.min(MOST));
+    let most = 9 * usize::from(many.min(MOST));
     let mut uses = Vec::with_capacity(alloc, most)?;
     for _place in 0..most {
         uses.push(None)?;

@@ -3,10 +3,11 @@ ghost use Rattle.std.specs.Prelude.{◌≡◌, ◌≢◌, ◌⊎◌, ◌++◌, �
 ghost use Rattle.std.specs.Prelude.{IfErr, IfOk, OnOk};
 ghost use Rattle.std.specs.Prelude.{Ok as GoesWell, Err as Fails};
 ghost use Rattle.scheduled_core.specs.Fitting.{AllFit};
-ghost use Rattle.every_schedule.specs.Reduced.{after_own, is_made, leapt, own_of, pushed, pushed_once};
+ghost use Rattle.every_schedule.specs.Reduced.{after_own, is_made, is_own_at_once, leapt, own_of, pushed, pushed_once};
 ghost use Rattle.every_schedule.specs.Private.Standing.{IsOnward, IsSame, here};
 ghost use Rattle.every_schedule.specs.Private.Trails.{IsFirstOf, IsLeapTrail, IsOwnTrail};
 
+use crate::births::is_birth;
 use crate::current::Current;
 use crate::own_moves::{is_own_move, may_be_made};
 use cell_registry::RunError;
@@ -20,6 +21,8 @@ pub(crate) struct AtOnce {
     pub(crate) most: usize,
     /// Moves that set or change a ref are among them.
     pub(crate) stores: bool,
+    /// Births are among them: starts, new refs and new deferreds, while no other fiber can make one.
+    pub(crate) births: bool,
 }
 
 /// Makes the entry of a fiber, then the own moves that `at_once` allows. Adds these entries to the trail, also an entry
@@ -86,13 +89,13 @@ fn add(trail: &mut Vec<u16>, fiber: u16) -> Result<(), AllocError>
 fn push(current: &mut Current, at_once: AtOnce, trail: &mut Vec<u16>) -> Result<(), AllocError>
     requires { AllFit (here current.old).world }
     ensures onward { IsOnward current.old current.new }
-    ensures goes { OnOk result (here current.new ≡ pushed at_once.stores at_once.most (here current.old)) }
+    ensures goes { OnOk result (here current.new ≡ pushed at_once at_once.most (here current.old)) }
     ensures fits { OnOk result (AllFit (here current.new).world) }
-    ensures trail { OnOk result (IsOwnTrail at_once.stores trail.old.items trail.new.items (here current.old)
+    ensures trail { OnOk result (IsOwnTrail at_once trail.old.items trail.new.items (here current.old)
         (here current.new)) }
 {
     for _move in 0..at_once.most {
-        let moved = push_once(&mut *current, at_once.stores, &mut *trail)?;
+        let moved = push_once(&mut *current, at_once, &mut *trail)?;
         if !moved {
             return Ok(());
         }
@@ -101,20 +104,24 @@ fn push(current: &mut Current, at_once: AtOnce, trail: &mut Vec<u16>) -> Result<
 }
 
 // Makes one own move of each fiber that has one, the last fiber first. Returns whether any was made.
-fn push_once(current: &mut Current, stores: bool, trail: &mut Vec<u16>) -> Result<bool, AllocError>
+fn push_once(
+    current: &mut Current,
+    at_once: AtOnce,
+    trail: &mut Vec<u16>,
+) -> Result<bool, AllocError>
     requires { AllFit (here current.old).world }
     ensures onward { IsOnward current.old current.new }
-    ensures goes { OnOk result (here current.new ≡ pushed_once stores (here current.old)) }
-    ensures stays { IfOk result (λ it. it ≡ false → pushed_once stores (here current.new) ≡ here current.new) }
+    ensures goes { OnOk result (here current.new ≡ pushed_once at_once (here current.old)) }
+    ensures stays { IfOk result (λ it. it ≡ false → pushed_once at_once (here current.new) ≡ here current.new) }
     ensures fits { OnOk result (AllFit (here current.new).world) }
-    ensures trail { OnOk result (IsOwnTrail stores trail.old.items trail.new.items (here current.old)
+    ensures trail { OnOk result (IsOwnTrail at_once trail.old.items trail.new.items (here current.old)
         (here current.new)) }
 {
     let born = few_born(&*current);
     let mut moved = false;
     for done in 0..born {
         let fiber = (born - 1 - done) as u16;
-        let made = push_fiber(&mut *current, stores, fiber, &mut *trail)?;
+        let made = push_fiber(&mut *current, at_once, fiber, &mut *trail)?;
         moved = either(moved, made);
     }
     Ok(moved)
@@ -130,20 +137,21 @@ fn either(one: bool, other: bool) -> bool
 // Makes an own move of this fiber, if it has one and its call isn't refused. Returns whether it was made.
 fn push_fiber(
     current: &mut Current,
-    stores: bool,
+    at_once: AtOnce,
     fiber: u16,
     trail: &mut Vec<u16>,
 ) -> Result<bool, AllocError>
     requires few { fiber < 1000 }
     requires fits { AllFit (here current.old).world }
     ensures onward { IsOnward current.old current.new }
-    ensures goes { OnOk result (here current.new ≡ after_own (here current.old) (own_of stores (here current.old) fiber)) }
+    ensures goes { OnOk result (here current.new ≡
+        after_own (here current.old) (own_of at_once (here current.old) fiber)) }
     ensures stays { IfOk result (λ it. it ≡ false → here current.new ≡ here current.old) }
     ensures fits { OnOk result (AllFit (here current.new).world) }
-    ensures trail { OnOk result (IsOwnTrail stores trail.old.items trail.new.items (here current.old)
+    ensures trail { OnOk result (IsOwnTrail at_once trail.old.items trail.new.items (here current.old)
         (here current.new)) }
 {
-    if !has_own_move(&mut *current, stores, fiber) {
+    if !has_own_move(&mut *current, at_once, fiber) {
         return Ok(false);
     }
     match current.enter(fiber) {
@@ -159,15 +167,33 @@ fn push_fiber(
     Ok(true)
 }
 
-// Whether a fiber is born, and its next move is an own move that is allowed at once.
-fn has_own_move(current: &mut Current, stores: bool, fiber: u16) -> bool
+// Whether a fiber is born, and its next move is an own move, or a birth, that is allowed at once.
+fn has_own_move(current: &mut Current, at_once: AtOnce, fiber: u16) -> bool
     requires { AllFit (here current.old).world }
     ensures same { IsSame current.old current.new }
-    ensures own { result ≡ is_made stores (here current.old).world fiber }
+    ensures own { result ≡ is_made at_once (here current.old).world fiber }
 {
-    usize::from(fiber) < few_born(&*current)
-        && is_own_move(&mut *current, fiber)
-        && may_be_made(&*current, stores, fiber)
+    if usize::from(fiber) >= few_born(&*current) {
+        return false;
+    }
+    if is_allowed(&mut *current, at_once.stores, fiber) {
+        return true;
+    }
+    if !at_once.births {
+        return false;
+    }
+    is_birth(current, fiber)
+}
+
+// Whether the next move of a fiber is an own move that is allowed at once.
+fn is_allowed(current: &mut Current, stores: bool, fiber: u16) -> bool
+    requires born { fiber < length (here current.old).world.fibers }
+    requires within { fiber < (here current.old).limits.fibers }
+    requires fits { AllFit (here current.old).world }
+    ensures same { IsSame current.old current.new }
+    ensures allowed { result ≡ is_own_at_once stores (here current.old).world fiber }
+{
+    is_own_move(&mut *current, fiber) && may_be_made(&*current, stores, fiber)
 }
 
 /// Whether memory ran out.

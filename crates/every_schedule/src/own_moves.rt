@@ -69,7 +69,7 @@ pub(crate) fn stored_by(world: &CoreWorld, by: u16) -> Option<u16>
 }
 
 /// The ref that a move with this wish sets or changes, if there is one.
-pub(crate) fn stored_in(wish: Wish) -> Option<u16>
+pub fn stored_in(wish: Wish) -> Option<u16>
     ensures { result ≡ the_stored wish }
 {
     match wish {
@@ -158,9 +158,9 @@ fn all_spare(current: &mut Current, what: Use, by: u16, number: u16) -> bool
     true
 }
 
-// Whether the fiber at this place is `by`, or can no longer use the number in this way.
+/// Whether the fiber at this place is `by`, or can no longer use the number in this way.
 #[inline(always)]
-fn spares(current: &mut Current, what: Use, by: u16, number: u16, place: usize) -> bool
+pub(crate) fn spares(current: &mut Current, what: Use, by: u16, number: u16, place: usize) -> bool
     requires place { place < length (here current.old).world.fibers }
     requires fits { AllFit (here current.old).world }
     ensures same { IsSame current.old current.new }

@@ -1,35 +1,29 @@
 //! The worlds that a reduced exploration has found, each with a number.
-ghost use Rattle.std.specs.Prelude.{◌≡◌, ◌<◌, [], ◌∷◌, length, IfOk, Some};
-ghost use Rattle.std.specs.List.{slice_get};
-ghost use Rattle.world_search.specs.Landings.{EntersAt};
-ghost use Rattle.world_search.specs.Lists.{IsMore};
+ghost use Rattle.std.specs.Prelude.{◌≡◌, [], ◌∷◌, IfOk};
 ghost use Rattle.derived_ops.specs.Expansion.{code_of};
 ghost use Rattle.derived_ops.specs.Reading.{source_of};
 ghost use Rattle.cell_registry.specs.Cells.{AreLimits};
-ghost use Rattle.every_schedule.specs.Places.{Place, first_place, stepped};
-ghost use Rattle.every_schedule.specs.Private.Trails.{MakesAtOnce};
-ghost use Rattle.every_schedule.specs.Reduced.{hundred, leapt};
+ghost use Rattle.every_schedule.specs.Places.{first_place};
 
 use crate::core_world::CoreWorld;
-use crate::core_worlds::{CoreWorlds, NONE};
+use crate::core_worlds::CoreWorlds;
 use crate::leaping::AtOnce;
 use cell_registry::{Limits, RunError};
 use effect_term::Program;
-use fair_ends::Made;
 use scheduled_core::Report;
 use std::alloc::{AllocError, Global};
 use world_search::{Entered, Worlds};
 
-/// The own moves that are made at once after an entry: up to 100 of each fiber.
+/// The moves that are made at once after an entry: up to 100 own moves and births of each fiber.
 pub(crate) const AT_ONCE: AtOnce = AtOnce {
     most: 100,
     stores: true,
+    births: true,
 };
 
 /// All worlds and faults that were found, where own moves follow each entry at once.
 #[derive(Drop)]
 pub(crate) struct ReducedWorlds {
-    alloc: Global,
     pub(crate) worlds: CoreWorlds,
     // The entries that the last step made.
     trail: Vec<u16>,
@@ -49,41 +43,9 @@ impl ReducedWorlds {
     {
         let worlds = CoreWorlds::new(alloc, program, limits)?;
         Ok(ReducedWorlds {
-            alloc,
             worlds,
             trail: Vec::new(alloc),
         })
-    }
-
-    /// Makes the entry of a fiber at a world, then own moves. Returns where they lead, and all these entries.
-    pub(crate) fn made(&mut self, world: usize, fiber: u16, most: usize) -> Result<Made, AllocError>
-        requires { world < length self.old.worlds.places }
-        ensures worlds { IsMore self.old.worlds.places self.new.worlds.places }
-        ensures lands { IfOk result (λ it. (p : Place) → slice_get self.old.worlds.places world ≡ Some p →
-            EntersAt self.new.worlds.places self.new.worlds.faults it.to (leapt hundred p fiber)) }
-        ensures makes { IfOk result (λ it. (p : Place) → slice_get self.old.worlds.places world ≡ Some p →
-            MakesAtOnce hundred p fiber it.entries.items) }
-    {
-        let mut entries = Vec::new(self.alloc);
-        let to = self
-            .worlds
-            .entry(world, fiber, most, AT_ONCE, &mut entries)?;
-        Ok(Made { to, entries })
-    }
-
-    /// Makes the entry of a fiber at a world, without own moves after it.
-    pub(crate) fn alone(
-        &mut self,
-        world: usize,
-        fiber: u16,
-        most: usize,
-    ) -> Result<Entered, AllocError>
-        requires { world < length self.old.worlds.places }
-        ensures worlds { IsMore self.old.worlds.places self.new.worlds.places }
-        ensures lands { IfOk result (λ it. (p : Place) → slice_get self.old.worlds.places world ≡ Some p →
-            EntersAt self.new.worlds.places self.new.worlds.faults it (stepped p fiber)) }
-    {
-        self.worlds.entry(world, fiber, most, NONE, &mut self.trail)
     }
 }
 

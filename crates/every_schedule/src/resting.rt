@@ -3,7 +3,7 @@ ghost use Rattle.std.specs.Prelude.{◌≡◌, ◌⊎◌, true, false};
 ghost use Rattle.scheduled_core.specs.Finals.{HasEnded, IsAtRest, IsFinal};
 ghost use Rattle.scheduled_core.specs.Fitting.{AllFit, Fits, cell_registered, world_of};
 
-use crate::reduced_worlds::ReducedWorlds;
+use crate::ending_worlds::EndingWorlds;
 use cell_registry::PlainRegistry;
 use effect_term::facts_of;
 use fair_ends::{Made, Resting};
@@ -12,15 +12,14 @@ use scheduled_core::{is_done, outcome};
 use std::alloc::AllocError;
 use world_search::Entered;
 
-impl Resting for ReducedWorlds {
+impl Resting for EndingWorlds {
     ghost use Rattle.scheduled_core.specs.Finals.{IsFinal as is_final};
     ghost use Rattle.every_schedule.specs.Places.{stepped};
-    ghost use Rattle.every_schedule.specs.Reduced.{MayOwn};
-    ghost use Rattle.std.specs.Prelude.{true};
+    ghost use Rattle.every_schedule.specs.Reduced.{IsMade, hundred_own};
 
     ghost entry = { stepped };
 
-    ghost free = { MayOwn true };
+    ghost free = { IsMade hundred_own };
 
     ghost rests = { λ p. is_final p.world };
 

@@ -22,11 +22,12 @@ use std::alloc::{AllocError, Global};
 use std::marker::Model;
 use world_search::{Claims, Entered, Landing, Worlds};
 
-/// The own moves that are made at once after an entry: none sets or changes a ref. So each value of a ref is that of a
-/// kept world.
+/// The moves that are made at once after an entry: births, and own moves that set or change no ref. So each value of a
+/// ref is that of a kept world.
 pub(crate) const STILL: AtOnce = AtOnce {
     most: 100,
     stores: false,
+    births: true,
 };
 
 /// All worlds and faults that were found. A world of the core can be kept several times, with different refs.
@@ -86,8 +87,9 @@ impl SeenWorlds {
     }
 }
 
-// Returns the refs that were set before, with the one that the next move sets, if there is one.
-fn seen_after(alloc: Global, seen: &[u16], stored: Option<u16>) -> Result<Vec<u16>, AllocError>
+/// Returns the refs that were set before (`seen`), in the order of their first sets, with the one that the next move
+/// sets (`stored`), if there is one.
+pub fn seen_after(alloc: Global, seen: &[u16], stored: Option<u16>) -> Result<Vec<u16>, AllocError>
     ensures { IfOk result (λ it. it.items ≡ noted seen.now stored) }
 {
     let mut after = Vec::from_slice(alloc, seen)?;

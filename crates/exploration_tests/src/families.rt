@@ -22,7 +22,7 @@ const FAMILIES: &[Family<'static>] = &[
             (repeat 2 (modify r 1)) (start f3 (repeat 2 (modify r 1)) (join f0 x0 (join f1 x1 (join \
             f2 x2 (join f3 x3 (get r) y3 (pure 8) (pure 9)) y2 (pure 8) (pure 9)) y1 (pure 8) (pure \
             9)) y0 (pure 8) (pure 9)))))))",
-        worlds: 437,
+        worlds: 320,
     },
     Family {
         what: "four fibers that read a ref and then set it",
@@ -31,7 +31,7 @@ const FAMILIES: &[Family<'static>] = &[
             (start f3 (let x (get r) (let y (add x 1) (set r y))) (join f0 x0 (join f1 x1 (join f2 \
             x2 (join f3 x3 (get r) y3 (pure 8) (pure 9)) y2 (pure 8) (pure 9)) y1 (pure 8) (pure 9)) \
             y0 (pure 8) (pure 9)))))))",
-        worlds: 1_812,
+        worlds: 1_520,
     },
     Family {
         what: "four philosophers",
@@ -45,7 +45,7 @@ const FAMILIES: &[Family<'static>] = &[
             (modify t0 1) (if0 t (pure 0) (await d0))) (complete d3 0) (complete d0 0)) (join f0 x0 \
             (join f1 x1 (join f2 x2 (join f3 x3 (pure 1) y3 (pure 8) (pure 9)) y2 (pure 8) (pure 9)) \
             y1 (pure 8) (pure 9)) y0 (pure 8) (pure 9))))))))))))))",
-        worlds: 875,
+        worlds: 600,
     },
     Family {
         what: "three fibers that each complete a deferred, and three that add what they await",
@@ -55,7 +55,7 @@ const FAMILIES: &[Family<'static>] = &[
             (join f0 x0 (join f1 x1 (join f2 x2 (join f3 x3 (join f4 x4 (join f5 x5 (get s) y5 (pure \
             8) (pure 9)) y4 (pure 8) (pure 9)) y3 (pure 8) (pure 9)) y2 (pure 8) (pure 9)) y1 (pure \
             8) (pure 9)) y0 (pure 8) (pure 9))))))))))))",
-        worlds: 1_437,
+        worlds: 1_008,
     },
     Family {
         what: "four brackets that are canceled",
@@ -63,12 +63,12 @@ const FAMILIES: &[Family<'static>] = &[
             (modify r 1) (say 7) (modify r -1)) (start f2 (bracket x (modify r 1) (say 7) (modify r \
             -1)) (start f3 (bracket x (modify r 1) (say 7) (modify r -1)) (seq (cancel f0) (cancel \
             f1) (cancel f2) (cancel f3) (get r)))))))",
-        worlds: 25_000,
+        worlds: 23_921,
     },
     Family {
         what: "a race of three",
         program: "(race (pure 1) (race (pure 2) (pure 3)))",
-        worlds: 1_875,
+        worlds: 1_626,
     },
     Family {
         what: "a pool of two permits for four fibers, of which one is canceled",
@@ -80,7 +80,7 @@ const FAMILIES: &[Family<'static>] = &[
             (modify u -1)) (seq (cancel f0) (join f0 x0 (join f1 x1 (join f2 x2 (join f3 x3 (get u) \
             y3 (pure 8) (pure 9)) y2 (pure 8) (pure 9)) y1 (pure 8) (pure 9)) y0 (pure 8) (pure \
             9))))))))",
-        worlds: 10_750,
+        worlds: 10_053,
     },
     Family {
         what: "a fiber that sets a ref twice, and two that read it twice",
@@ -88,7 +88,7 @@ const FAMILIES: &[Family<'static>] = &[
             (seq (say x) (say y)))) (start f2 (let x (get r) (let y (get r) (seq (say x) (say y)))) \
             (join f0 x0 (join f1 x1 (join f2 x2 (pure 0) y2 (pure 8) (pure 9)) y1 (pure 8) (pure 9)) \
             y0 (pure 8) (pure 9))))))",
-        worlds: 487,
+        worlds: 431,
     },
     Family {
         what: "six fibers, of which each waits for the one before",
@@ -96,13 +96,13 @@ const FAMILIES: &[Family<'static>] = &[
             f1 x (add x 1) y (pure 8) (pure 9)) (start f3 (join f2 x (add x 1) y (pure 8) (pure 9)) \
             (start f4 (join f3 x (add x 1) y (pure 8) (pure 9)) (start f5 (join f4 x (add x 1) y \
             (pure 8) (pure 9)) (join f5 x (pure x) y (pure 8) (pure 9))))))))",
-        worlds: 37,
+        worlds: 8,
     },
     Family {
         what: "both of three",
         program: "(ref r 0 (both (modify r 1) (both (modify r 1) (modify r 1) x y (add x y)) x y (add x \
             y)))",
-        worlds: 4_625,
+        worlds: 4_502,
     },
     Family {
         what: "four fibers that complete one deferred",
@@ -110,7 +110,7 @@ const FAMILIES: &[Family<'static>] = &[
             (await d)) (start f2 (seq (complete d 2) (await d)) (start f3 (seq (complete d 3) (await \
             d)) (join f0 x0 (join f1 x1 (join f2 x2 (join f3 x3 (await d) y3 (pure 8) (pure 9)) y2 \
             (pure 8) (pure 9)) y1 (pure 8) (pure 9)) y0 (pure 8) (pure 9)))))))",
-        worlds: 131,
+        worlds: 81,
     },
 ];
 

@@ -19,6 +19,9 @@ of_zero Use.Gets Use.Gets x y f h = f h
 of_zero Use.Stores Use.Stores x y f h = f h
 of_zero Use.Completes Use.Completes x y f h = f h
 of_zero Use.Awaits Use.Awaits x y f h = f h
+of_zero Use.Starts Use.Starts x y f h = f h
+of_zero Use.MakesRefs Use.MakesRefs x y f h = f h
+of_zero Use.MakesDeferreds Use.MakesDeferreds x y f h = f h
 of_zero _ _ x y f h = refl
 
 pub none_first : (a b : ℕ) → a + b ≡ 0 → a ≡ 0
@@ -113,10 +116,13 @@ module _ (u : Use) (n : ℕ) where
     tree_put a b r (If0 v s e) z = two_put _ _ _ _ (tree_put a b r s) (tree_put a b r e) z
     tree_put a b r (Join f x s y e c) z =
         two_put _ _ _ _ (use_put Use.Joins a b r f) (λ more. two_put _ _ _ _ (tree_put a b r s) (λ rest. two_put _ _ _ _ (tree_put a b r e) (tree_put a b r c) rest) more) z
-    tree_put a b r (Make (New_ref v) x k) z = tree_put (under_binder u A_ref x a) (under_binder u A_ref x b) (down a b r A_ref x) k z
-    tree_put a b r (Make New_deferred x k) z = tree_put (under_binder u A_deferred x a) (under_binder u A_deferred x b) (down a b r A_deferred x) k z
+    tree_put a b r (Make (New_ref v) x k) z =
+        two_put _ _ _ _ (λ made. made) (tree_put (under_binder u A_ref x a) (under_binder u A_ref x b) (down a b r A_ref x) k) z
+    tree_put a b r (Make New_deferred x k) z =
+        two_put _ _ _ _ (λ made. made) (tree_put (under_binder u A_deferred x a) (under_binder u A_deferred x b) (down a b r A_deferred x) k) z
     tree_put a b r (Start x e k) z =
-        two_put _ _ _ _ (tree_put a b r e) (tree_put (under_binder u A_fiber x a) (under_binder u A_fiber x b) (down a b r A_fiber x) k) z
+        two_put _ _ _ _ (λ made. made)
+        (λ more. two_put _ _ _ _ (tree_put a b r e) (tree_put (under_binder u A_fiber x a) (under_binder u A_fiber x b) (down a b r A_fiber x) k) more) z
     tree_put a b r (Loop t e) z = tree_put a b r e z
     tree_put a b r (Uncancelable x e) z = tree_put a b r e z
     tree_put a b r (Poll q e) z = tree_put a b r e z
@@ -192,6 +198,9 @@ module _ (u : Use) (n : ℕ) where
   Useless (Ask.Modify r v) = ⊥
   Useless (Ask.Complete d v) = ⊥
   Useless (Ask.Read d) = ⊥
+  Useless Ask.Start = ⊥
+  Useless Ask.NewRef = ⊥
+  Useless Ask.NewDeferred = ⊥
   Useless a = Unit {0}
 
   useless : (i : ℕ) (a : Ask) → Useless a → AskApart u n i a
@@ -202,6 +211,9 @@ module _ (u : Use) (n : ℕ) where
   useless i (Ask.Modify r v) h = absurd h
   useless i (Ask.Complete d v) h = absurd h
   useless i (Ask.Read d) h = absurd h
+  useless i Ask.Start h = absurd h
+  useless i Ask.NewRef h = absurd h
+  useless i Ask.NewDeferred h = absurd h
   useless i _ h = tt
 
   -- a handle whose use counts nothing is another number
@@ -219,6 +231,10 @@ module _ (u : Use) (n : ℕ) where
 
   used_apart : (v : Use) (h : Handle) → of_use u v (handle_count n all_open h) ≡ 0 → u ≡ v → handle_number h ≢ n
   used_apart v h z e = known_apart h (sym (of_same v (handle_count n all_open h)) ∙ subst (λ w. of_use w v (handle_count n all_open h) ≡ 0) e z)
+
+  -- what makes nothing of a kind isn't a word that makes it
+  made_apart : (v : Use) → of_use u v 1 ≡ 0 → u ≢ v
+  made_apart v z e = let one : ◌≡◌ {A = ℕ} 1 0 = sym (of_same v 1) ∙ subst (λ w. of_use w v 1 ≡ 0) e z in absurd (omega (arith, one))
 
   module _ (i next : ℕ) (r : Reply) where
     -- a row that runs on so, and uses nothing
@@ -301,12 +317,20 @@ module _ (u : Use) (n : ℕ) where
       asks = used_apart Use.Joins f (none_first _ _ h);
     }
     row_unused (Make (New_ref w) x k) up h = record {
-      becomes = λ g. none_both _ _ (stored_zero u n (number_in r) g) (unused_handle x (number_in r) A_ref k g h);
+      becomes = λ g. none_both _ _ (stored_zero u n (number_in r) g) (unused_handle x (number_in r) A_ref k g (none_second _ _ h));
       born = tt;
-      asks = tt;
+      asks = made_apart Use.MakesRefs (none_first _ _ h);
     }
-    row_unused (Make New_deferred x k) up h = record { becomes = λ g. unused_handle x (number_in r) A_deferred k g h; born = tt; asks = tt }
-    row_unused (Start x e k) up h = record { becomes = λ g. unused_handle x (number_in r) A_fiber k g (none_second _ _ h); born = none_first _ _ h; asks = tt }
+    row_unused (Make New_deferred x k) up h = record {
+      becomes = λ g. unused_handle x (number_in r) A_deferred k g (none_second _ _ h);
+      born = tt;
+      asks = made_apart Use.MakesDeferreds (none_first _ _ h);
+    }
+    row_unused (Start x e k) up h = record {
+      becomes = λ g. unused_handle x (number_in r) A_fiber k g (none_second _ _ (none_second _ _ h));
+      born = none_first _ _ (none_second _ _ h);
+      asks = made_apart Use.Starts (none_first _ _ h);
+    }
     row_unused (Loop m e) up h = on _ tt tt (looped_unused m e h)
     row_unused (Uncancelable x e) up h = on _ tt tt (unused_mask x i next e h)
     row_unused (Poll q e) up h = on _ (switch_useless _ Ask.Unmask tt) tt h

@@ -26,8 +26,8 @@ module _ (u : Use) (n : ℕ) (es : List EnvEntry) (level : ℕ) where
         let y = first (omega arith) (m + 1) in
         let z = next (omega arith) (m + 1) in
         (m, omega (arith, own, y, z))
-    word_front (CoreWord.Make k) some own first next = (m + 1, refl)
-    word_front (CoreWord.Start j) some own first next = let z = first (omega arith) m in (m + 1, omega (arith, z))
+    word_front (CoreWord.Make k) some own first next = (m + 1, omega (arith, own))
+    word_front (CoreWord.Start j) some own first next = let z = first (omega arith) m in (m + 1, omega (arith, own, z))
     word_front (CoreWord.Loop t) some own first next = (m, refl)
     word_front CoreWord.Uncancelable some own first next = (m + 1, refl)
     word_front (CoreWord.Poll q) some own first next = (m, refl)
@@ -38,6 +38,8 @@ module _ (u : Use) (n : ℕ) (es : List EnvEntry) (level : ℕ) where
     word_own (CoreWord.Act o) own = own
     word_own (CoreWord.Cancel f) own = own
     word_own (CoreWord.Join f j l) own = omega (arith, own)
+    word_own (CoreWord.Make k) own = omega (arith, own)
+    word_own (CoreWord.Start j) own = omega (arith, own)
     word_own _ own = absurd (omega (arith, own))
 
     word_first : (w : CoreWord) → 1 < many_parts w → ((j : ℕ) → 0 < hits (a j)) → 0 < hits (word_tree w m a b c)

@@ -12,7 +12,7 @@ use Rattle.fiber_frames.specs.declared.uses.Use.TheVariants as use_of
 use Rattle.fiber_frames.specs.Env.{close, env_of}
 use Rattle.fiber_frames.specs.Path.{PathStep, In_let, In_seq, In_handle, In_guarded, In_masked, In_polled}
 use Rattle.fiber_frames.specs.Path.{Running, Runs, Final, Over, Broken}
-use Rattle.fiber_frames.specs.Uses.{of_use}
+use Rattle.fiber_frames.specs.Uses.{making, of_use}
 
 abbrev pub hit : ℕ → Handle → ℕ
 hit n (Known m) = if nat_eq m n then 1 else 0
@@ -45,8 +45,8 @@ module _ (u : Use) (n : ℕ) where
   tree_hits (Handled e x h) = tree_hits e + tree_hits h
   tree_hits (If0 v s e) = tree_hits s + tree_hits e
   tree_hits (Join f x s y e c) = of_use u use_of.Joins (hit n f) + (tree_hits s + (tree_hits e + tree_hits c))
-  tree_hits (Make m x k) = tree_hits k
-  tree_hits (Start x e k) = tree_hits e + tree_hits k
+  tree_hits (Make m x k) = of_use u (making m) 1 + tree_hits k
+  tree_hits (Start x e k) = of_use u use_of.Starts 1 + (tree_hits e + tree_hits k)
   tree_hits (Loop t e) = tree_hits e
   tree_hits (Uncancelable x e) = tree_hits e
   tree_hits (Poll q e) = tree_hits e

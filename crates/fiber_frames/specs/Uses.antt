@@ -1,8 +1,9 @@
--- How often the rest of a fiber uses a fiber, a ref or a deferred in one way.
+-- How often the rest of a fiber uses a fiber, a ref or a deferred in one way, and how often it makes one.
 use Rattle.std.specs.Prelude.{◌≡◌, ◌≢◌, ◌⊎◌, ℕ, zero, suc, ◌+◌, Bool, true, false, nat_eq, if◌then◌else◌, List, [], ◌∷◌}
 use Rattle.effect_term.specs.declared.reply.Reply.{Reply}
 use Rattle.derived_ops.specs.Tree.{Handle, Known, Open_slot, Action, Request, Ending, Get, Set, Modify, Complete}
 use Rattle.derived_ops.specs.Tree.{Await, Tree, Pure, Raise, Act, Note, Cancel, Let, Seq, Handled, If0, Join, Make}
+use Rattle.derived_ops.specs.Tree.{Maker, New_deferred, New_ref}
 use Rattle.derived_ops.specs.Tree.{Start, Loop, Uncancelable, Poll, On_cancel, Masked, Polled, Guarded}
 use Rattle.derived_ops.specs.Naming.{Place, A_fiber, A_ref, A_deferred, made_by}
 use Rattle.fiber_frames.specs.declared.ask.Ask.{Ask}
@@ -12,7 +13,7 @@ use Rattle.fiber_frames.specs.declared.uses.Use.{Use}
 use Rattle.fiber_frames.specs.declared.uses.Use.TheVariants as use_of
 use Rattle.fiber_frames.specs.Path.{Running, Runs, Final, Over, Broken}
 
--- the kind of what is used
+-- the kind of what is used or made
 abbrev pub used_place : Use → Place
 used_place use_of.Cancels = A_fiber
 used_place use_of.Joins = A_fiber
@@ -20,6 +21,9 @@ used_place use_of.Gets = A_ref
 used_place use_of.Stores = A_ref
 used_place use_of.Completes = A_deferred
 used_place use_of.Awaits = A_deferred
+used_place use_of.Starts = A_fiber
+used_place use_of.MakesRefs = A_ref
+used_place use_of.MakesDeferreds = A_deferred
 
 -- what binds a slot: no binder around it, a binder of the kind that is used, or another binder
 pub data Bound : Type 0 where
@@ -66,7 +70,15 @@ of_use use_of.Gets use_of.Gets x = x
 of_use use_of.Stores use_of.Stores x = x
 of_use use_of.Completes use_of.Completes x = x
 of_use use_of.Awaits use_of.Awaits x = x
+of_use use_of.Starts use_of.Starts x = x
+of_use use_of.MakesRefs use_of.MakesRefs x = x
+of_use use_of.MakesDeferreds use_of.MakesDeferreds x = x
 of_use _ _ x = 0
+
+-- what a maker does
+abbrev pub making : Maker → Use
+making (New_ref v) = use_of.MakesRefs
+making New_deferred = use_of.MakesDeferreds
 
 module _ (u : Use) (n : ℕ) where
   -- the uses by an act; after the request of a `cancel` only its wait is left
@@ -93,8 +105,8 @@ module _ (u : Use) (n : ℕ) where
   tree_uses b (If0 v s e) = tree_uses b s + tree_uses b e
   tree_uses b (Join f x s y e c) =
       of_use u use_of.Joins (handle_count n b f) + (tree_uses b s + (tree_uses b e + tree_uses b c))
-  tree_uses b (Make m x k) = tree_uses (under u (made_by m) x b) k
-  tree_uses b (Start x e k) = tree_uses b e + tree_uses (under u A_fiber x b) k
+  tree_uses b (Make m x k) = of_use u (making m) 1 + tree_uses (under u (made_by m) x b) k
+  tree_uses b (Start x e k) = of_use u use_of.Starts 1 + (tree_uses b e + tree_uses (under u A_fiber x b) k)
   tree_uses b (Loop t e) = tree_uses b e
   tree_uses b (Uncancelable x e) = tree_uses b e
   tree_uses b (Poll q e) = tree_uses b e
@@ -118,7 +130,7 @@ module _ (u : Use) (n : ℕ) where
   abbrev pub Apart : Place → ℕ → Type 0
   Apart c m = used_place u ≡ c → m ≢ n
 
-  -- an ask of fiber i uses another number in this way, or i itself
+  -- an ask of fiber i uses another number in this way, or i itself; one that makes something isn't such a use
   abbrev pub AskApart : ℕ → Ask → Type 0
   AskApart i (ask.Cancel f) = u ≡ use_of.Cancels → (f ≡ i) ⊎ (f ≢ n)
   AskApart i (ask.Join f) = u ≡ use_of.Joins → f ≢ n
@@ -127,6 +139,9 @@ module _ (u : Use) (n : ℕ) where
   AskApart i (ask.Modify r v) = u ≡ use_of.Stores → r ≢ n
   AskApart i (ask.Complete d v) = u ≡ use_of.Completes → d ≢ n
   AskApart i (ask.Read d) = u ≡ use_of.Awaits → d ≢ n
+  AskApart i ask.Start = u ≢ use_of.Starts
+  AskApart i ask.NewRef = u ≢ use_of.MakesRefs
+  AskApart i ask.NewDeferred = u ≢ use_of.MakesDeferreds
   AskApart i _ = Unit {0}
 
   -- if the reply to the ask is a number, it is another one

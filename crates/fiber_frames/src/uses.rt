@@ -1,4 +1,4 @@
-//! Whether the rest of a fiber uses a fiber, a ref or a deferred.
+//! Whether the rest of a fiber uses a fiber, a ref or a deferred, or makes one.
 
 ghost use Rattle.std.specs.Prelude.{◌≡◌, ◌<◌, ◌^◌, ℕ, length, true, false};
 ghost use Rattle.derived_ops.specs.Cores.{action_in_core};
@@ -17,9 +17,9 @@ use crate::frame::{Frame, Place, RunStage};
 use crate::kind::WordKind;
 use crate::machine::Machine;
 use crate::slots::{parts_of, second};
-use derived_ops::{Action, CoreWord};
+use derived_ops::{Action, CoreWord, Maker};
 
-/// A way to use a fiber, a ref or a deferred.
+/// A way to use a fiber, a ref or a deferred, or to make one, whatever its number.
 #[derive(Clone, Copy, PartialEq, Eq)]
 pub enum Use {
     /// The cancellation of a fiber is requested.
@@ -34,6 +34,12 @@ pub enum Use {
     Completes,
     /// A deferred's value is waited for.
     Awaits,
+    /// A fiber is started.
+    Starts,
+    /// A ref is made.
+    MakesRefs,
+    /// A deferred is made.
+    MakesDeferreds,
 }
 
 /// A use that is looked for: the way, and the number that is used.
@@ -73,6 +79,8 @@ fn is_use(one: Use, other: Use) -> bool
         (Use::Cancels, Use::Cancels) | (Use::Joins, Use::Joins) => true,
         (Use::Gets, Use::Gets) | (Use::Stores, Use::Stores) => true,
         (Use::Completes, Use::Completes) | (Use::Awaits, Use::Awaits) => true,
+        (Use::Starts, Use::Starts) | (Use::MakesRefs, Use::MakesRefs) => true,
+        (Use::MakesDeferreds, Use::MakesDeferreds) => true,
         _ => false,
     }
 }
@@ -109,7 +117,10 @@ fn word_uses(word: &CoreWord, env: &[EnvEntry], level: usize, sought: Sought) ->
         CoreWord::Join(slot, _, _) => slot_uses(Use::Joins, *slot, env, level, sought),
         CoreWord::Pure(_) | CoreWord::Raise(_) | CoreWord::Note(_, _) => false,
         CoreWord::Let(_) | CoreWord::Seq(_, _) | CoreWord::Handle(_) => false,
-        CoreWord::If0(_, _) | CoreWord::Make(_) | CoreWord::Start(_) | CoreWord::Loop(_) => false,
+        CoreWord::Make(Maker::Ref(_)) => is_use(sought.what, Use::MakesRefs),
+        CoreWord::Make(Maker::Deferred) => is_use(sought.what, Use::MakesDeferreds),
+        CoreWord::Start(_) => is_use(sought.what, Use::Starts),
+        CoreWord::If0(_, _) | CoreWord::Loop(_) => false,
         CoreWord::Uncancelable | CoreWord::Poll(_) | CoreWord::OnCancel(_) => false,
     }
 }

@@ -519,6 +519,31 @@ fn a_use_of_each_kind_is_told(rt: HostRuntime) -> Result<(), Fail> {
     Ok(())
 }
 
+// Numbers of moves, and whether the rest of the fiber or of its child can still start a fiber, make a ref, make a
+// deferred. The moves are a look and the start, a look and the new deferred.
+const MAKES: &[(u32, [bool; 3])] = &[
+    (0, [true, true, true]),
+    (1, [true, true, true]),
+    (2, [false, false, true]),
+    (3, [false, false, true]),
+    (4, [false, false, false]),
+];
+
+#[test]
+fn what_can_still_be_made_is_told(rt: HostRuntime) -> Result<(), Fail> {
+    let program = b"(start f (ref r 0 (pure 1)) (deferred d (pure 2)))";
+    for (moves, left) in MAKES {
+        let config = moved_on(rt.alloc(), program.as_slice(), *moves)?;
+        for (what, is_left) in [Use::Starts, Use::MakesRefs, Use::MakesDeferreds]
+            .iter()
+            .zip(left.as_slice())
+        {
+            assert_eq!(rt; config.uses(*what, 0), *is_left, "{moves} moves");
+        }
+    }
+    Ok(())
+}
+
 #[test]
 fn a_never_waits_alone(rt: HostRuntime) -> Result<(), Fail> {
     let program = b"(seq (pure 1) (never))";

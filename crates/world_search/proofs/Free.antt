@@ -7,10 +7,11 @@ use Rattle.world_search.specs.declared.answers.Answer.{Answer}
 use Rattle.world_search.specs.declared.landings.Landing.{Landing}
 use Rattle.world_search.specs.declared.landings.Landing.TheVariants as to
 use Rattle.world_search.specs.Answers.{LeadsTo, Tells, IsAnswered, IsCovered, IsEnd}
-use Rattle.world_search.specs.Free.{Commutes, AreFree, Leads, Leaps, AreGrowing}
+use Rattle.world_search.specs.Free.{Commutes, AreEarly, AreFree, Leads, Leaps, AreGrowing}
 use Rattle.world_search.specs.Free.Leads.{Here, On}
 use Rattle.world_search.specs.Systems.{run, reported, IsSettled}
 use Rattle.world_search.proofs.Closed.{run-append}
+use Rattle.world_search.specs.declared.landings.Landing.TheVariants as to
 
 -- a fault stays
 pub run_fault : {W E : Type 0} (step : W → ℕ → Result W E) (e : E) (s : List ℕ) → run step (Err e) s ≡ Err e
@@ -57,12 +58,20 @@ module _ {W E R : Type 0} (step : W → ℕ → Result W E) (report : W → R) w
     grown [] w x r = let same : w ≡ x = cc in inl (ap report (sym same))
     grown (f ∷ s) w x r = grown_from s w x f (step w f) refl (λ v. grown s v x) r
 
+-- free moves can be made early
+pub early : {W E : Type 0} (step : W → ℕ → Result W E) (Free : W → ℕ → Type 0) → AreFree step Free → AreEarly step Free
+early step Free free = record { goes = free.goes; commutes = λ w f x h q g apart. inr (free.commutes w f x h q g apart) }
+
 module _ {W E : Type 0} (step : W → ℕ → Result W E) where
   -- some entries after y lead to where at most n entries lead from x
   abbrev Comes : W → Result W E → ℕ → Type 0
   Comes x y n = (t : List ℕ) × (more : List ℕ) × (length t ≤ n) × (run step y more ≡ run step (Ok x) t)
 
-  module _ (Free : W → ℕ → Type 0) (free : AreFree step Free) where
+  -- an entry that changes nothing is left out
+  idle_left_out : (s : List ℕ) (w x : W) (y : Result W E) → y ≡ Ok w → Comes x (run step (Ok w) s) (length s) → Comes x (run step y s) (suc (length s))
+  idle_left_out s w x y idle h = (h.0, h.1, omega (arith, h.2), ap (λ z. run step (run step z s) h.1) idle ∙ h.3)
+
+  module _ (Free : W → ℕ → Type 0) (free : AreEarly step Free) where
     ahead_from : (s : List ℕ) (x : W) (f g : ℕ) (y : Result W E) → ((y z : W) → Free y f → step y f ≡ Ok z → Comes z (run step (Ok y) s) (length s))
         → Commutes step Free f x g y → Comes x (run step y s) (suc (length s))
     ahead_from s x f g (Ok y) rest h =
@@ -75,7 +84,10 @@ module _ {W E : Type 0} (step : W → ℕ → Result W E) where
     ahead [] w x f h q = ([], f ∷ [], omega arith, q)
     ahead (g ∷ s) w x f h q = dite (ℕ_discrete g f)
         (λ is. (s, [], omega arith, ap (λ y. run step y s) (subst (λ n. step w n ≡ Ok x) (sym is) q)))
-        (λ isnt. ahead_from s x f g (step w g) (λ y z. ahead s y z f) (free.commutes w f x h q g isnt))
+        (λ isnt. elim (free.commutes w f x h q g isnt) [
+          | inl idle ↦ idle_left_out s w x (step w g) idle (ahead s w x f h q)
+          | inr pair ↦ ahead_from s x f g (step w g) (λ y z. ahead s y z f) pair
+        ])
 
     -- several free moves made earlier
     ahead_led : (w v : W) → Leads step Free w v → (s : List ℕ) → Comes v (run step (Ok w) s) (length s)

@@ -1,9 +1,9 @@
 -- What a reduced search shows of each world: if free moves keep a property of worlds, each world that a schedule leads to has the property of a world of the
 -- reduced system.
 use Rattle.std.proofs.Common.{◌≡◌, ℕ, zero, suc, ◌<◌, ◌≤◌, Bool, false, List, [], ◌∷◌, length, Result, Ok, Err, refl, sym, ap, ◌∙◌, subst, arith}
-use mathlib.Core.Logic.{dite}
+use mathlib.Core.Logic.{inl, inr, dite}
 use native.Mathlib.Decide.{ℕ_discrete}
-use Rattle.world_search.specs.Free.{AreFree, Commutes, Leads, Leaps}
+use Rattle.world_search.specs.Free.{AreEarly, Commutes, Leads, Leaps}
 use Rattle.world_search.specs.Free.Leads.{Here, On}
 use Rattle.world_search.specs.Systems.{run}
 use Rattle.world_search.proofs.Free.{run_fault}
@@ -23,7 +23,14 @@ module _ {W E : Type 0} (step : W → ℕ → Result W E) (Free : W → ℕ → 
   abbrev Joins : W → W → ℕ → Type 0
   Joins x v n = (t : List ℕ) × (u : W) × (length t ≤ n) × (run step (Ok x) t ≡ Ok u) × Leads step Free v u
 
-  module _ (free : AreFree step Free) where
+  module _ (free : AreEarly step Free) where
+    -- an entry that changes nothing is left out
+    idle_passed : (s : List ℕ) (w x v : W) (y : Result W E) → y ≡ Ok w → run step y s ≡ Ok v → (run step (Ok w) s ≡ Ok v → Joins x v (length s)) →
+        Joins x v (suc (length s))
+    idle_passed s w x v y idle led rest =
+        let i = rest (ap (λ z. run step z s) (sym idle) ∙ led) in
+        (i.0, i.1, omega (arith, i.2), i.3, i.4)
+
     joined_from : (s : List ℕ) (x : W) (f g : ℕ) (y : Result W E) →
         ((y z : W) → Free y f → step y f ≡ Ok z → (v : W) → run step (Ok y) s ≡ Ok v → Joins z v (length s)) → Commutes step Free f x g y →
         (v : W) → run step y s ≡ Ok v → Joins x v (suc (length s))
@@ -39,7 +46,10 @@ module _ {W E : Type 0} (step : W → ℕ → Result W E) (Free : W → ℕ → 
         ([], x, omega arith, refl, subst (λ a. Leads step Free a x) same (On w f x x h q (Here x x refl)))
     joined (g ∷ s) w x f h q v led = dite (ℕ_discrete g f)
         (λ is. (s, v, omega arith, ap (λ y. run step y s) (sym (subst (λ n. step w n ≡ Ok x) (sym is) q)) ∙ led, Here v v refl))
-        (λ isnt. joined_from s x f g (step w g) (λ y z. joined s y z f) (free.commutes w f x h q g isnt) v led)
+        (λ isnt. elim (free.commutes w f x h q g isnt) [
+          | inl idle ↦ idle_passed s w x v (step w g) idle led (joined s w x f h q v)
+          | inr pair ↦ joined_from s x f g (step w g) (λ y z. joined s y z f) pair v led
+        ])
 
     -- several free moves made earlier
     joined_led : (w v : W) → Leads step Free w v → (s : List ℕ) (u : W) → run step (Ok w) s ≡ Ok u → Joins v u (length s)

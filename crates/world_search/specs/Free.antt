@@ -15,6 +15,12 @@ module _ {W E : Type 0} (step : W → ℕ → Result W E) where
     pub commutes : (w : W) (f : ℕ) (x : W) → Free w f → step w f ≡ Ok x → (g : ℕ) → g ≢ f →
         Commutes Free f x g (step w g)
 
+  -- Moves that can be made early: as free moves, but an entry of another fiber that changes nothing need not commute
+  pub record AreEarly (Free : W → ℕ → Type 0) : Type 0 where
+    pub goes : (w : W) (f : ℕ) → Free w f → (x : W) × (step w f ≡ Ok x)
+    pub commutes : (w : W) (f : ℕ) (x : W) → Free w f → step w f ≡ Ok x → (g : ℕ) → g ≢ f →
+        (step w g ≡ Ok w) ⊎ Commutes Free f x g (step w g)
+
   -- free moves lead from one world to the other
   pub data Leads (Free : W → ℕ → Type 0) : W → W → Type 0 where
     Here : (w x : W) → w ≡ x → Leads Free w x
@@ -28,7 +34,7 @@ module _ {W E : Type 0} (step : W → ℕ → Result W E) where
   -- Each entry of the reduced system is one of the full system with some free moves after it
   pub record IsReduced (leap : W → ℕ → Result W E) : Type 1 where
     pub Free : W → ℕ → Type 0
-    pub free : AreFree Free
+    pub free : AreEarly Free
     pub leaps : (w : W) (f : ℕ) → Leaps Free (step w f) (leap w f)
 
   -- each entry keeps the report or makes it larger

@@ -4,6 +4,7 @@ use Rattle.std.specs.List.{slice_get}
 use Rattle.derived_ops.specs.Naming.{Given}
 use Rattle.fiber_frames.specs.declared.uses.Use.{Use}
 use Rattle.fiber_frames.specs.declared.uses.Use.TheVariants.{Awaits, Cancels, Completes, Gets, Joins, Stores}
+use Rattle.fiber_frames.specs.declared.uses.Use.TheVariants.{MakesDeferreds, MakesRefs, Starts}
 use Rattle.fiber_frames.specs.Fiber.{Fiber, ask_of, waits_alone}
 use Rattle.fiber_frames.specs.Naming.{NamedRun}
 use Rattle.fiber_frames.specs.Uses.{is_some, uses_in}
@@ -22,10 +23,13 @@ use_code Gets = 2
 use_code Stores = 3
 use_code Completes = 4
 use_code Awaits = 5
+use_code Starts = 6
+use_code MakesRefs = 7
+use_code MakesDeferreds = 8
 
 -- the place in `uses` of this use of a number
 abbrev pub use_place : Use → ℕ → ℕ
-use_place u n = 6 * n + use_code u
+use_place u n = 9 * n + use_code u
 
 -- each known entry is right for a state that names only given numbers: whether it can still use the number in this way
 abbrev pub TellUses : Fiber → List (Option Bool) → Type 0

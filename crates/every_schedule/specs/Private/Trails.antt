@@ -1,5 +1,5 @@
 -- The entries that lead to a world, one by one.
-use Rattle.std.specs.Prelude.{◌≡◌, ◌≢◌, ◌⊎◌, ◌++◌, ◌+◌, ◌<◌, ◌≤◌, ℕ, Bool, List, [], ◌∷◌, length, Some, Result, Ok}
+use Rattle.std.specs.Prelude.{◌≡◌, ◌≢◌, ◌⊎◌, ◌++◌, ◌+◌, ◌<◌, ◌≤◌, ℕ, List, [], ◌∷◌, length, Some, Result, Ok}
 use Rattle.std.specs.List.{All, slice_get}
 use Rattle.cell_registry.specs.declared.limits.RunError.{RunError}
 use Rattle.world_search.specs.declared.answers.Answer.{Answer as Found}
@@ -11,7 +11,7 @@ use Rattle.world_search.specs.declared.landings.Landing.TheVariants as to
 use Rattle.every_schedule.specs.declared.leaping.AtOnce.{AtOnce}
 use Rattle.every_schedule.specs.Explored.{HasMove}
 use Rattle.every_schedule.specs.Places.{Place, stepped}
-use Rattle.every_schedule.specs.Reduced.{MayOwn, leapt}
+use Rattle.every_schedule.specs.Reduced.{IsMade, leapt}
 
 -- each of these entries, from this place on, is of a fiber that has a next move where the entry is made
 abbrev pub AreMade : Place → List ℕ → Type 0
@@ -26,11 +26,11 @@ pub record IsTrail (old new : List ℕ) (p : Place) (y : Result Place RunError) 
   pub few : All (λ f. f < 1000) added
   pub moves : AreMade p added
 
--- the new trail is the old one and own moves that lead from p to q
-pub record IsOwnTrail (stores : Bool) (old new : List ℕ) (p q : Place) : Type 0 where
+-- the new trail is the old one and moves made at once that lead from p to q
+pub record IsOwnTrail (n : AtOnce) (old new : List ℕ) (p q : Place) : Type 0 where
   pub added : List ℕ
   pub is : new ≡ old ++ added
-  pub led : LeadBy stepped (MayOwn stores) p added q
+  pub led : LeadBy stepped (IsMade n) p added q
   pub few : All (λ f. f < 1000) added
   pub moves : AreMade p added
 
@@ -40,7 +40,7 @@ IsFirstOf old new p f = ((new ≡ old ++ f ∷ []) × HasMove p.world f) ⊎ ((n
 
 -- the entries that the reduced exploration makes for one entry of fiber f
 abbrev pub MakesAtOnce : AtOnce → Place → ℕ → List ℕ → Type 0
-MakesAtOnce n p f made = Makes stepped (MayOwn n.stores) (leapt n) 1000 p f made
+MakesAtOnce n p f made = Makes stepped (IsMade n) (leapt n) 1000 p f made
 
 -- the new trail is the old one and these entries
 pub record IsLeapTrail (n : AtOnce) (old new : List ℕ) (p : Place) (f : ℕ) : Type 0 where

@@ -9,7 +9,7 @@ use Rattle.every_schedule.proofs.leaping.push.Given as goal
 abbrev pub invariant-loop-move : goal.invariant-loop-move
 invariant-loop-move l = record {
   onward : IsOnward l.initial.current l.current;
-  goes : pushed l.at_once.stores l.at_once.most (here l.initial.current) ≡ pushed l.at_once.stores (l.at_once.most - l._move) (here l.current);
+  goes : pushed l.at_once l.at_once.most (here l.initial.current) ≡ pushed l.at_once (l.at_once.most - l._move) (here l.current);
   fits : AllFit (here l.current).world;
-  trail : IsOwnTrail l.at_once.stores l.initial.trail.items l.trail.items (here l.initial.current) (here l.current);
+  trail : IsOwnTrail l.at_once l.initial.trail.items l.trail.items (here l.initial.current) (here l.current);
 }

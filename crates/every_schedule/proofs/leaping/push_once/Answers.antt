@@ -10,10 +10,10 @@ use Rattle.every_schedule.proofs.leaping.push_once.Goals as goal
 pub loop-done-init : goal.loop-done-init
 loop-done-init c = record {
   onward = onward_none c.args.current.now;
-  goes = ap (λ i. swept c.args.stores i (here c.args.current.now)) (let e : c.few_born-born.result ≡ c.few_born-born.result - 0 = omega arith in e);
+  goes = ap (λ i. swept c.args.at_once i (here c.args.current.now)) (let e : c.few_born-born.result ≡ c.few_born-born.result - 0 = omega arith in e);
   stays = λ e. refl;
   fits = c.requires;
-  trail = own_none c.args.stores c.args.trail.now.items (here c.args.current.now);
+  trail = own_none c.args.at_once c.args.trail.now.items (here c.args.current.now);
 }
 
 pub loop-done-preserved : goal.loop-done-preserved
@@ -27,11 +27,11 @@ loop-done-preserved c =
     let left : c.few_born-born.result - c.loop-done.done ≡ suc m = omega arith in
     record {
       onward = onward_on c.args.current.now c.loop-done.current c.push_fiber.new.current known.onward c.push_fiber.ensures.onward;
-      goes = known.goes ∙ swept_next c.args.stores (c.few_born-born.result - c.loop-done.done) m now next left told.goes ∙
-          ap (λ i. swept c.args.stores i next) place;
+      goes = known.goes ∙ swept_next c.args.at_once (c.few_born-born.result - c.loop-done.done) m now next left told.goes ∙
+          ap (λ i. swept c.args.at_once i next) place;
       stays = λ none. let both = c.either-moved.ensures none in told.stays both.1 ∙ known.stays both.0;
       fits = told.fits;
-      trail = own_more c.args.stores c.args.trail.now.items c.loop-done.trail.items c.push_fiber.new.trail.items (here c.args.current.now) now
+      trail = own_more c.args.at_once c.args.trail.now.items c.loop-done.trail.items c.push_fiber.new.trail.items (here c.args.current.now) now
           next known.trail told.trail;
     }
 
@@ -41,7 +41,7 @@ returns-clause-goes c =
     let first = here c.args.current.now in
     let now = here c.loop-done.current in
     let none : c.few_born-born.result - c.loop-done.done ≡ 0 = omega arith in
-    sym (ap (λ i. swept c.args.stores i first) (sym c.few_born-born.ensures.born) ∙ known.goes ∙ ap (λ i. swept c.args.stores i now) none ∙ swept_none c.args.stores now)
+    sym (ap (λ i. swept c.args.at_once i first) (sym c.few_born-born.ensures.born) ∙ known.goes ∙ ap (λ i. swept c.args.at_once i now) none ∙ swept_none c.args.at_once now)
 
 pub returns-clause-stays : goal.returns-clause-stays
 returns-clause-stays c = λ still.
@@ -49,6 +49,6 @@ returns-clause-stays c = λ still.
     let first = here c.args.current.now in
     let now = here c.loop-done.current in
     let none : c.few_born-born.result - c.loop-done.done ≡ 0 = omega arith in
-    let goes : pushed_once c.args.stores first ≡ now =
-    ap (λ i. swept c.args.stores i first) (sym c.few_born-born.ensures.born) ∙ known.goes ∙ ap (λ i. swept c.args.stores i now) none ∙ swept_none c.args.stores now in
-    subst (λ (x : Place). pushed_once c.args.stores x ≡ now) (sym (known.stays still)) goes
+    let goes : pushed_once c.args.at_once first ≡ now =
+    ap (λ i. swept c.args.at_once i first) (sym c.few_born-born.ensures.born) ∙ known.goes ∙ ap (λ i. swept c.args.at_once i now) none ∙ swept_none c.args.at_once now in
+    subst (λ (x : Place). pushed_once c.args.at_once x ≡ now) (sym (known.stays still)) goes

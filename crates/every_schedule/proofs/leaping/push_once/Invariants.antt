@@ -9,8 +9,8 @@ use Rattle.every_schedule.proofs.leaping.push_once.Given as goal
 abbrev pub invariant-loop-done : goal.invariant-loop-done
 invariant-loop-done l = record {
   onward : IsOnward l.initial.current l.current;
-  goes : swept l.stores l.born (here l.initial.current) ≡ swept l.stores (l.born - l.done) (here l.current);
+  goes : swept l.at_once l.born (here l.initial.current) ≡ swept l.at_once (l.born - l.done) (here l.current);
   stays : l.moved ≡ false → here l.current ≡ here l.initial.current;
   fits : AllFit (here l.current).world;
-  trail : IsOwnTrail l.stores l.initial.trail.items l.trail.items (here l.initial.current) (here l.current);
+  trail : IsOwnTrail l.at_once l.initial.trail.items l.trail.items (here l.initial.current) (here l.current);
 }

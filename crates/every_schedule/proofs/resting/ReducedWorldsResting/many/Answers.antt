@@ -1,7 +1,0 @@
-use Rattle.std.proofs.Common.{arith}
-use Rattle.every_schedule.specs.Reduced.{hundred}
-use Rattle.every_schedule.proofs.Trails.{none_made}
-use Rattle.every_schedule.proofs.resting.ReducedWorldsResting.many.Goals as goal
-
-pub returns-clause-none : goal.returns-clause-none
-returns-clause-none c = λ w at f past. let many = c.born_at.ensures.born w at in none_made hundred w f (omega arith)
