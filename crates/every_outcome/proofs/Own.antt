@@ -5,12 +5,12 @@ use Rattle.derived_ops.specs.Tree.{Act, Action, Cancel, Guarded, Handled, If0, J
 use Rattle.derived_ops.specs.Tree.{On_cancel, Poll, Polled, Seq, Start, Tree, Uncancelable}
 use Rattle.effect_term.specs.declared.reply.Reply.{Reply}
 use Rattle.fiber_frames.specs.declared.{ask.{Ask.Ask, Look.{Look, TheVariants.{Clear, Due, Seen}}}, uses.Use.{Use, TheVariants.{Awaits, Cancels, Completes}}}
-use Rattle.fiber_frames.specs.{declared.uses.Use.TheVariants.{Gets, Joins, Stores}, Path.{At_final, At_term, Broken, Final, In_guarded, In_handle, In_let}}
-use Rattle.fiber_frames.specs.Path.{In_masked, In_polled, In_seq, Over, PathStep, Root, Running, Runs, focus, is_effective, masks_at_root, masks_in}
+use Rattle.fiber_frames.specs.{declared.uses.Use.TheVariants.{Gets, Joins, Starts, Stores}, Path.{At_final, At_term, Broken, Final, In_guarded, In_handle}}
+use Rattle.fiber_frames.specs.Path.{In_let, In_masked, In_polled, In_seq, Over, PathStep, Root, Running, Runs, focus, is_effective, masks_at_root, masks_in}
 use Rattle.fiber_frames.specs.{Rows.{Born, Row, RowKind, action_row, row_at, word_row}, Fiber.{Cuts, Fiber, Looks, Move_case}}
 use Rattle.fiber_frames.specs.Fiber.{Reduces, Rests, active_of, ask_in, ask_of, case_in, case_under, is_silent, is_waited, kind_in, kind_of, move_case, row_of}
 use Rattle.fiber_frames.specs.{Fiber.waits_alone, Unmarked.{all_renumbered, masks_of, placed_in, renumbered, run_renumbered, unmarked}, Uses.{Scope, all_open}}
-use Rattle.fiber_frames.specs.{Uses.{all_uses, handle_count, is_some, of_use, tree_uses, under as bound_under, used_place, uses_in}, Reached.Reached}
+use Rattle.fiber_frames.specs.{Uses.{all_uses, handle_count, is_some, making, of_use, tree_uses, under as bound_under, used_place, uses_in}, Reached.Reached}
 use Rattle.fiber_frames.proofs.{Freshness.reached_fresh, Marks.Runs.live_run, Reaching.reached_kept, Renumbering.kind_renumbered, Unmarking.ask_unmarked}
 use Rattle.fiber_frames.proofs.{Unmarking.unmarked_kind, Walk.{End, Gives, Throws, Works, end_of, root_row, row_root, under, walk}}
 use Rattle.cell_registry.specs.{declared.{cell.Cell.Cell, call.Call.Call}, Cells.{Cells, cell_of, without_counts, without_waits}, Words.has_ended}
@@ -22,26 +22,6 @@ use Rattle.derived_ops.specs.Naming as naming
 use Rattle.derived_ops.specs.Tree as tree
 use Rattle.effect_term.specs.declared.reply.Reply.TheVariants as reply
 use Rattle.fiber_frames.specs.declared.ask.Ask.TheVariants as ask
-use Rattle.fiber_frames.specs.declared.ask.Look.{Look}
-use Rattle.fiber_frames.specs.declared.ask.Look.TheVariants.{Clear, Due, Seen}
-use Rattle.fiber_frames.specs.declared.uses.Use.{Use}
-use Rattle.fiber_frames.specs.declared.uses.Use.TheVariants.{Awaits, Cancels, Completes, Gets, Joins, Starts, Stores}
-use Rattle.fiber_frames.specs.Path.{At_final, At_term, Broken, Final, In_guarded, In_handle, In_let, In_masked, In_polled, In_seq, Over, PathStep, Root, Running, Runs}
-use Rattle.fiber_frames.specs.Path.{focus, is_effective, masks_at_root, masks_in}
-use Rattle.fiber_frames.specs.Rows.{Born, Ceded, Ended, Plain, Row, RowKind, Waited, action_row, row_at, word_row}
-use Rattle.fiber_frames.specs.Fiber.{Cuts, Fiber, Looks, Move_case, Reduces, Rests, active_of, ask_in, ask_of, case_in, case_under, is_silent, is_waited, kind_in, kind_of, move_case}
-use Rattle.fiber_frames.specs.Fiber.{row_of, waits_alone}
-use Rattle.fiber_frames.specs.Unmarked.{all_renumbered, masks_of, placed_in, renumbered, run_renumbered, unmarked}
-use Rattle.fiber_frames.specs.Uses.{Scope, all_open, all_uses, handle_count, is_some, making, of_use, tree_uses, under as bound_under, used_place, uses_in}
-use Rattle.fiber_frames.specs.Reached.{Reached}
-use Rattle.fiber_frames.proofs.Freshness.{reached_fresh}
-use Rattle.fiber_frames.proofs.Marks.Runs.{live_run}
-use Rattle.fiber_frames.proofs.Reaching.{reached_kept}
-use Rattle.fiber_frames.proofs.Renumbering.{kind_renumbered}
-use Rattle.fiber_frames.proofs.Unmarking.{ask_unmarked, unmarked_kind}
-use Rattle.fiber_frames.proofs.Walk.{End, Gives, Throws, Works, end_of, root_row, row_root, under, walk}
-use Rattle.cell_registry.specs.declared.cell.Cell.{Cell}
-use Rattle.cell_registry.specs.declared.call.Call.{Call}
 use Rattle.cell_registry.specs.declared.call.Call.TheVariants as call
 
 -- ---- what a fiber can still use

@@ -1,39 +1,23 @@
 -- What a search promises of its answers holds of the answers that are listed.
-use Rattle.std.proofs.Common.{true, ◌≡◌, ◌≢◌, inl, inr, ℕ, ◌+◌, ◌<◌, List, [], ◌∷◌, ◌++◌, length, map}
-use Rattle.std.proofs.Common.{refl, Option, Result, Ok, Err, sym, ap, ◌∙◌, subst, arith, get_or}
-use Rattle.std.specs.Prelude.{Some}
-use Rattle.std.specs.List.{All, fold, slice_get}
-use Rattle.std.proofs.lemmas.Option.{get_or_from_slice_get, same_Some, slice_get-get_or, slice_get_cases, slice_get_within}
-use Rattle.std.proofs.lemmas.List.Elements.{All-get_or}
+use Rattle.std.proofs.Common.{true, ◌≡◌, ◌≢◌, inl, inr, ℕ, ◌+◌, ◌<◌, List, [], ◌∷◌, ◌++◌, length, map, refl, Option, Result, Ok, Err, sym, ap, ◌∙◌, subst}
+use Rattle.std.proofs.{Common.{arith, get_or}, lemmas.Option.{get_or_from_slice_get, same_Some, slice_get-get_or, slice_get_cases, slice_get_within}}
+use Rattle.std.{proofs.lemmas.List.Elements.All-get_or, specs.{Prelude.Some, List.{All, fold, slice_get}}}
 use Rattle.effect_term.specs.declared.reply.Outcome.{Outcome}
 use Rattle.derived_ops.specs.Tree.{Tree}
 use Rattle.fiber_frames.specs.{Fiber.{Fiber, begins, outcome_of}, Reached.Reached}
 use Rattle.cell_registry.specs.declared.limits.{Limits.Limits, RunError.RunError}
 use Rattle.scheduled_core.specs.{declared.report.{FiberReport.FiberReport, Report.Report}, Core.{World, core, entered, fiber_report, reported}}
 use Rattle.scheduled_core.specs.Finals.{IsSettled}
-use Rattle.world_search.{specs.declared.{answers.Answer.Answer as Found, landings.Landing.Landing}, proofs.{Closed.run-append, Free.{covers, leads_up}}}
+use Rattle.world_search.{specs.declared.{answers.Answer.Answer as Found, landings.Landing.Landing}, proofs.{Closed.run-append, Free.{covers, early, leads_up}}}
 use Rattle.every_outcome.specs.{declared.outcomes.OutcomeAnswer.OutcomeAnswer, Outcomes.{Agrees, IsCovered, IsListed, IsReached, KeepsOutcomes, ListOnce}}
 use Rattle.every_outcome.specs.{Outcomes.{counted, outcomes}, Places.{Kept, Place, first_place, outcomes_at, stepped}, Private.Keeping.AreSingle}
 use Rattle.every_outcome.{specs.Private.{Reduced.leapt, Telling.{AreTold, IsEnd, IsTold, IsWithin}}, proofs.{Stepping.outcomes_stay, Running.{Fully, Lawful}}}
-use Rattle.every_outcome.proofs.{Running.{Led, bare_place, core_fully, core_lawful, core_led, fully, led}, Cells.some_bound, Commuting.{IsFree, own_are_free}}
-use Rattle.every_outcome.proofs.{Growing.{outcomes_grow, size}, Leaps.leaps}
+use Rattle.every_outcome.proofs.{Running.{Led, bare_place, core_fully, core_lawful, core_led, fully, led}, Cells.some_bound, Growing.{outcomes_grow, size}}
+use Rattle.every_outcome.proofs.Leaps.{MayFree, leaps, may_are_free}
 use Rattle.cell_registry.specs.declared.limits.RunError.TheVariants as run
 use Rattle.world_search.specs.declared.landings.Landing.TheVariants as to
 use Rattle.world_search.specs.Answers as search
 use Rattle.world_search.specs.Systems as systems
-use Rattle.world_search.proofs.Closed.{run-append}
-use Rattle.world_search.proofs.Free.{covers, early, leads_up}
-use Rattle.every_outcome.specs.declared.outcomes.OutcomeAnswer.{OutcomeAnswer}
-use Rattle.every_outcome.specs.Outcomes.{Agrees, IsCovered, IsListed, IsReached, KeepsOutcomes, ListOnce, counted, outcomes}
-use Rattle.every_outcome.specs.Places.{Kept, Place, first_place, outcomes_at, stepped}
-use Rattle.every_outcome.specs.Private.Keeping.{AreSingle}
-use Rattle.every_outcome.specs.Private.Reduced.{leapt}
-use Rattle.every_outcome.specs.Private.Telling.{AreTold, IsEnd, IsTold, IsWithin}
-use Rattle.every_outcome.proofs.Stepping.{outcomes_stay}
-use Rattle.every_outcome.proofs.Running.{Fully, Lawful, Led, bare_place, core_fully, core_lawful, core_led, fully, led}
-use Rattle.every_outcome.proofs.Cells.{some_bound}
-use Rattle.every_outcome.proofs.Growing.{outcomes_grow, size}
-use Rattle.every_outcome.proofs.Leaps.{MayFree, leaps, may_are_free}
 
 pub all_at : {A : Type 0} (P : A → Type 0) (xs : List A) (i : ℕ) (x : A) → slice_get xs i ≡ Some x → All P xs → P x
 all_at P xs i x e h = subst P (get_or_from_slice_get xs i x x e) (All-get_or P xs i x (slice_get_within xs i x e) h)

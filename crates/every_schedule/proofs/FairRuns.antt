@@ -6,13 +6,10 @@ use Rattle.cell_registry.specs.declared.limits.{Limits.Limits, RunError.RunError
 use Rattle.scheduled_core.{specs.{Core.{World, core, entered}, Finals.IsFinal}, proofs.Finality.final_stays}
 use Rattle.world_search.{specs.Lists.IsIn, proofs.Closed.run-append}
 use Rattle.fair_ends.specs.Fair.{AreRight, EndsUnder, IsEnd, IsFairCycle, first_of}
-use Rattle.every_schedule.specs.Fairness.{Ends, IsForever, IsOver, repeated}
-use Rattle.every_schedule.specs.Places.{Place, bare, bared, first_place, moves_at, placed, stepped, unnoted}
-use Rattle.every_schedule.specs.Reduced.{IsMade, hundred_own}
-use Rattle.every_schedule.proofs.Bare.{bare_step, idle_stays, moves_step}
-use Rattle.every_schedule.proofs.Placed.{core_run}
-use Rattle.every_schedule.proofs.EarlyMoves.{own_free}
+use Rattle.every_schedule.specs.{Fairness.{Ends, IsForever, IsOver, repeated}, Places.{Place, bare, bared, first_place, moves_at, placed, stepped, unnoted}}
+use Rattle.every_schedule.{specs.Reduced.{IsMade, hundred_own}, proofs.{Bare.{bare_step, idle_stays, moves_step}, Placed.core_run, EarlyMoves.own_free}}
 use Rattle.every_schedule.proofs.Unrest.{final_bare, final_noted}
+use Rattle.world_search.specs.Systems as search
 
 -- in this place no fiber can go on
 abbrev pub Rests : Place → Type 0

@@ -1,23 +1,15 @@
 -- A search of outcomes is right: its answers are those of an exploration, without long ones, sorted.
-use Rattle.std.proofs.Common.{◌≡◌, ◌≤◌, ◌==◌, ◌&&◌, ℕ, Bool, true, false, List, length, leb, refl, sym, ap, ◌∙◌, subst, arith}
-use Rattle.std.specs.Prelude.{Option, Some, Result, Ok, Err}
-use Rattle.std.specs.List.{All, filter, slice_get}
-use Rattle.std.specs.List.Sorted.{IsPermutation}
-use Rattle.std.proofs.lemmas.Bool.{eqb-true, leb-true}
-use Rattle.std.proofs.lemmas.List.Elements.{All-filter, filter_passes}
-use Rattle.std.proofs.lemmas.List.Sorted.{All-permutation, IsPermutation-sym}
+use Rattle.std.proofs.{Common.{◌≡◌, ◌≤◌, ◌==◌, ◌&&◌, ℕ, Bool, true, false, List, length, leb, refl, sym, ap, ◌∙◌, subst, arith}, lemmas.Bool.eqb-true}
+use Rattle.std.{proofs.lemmas.{Bool.leb-true, List.{Elements.{All-filter, filter_passes}, Sorted.{All-permutation, IsPermutation-sym}}}, specs.Prelude.Option}
+use Rattle.std.specs.{Prelude.{Some, Result, Ok, Err}, List.{All, filter, slice_get, Sorted.IsPermutation}}
 use Rattle.derived_ops.specs.Tree.{Tree}
 use Rattle.effect_term.specs.declared.reply.Outcome.{Outcome}
 use Rattle.cell_registry.specs.declared.limits.{Limits.Limits, RunError.RunError}
 use Rattle.scheduled_core.specs.Core.{World, core}
-use Rattle.every_outcome.proofs.Filtered.{filter_whole}
-use Rattle.every_outcome.specs.declared.outcomes.OutcomeAnswer.{OutcomeAnswer}
-use Rattle.every_outcome.specs.declared.outcomes.OutcomeExploration.{OutcomeExploration}
-use Rattle.every_outcome.specs.Outcomes.{IsCovered, IsListed, IsReached, counted}
-use Rattle.every_outcome.proofs.Told.{all_at, all_from}
-use Rattle.model_runs.specs.declared.result.NamedAnswer.{NamedAnswer}
-use Rattle.model_runs.specs.declared.result.Search.{Search}
-use Rattle.model_runs.specs.Seeing.{AreAll, AreOutcomesOf, IsRight, IsSeen}
+use Rattle.every_outcome.{proofs.{Filtered.filter_whole, Told.{all_at, all_from}}, specs.declared.outcomes.OutcomeAnswer.OutcomeAnswer}
+use Rattle.every_outcome.specs.{declared.outcomes.OutcomeExploration.OutcomeExploration, Outcomes.{IsCovered, IsListed, IsReached, counted}}
+use Rattle.model_runs.specs.{declared.result.{NamedAnswer.NamedAnswer, Search.Search}, Seeing.{AreAll, AreOutcomesOf, IsRight, IsSeen}}
+use Rattle.cell_registry.specs.declared.limits.RunError.TheVariants as run
 
 -- this answer is one of these
 IsIn : List OutcomeAnswer → OutcomeAnswer → Type 0
