@@ -18,11 +18,9 @@ use crate::named::{Named, replay_named};
 use crate::plan::Plan;
 use crate::prepared::prepare;
 use crate::result::{ClaimResult, NamedAnswer, Search};
-use crate::waits::with_waits;
 use model_claims::{Claim, Judged, Truth, judge, truth_in};
 use model_terms::{Probe, Refused, Source};
 use model_text::Model;
-use scheduled_core::same_end;
 use std::alloc::{AllocError, Global};
 
 // Returns the truth of a claim at each of these answers.
@@ -83,7 +81,6 @@ pub(crate) fn claim_result(
         plan,
         judged.shown,
         answers,
-        true,
     )?;
     Ok(ClaimResult {
         form: claim.form,
@@ -126,7 +123,6 @@ pub(crate) fn moment_result(
         plan,
         judged.shown,
         answers,
-        false,
     )?;
     Ok(ClaimResult {
         form: claim.form,
@@ -153,8 +149,7 @@ fn decisive_answers<'a>(
     }
 }
 
-// The replay of the answer of this number, if there is one, in the term with this probe. If `waits` is set, it goes on
-// until each fiber that hasn't ended waits.
+// The replay of the answer of this number, if there is one, in the term with this probe.
 fn replay_of(
     alloc: Global,
     source: &Source,
@@ -163,7 +158,6 @@ fn replay_of(
     plan: Plan,
     shown: Option<usize>,
     answers: &[NamedAnswer],
-    waits: bool,
 ) -> Result<Option<Named>, Refused>
     requires limits { AreLimits plan.limits }
 {
@@ -174,17 +168,6 @@ fn replay_of(
         return Ok(None);
     };
     let prepared = prepare(alloc, source, model, probe)?;
-    let entries = answer.schedule.as_slice();
-    let replay = replay_named(alloc, &prepared, entries, plan.limits)?;
-    if !waits {
-        return Ok(Some(replay));
-    }
-    let longer = with_waits(alloc, &prepared.program, entries, plan.limits)?;
-    let waiting = replay_named(alloc, &prepared, longer.as_slice(), plan.limits)?;
-    // What fibers wait for is shown only if the report is the same.
-    if same_end(&waiting.end, &replay.end) {
-        Ok(Some(waiting))
-    } else {
-        Ok(Some(replay))
-    }
+    let replay = replay_named(alloc, &prepared, answer.schedule.as_slice(), plan.limits)?;
+    Ok(Some(replay))
 }

@@ -32,7 +32,6 @@ mod run;
 mod searching;
 mod seeing;
 mod verdicts;
-mod waits;
 mod warnings;
 mod word_places;
 
