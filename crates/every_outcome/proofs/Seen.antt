@@ -7,7 +7,7 @@ use Rattle.cell_registry.specs.declared.limits.RunError.{RunError}
 use Rattle.world_search.specs.Free.{AreFree, Commutes, Leads, Leaps}
 use Rattle.world_search.specs.Free.Leads.{Here, On}
 use Rattle.world_search.specs.Systems.{run}
-use Rattle.world_search.proofs.Views.{unmet_up}
+use Rattle.world_search.proofs.{Free.early, Views.unmet_up}
 use Rattle.every_schedule.specs.declared.claims.ClaimWord.{ClaimWord}
 use Rattle.every_schedule.specs.Claims.{View, are_seen, is_met, noted, seeing, stored_by, viewed}
 use Rattle.every_schedule.proofs.SeenLeaps.{holds_refs, no_store, seeing_is}
@@ -87,4 +87,5 @@ pub unmet_all : (words : List ClaimWord) (first : View) →
     ((t : List ℕ) (w : View) → run (viewed (leapt false)) (Ok first) t ≡ Ok w → is_met w words ≡ false) →
     (s : List ℕ) (w : View) → run (viewed stepped) (Ok first) s ≡ Ok w → is_met w words ≡ false
 unmet_all words first none s w led =
-    unmet_up (viewed stepped) IsStill free_views (viewed (leapt false)) leaps_views (λ v. is_met v words) (keeps_claims words) first none s w led
+    unmet_up (viewed stepped) IsStill (early (viewed stepped) IsStill free_views) (viewed (leapt false)) leaps_views (λ v. is_met v words)
+    (keeps_claims words) first none s w led
