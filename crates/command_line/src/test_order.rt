@@ -190,7 +190,7 @@ fn write_models<R: Clock + Threads + Wait + Sync, O: TextOut, E: TextOut>(
     }
 }
 
-// The same, after the opening is written. This thread tests models, too.
+// The same, after the opening is written. This thread tests models, too, unless it shows progress.
 fn write_jobs<R: Clock + Threads + Wait + Sync, O: TextOut, E: TextOut>(
     rt: &R,
     suite: &Suite<'_>,
@@ -204,10 +204,10 @@ fn write_jobs<R: Clock + Threads + Wait + Sync, O: TextOut, E: TextOut>(
     ensures failed { (O.seen out.new).failed ≡ is_write_fault result }
     ensures only { OnlyOutFaults result }
 {
-    if jobs < 2 {
+    let threads = progress.threads(jobs);
+    if threads == 0 {
         return write_tested(rt, suite, board, told, out, progress);
     }
-    let threads = jobs - 1;
     let mut others = || suite.help(rt, board, threads);
     let mut own = || -> Result<(), TextFault>
         requires { (O.seen out.now).failed ≡ false }

@@ -65,6 +65,11 @@ impl Board {
         }
     }
 
+    /// Whether a thread has claimed the model of this number, or the board is closed.
+    pub(crate) fn is_claimed(&self, index: usize) -> bool {
+        index < self.next.load(Ordering::SeqCst)
+    }
+
     /// Closes the board: no model can be claimed any more.
     pub fn close(&self) {
         self.next.store(self.count, Ordering::SeqCst);

@@ -7,8 +7,8 @@ use crate::board::Board;
 use crate::progress::Progress;
 use crate::suite::{Models, SuiteForm};
 use crate::tested::{Became, Explored, Tested};
-use crate::watching::{Noting, Shows, Silent};
-use model_runs::{ModelResult, SearchBounds, TimeLimit, run_model_watched};
+use crate::watching::Noting;
+use model_runs::{ModelResult, SearchBounds, run_model_watched};
 use model_terms::{Refused, Source};
 use model_text::Model;
 use std::alloc::{AllocError, Global};
@@ -22,13 +22,12 @@ use text_io::TextOut;
 const MOST_SECONDS: usize = 10_000_000;
 
 // Explores the model of this number, unless models are only listed.
-fn explore<C: Clock, S: Shows>(
+fn explore<C: Clock>(
     clock: &C,
     alloc: Global,
     models: &Models<'_>,
     board: &Board,
     index: usize,
-    shows: &mut S,
 ) -> Result<Became, AllocError> {
     let Some(entry) = models.entries.get(index) else {
         return Ok(Became::Listed);
@@ -43,36 +42,29 @@ fn explore<C: Clock, S: Shows>(
     match models.order.form {
         SuiteForm::List => Ok(Became::Listed),
         SuiteForm::Report | SuiteForm::Json | SuiteForm::Tap => {
+            board.note(index, 0);
+            let begun = Instant::now(clock).ok();
             let mut noting = Noting {
-                limit: TimeLimit::new(clock, models.order.seconds),
-                models,
+                clock,
+                begun,
+                seconds: models.order.seconds,
+                stopped: false,
                 board,
                 index,
-                shows,
             };
-            board.note(index, 0);
-            let became = explore_model(alloc, &file.source, &entry.model, bounds, &mut noting);
+            let found = run_model_watched(alloc, &file.source, &entry.model, bounds, &mut noting);
             board.rest(index);
-            became
+            became_of(found, milliseconds_since(clock, begun))
         }
     }
 }
 
-// Explores and judges a model, while its searches are watched.
-fn explore_model<C: Clock, S: Shows>(
-    alloc: Global,
-    source: &Source,
-    model: &Model,
-    bounds: SearchBounds,
-    noting: &mut Noting<'_, '_, '_, C, S>,
-) -> Result<Became, AllocError> {
-    let clock = noting.limit.clock;
-    let begun = noting.limit.begun;
-    match run_model_watched(alloc, source, model, bounds, noting) {
-        Ok(result) => {
-            let milliseconds = milliseconds_since(clock, begun);
-            Ok(Became::Explored(explored(result, milliseconds)))
-        }
+// What became of a model whose exploration took this number of milliseconds.
+fn became_of(found: Result<ModelResult, Refused>, milliseconds: u64) -> Result<Became, AllocError>
+    requires { IfOk found (λ it. it.verdict ≡ worst it.claims.items) }
+{
+    match found {
+        Ok(result) => Ok(Became::Explored(explored(result, milliseconds))),
         Err(Refused::NoMemory) => Err(AllocError),
         Err(Refused::Fault(fault)) => Ok(Became::Refused(fault)),
     }
@@ -108,8 +100,7 @@ fn help<R: Clock + Wait>(rt: &R, alloc: Global, models: &Models<'_>, board: &Boa
         let Some(index) = board.claim() else {
             return;
         };
-        let found = explore(rt, alloc, models, board, index, &mut Silent);
-        board.put(rt, index, found);
+        board.put(rt, index, explore(rt, alloc, models, board, index));
     }
 }
 
@@ -125,7 +116,8 @@ pub(crate) fn help_all<R: Clock + Threads + Wait + Sync>(
 }
 
 /// Returns the result of the model of this number, from the board or by exploring the model. While another thread
-/// explores the model, the calling thread explores others, and then waits. Meanwhile it shows progress.
+/// explores the model, the calling thread explores others, and then waits. If it shows progress, it explores a model
+/// only if no other thread does.
 pub(crate) fn tested_at<R: Clock + Wait, E: TextOut>(
     rt: &R,
     alloc: Global,
@@ -150,14 +142,14 @@ fn became_at<R: Clock + Wait, E: TextOut>(
     progress: &mut Progress<'_, '_, R, E>,
 ) -> Result<Became, AllocError> {
     for _ in 0..models.entries.len() {
+        wait_showing(rt, models, board, index, &mut *progress);
         if board.has(rt, index) {
             return board.take(rt, index);
         }
         let Some(free) = board.claim() else {
-            wait_showing(rt, models, board, index, progress);
             return board.take(rt, index);
         };
-        let found = explore(rt, alloc, models, board, free, &mut *progress);
+        let found = explore(rt, alloc, models, board, free);
         if free == index {
             return found;
         }
@@ -167,7 +159,7 @@ fn became_at<R: Clock + Wait, E: TextOut>(
 }
 
 // Waits until the result of a model is on the board, and shows progress each second. Returns at once if no progress is
-// shown.
+// shown, and after a second if no thread has claimed the model.
 fn wait_showing<R: Clock + Wait, E: TextOut>(
     rt: &R,
     models: &Models<'_>,
@@ -183,5 +175,8 @@ fn wait_showing<R: Clock + Wait, E: TextOut>(
             return;
         }
         progress.tell(models, board);
+        if !board.is_claimed(index) {
+            return;
+        }
     }
 }

@@ -75,6 +75,16 @@ impl<'c, 'e, C: Clock, E: TextOut> Progress<'c, 'e, C, E> {
         self.form != ProgressForm::Nothing
     }
 
+    /// The number of threads that explore `jobs` models side by side, beside the thread that prints: one less than
+    /// `jobs`, since that thread explores models, too; `jobs` if it shows progress in place of this.
+    pub fn threads(&self, jobs: usize) -> usize {
+        if self.is_shown() {
+            jobs
+        } else {
+            jobs.saturating_sub(1)
+        }
+    }
+
     /// Writes bytes, unless a write has failed.
     pub fn write(&mut self, bytes: &[u8]) {
         if self.failed {

@@ -1,61 +1,47 @@
-//! Watchers of the searches of models.
+//! The watcher of the searches of a model.
 
 ghost use Rattle.std.specs.Prelude.{is_some};
 
 use crate::board::Board;
-use crate::progress::Progress;
-use crate::suite::Models;
 use model_runs::{TimeLimit, Watcher};
-use std::time::Clock;
-use text_io::TextOut;
-
-/// Shows the models that are being explored, if a thread is to do so.
-pub(crate) trait Shows {
-    /// Shows the models that are being explored.
-    fn show(&mut self, models: &Models<'_>, board: &Board);
-}
-
-/// Shows nothing.
-#[derive(Drop)]
-pub(crate) struct Silent;
-
-impl Shows for Silent {
-    fn show(&mut self, _models: &Models<'_>, _board: &Board) {}
-}
-
-impl<C: Clock, E: TextOut> Shows for Progress<'_, '_, C, E> {
-    fn show(&mut self, models: &Models<'_>, board: &Board) {
-        self.tell(models, board);
-    }
-}
+use std::time::{Clock, Instant};
 
 /// Notes on a board how many worlds the search of a model has found, and ends the search at a limit.
 #[derive(Drop)]
-pub(crate) struct Noting<'m, 'a, 'c, C: Clock, S: Shows> {
-    /// The limit of the searches of the model.
-    pub(crate) limit: TimeLimit<'c, C>,
-    /// The models that are tested.
-    pub(crate) models: &'m Models<'a>,
-    /// Their board.
-    pub(crate) board: &'m Board,
+pub(crate) struct Noting<'w, C: Clock> {
+    /// The clock of the limit.
+    pub(crate) clock: &'w C,
+    /// When the searches of the model began; `None` if the clock failed.
+    pub(crate) begun: Option<Instant>,
+    /// The number of seconds after which a search ends; `None` for no limit.
+    pub(crate) seconds: Option<u64>,
+    /// Whether a search was ended.
+    pub(crate) stopped: bool,
+    /// The board of the models.
+    pub(crate) board: &'w Board,
     /// The number of the model.
     pub(crate) index: usize,
-    /// Shows the models that are being explored.
-    pub(crate) shows: &'m mut S,
 }
 
-impl<C: Clock, S: Shows> Watcher for Noting<'_, '_, '_, C, S> {
-    ghost can_stop = { λ it. is_some it.limit.seconds };
+impl<'w, C: Clock> Watcher for Noting<'w, C> {
+    ghost can_stop = { λ it. is_some it.seconds };
 
-    ghost has_stopped = { λ it. it.limit.stopped };
+    ghost has_stopped = { λ it. it.stopped };
 
     fn goes_on(&mut self, worlds: usize, depth: usize) -> bool {
         // Schedules that are drawn have no depth: the worlds of the search before them stay.
         if depth > 0 {
             self.board.note(self.index, worlds);
         }
-        self.shows.show(self.models, self.board);
-        let time = self.limit.elapsed();
-        self.limit.goes_on_at(time)
+        let mut limit = TimeLimit {
+            clock: self.clock,
+            begun: self.begun,
+            seconds: self.seconds,
+            stopped: self.stopped,
+        };
+        let time = limit.elapsed();
+        let goes_on = limit.goes_on_at(time);
+        self.stopped = limit.stopped;
+        goes_on
     }
 }
