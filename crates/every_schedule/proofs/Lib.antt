@@ -18,6 +18,7 @@ pub mod Commuting
 pub mod Growing
 pub mod Bare
 pub mod Still
+pub mod Rivalry
 pub mod Leaps
 pub mod Trails
 pub mod PastBound

@@ -47,6 +47,8 @@ pub(crate) struct CoreWorlds {
     current: Current,
     rows: Rows,
     faults: Faults,
+    // The rivals of fibers, as far as the last entry found them.
+    rivals: Vec<Option<u16>>,
 }
 
 impl Model for CoreWorlds {
@@ -94,6 +96,7 @@ impl CoreWorlds {
             current,
             rows,
             faults: Faults::new(alloc),
+            rivals: Vec::new(alloc),
         })
     }
 
@@ -184,7 +187,7 @@ impl CoreWorlds {
         self.current
             .go_to(self.rows.registry(world), self.rows.fibers(world))?;
         trail.clear();
-        match leap(&mut self.current, fiber, at_once, &mut *trail) {
+        match leap(&mut self.current, fiber, at_once, &mut self.rivals, &mut *trail) {
             Ok(()) => {}
             Err(fault) => return fault_met(&mut self.faults, fault),
         }

@@ -36,6 +36,7 @@ mod pool;
 mod reduced_worlds;
 mod reports;
 mod resting;
+mod rivals;
 mod rows;
 mod seen_row;
 mod seen_worlds;
