@@ -1,9 +1,9 @@
 -- Rivals: what keeps a move from being an own one, and how long.
-use Rattle.std.proofs.Common.{◌≡◌, ◌≢◌, ℕ, ◌<◌, Bool, true, false, not, ◌&&◌, ◌||◌, ◌⊎◌, nat_lt, nat_eq, List, [], ◌∷◌, ◌++◌, ◌+◌, inl, inr, refl, sym, ap, ◌∙◌, subst, arith}
-use Rattle.std.specs.Prelude.{Option, Some, None, Result, Ok, Err, is_none, ℤ}
+use Rattle.std.proofs.Common.{◌≡◌, ◌≢◌, ℕ, ◌<◌, Bool, true, false, not, ◌&&◌, ◌||◌, ◌⊎◌, nat_lt, nat_eq, List, [], ◌∷◌, ◌++◌, ◌+◌, set, inl, inr, refl, sym, ap, ◌∙◌, subst, arith}
+use Rattle.std.specs.Prelude.{Option, Some, None, Ok, is_none, ℤ}
 use Rattle.std.specs.List.{slice_get}
 use Rattle.std.proofs.lemmas.Bool.{eq-eqb, eqb-true}
-use Rattle.std.proofs.lemmas.Option.{same_Some, slice_get_within}
+use Rattle.std.proofs.lemmas.Option.{same_Some}
 use mathlib.Core.Logic.{dite}
 use native.Mathlib.Decide.{ℕ_discrete}
 use Rattle.world_search.proofs.Lists.{get_end}
@@ -13,21 +13,21 @@ use Rattle.cell_registry.specs.declared.cell.Stage.{Stage}
 use Rattle.cell_registry.specs.declared.call.Call.{Call}
 use Rattle.cell_registry.specs.declared.call.Call.TheVariants.{Start, Cancel, Join, Look, Mask, Unmask, Cut, Finish}
 use Rattle.cell_registry.specs.declared.call.Call.TheVariants.{NewRef, NewDeferred, Get, Set, Modify, Complete, Read}
-use Rattle.cell_registry.specs.Cells.{Cells, after, cell_of, deferred_of, owned, refusal, reply_of, without_waits}
+use Rattle.cell_registry.specs.Cells.{Cells, after, cell_of, deferred_of, refusal, reply_of, without_waits}
 use Rattle.cell_registry.specs.Words.{has_ended}
 use Rattle.cell_registry.proofs.Calls.{owned-after}
 use Rattle.cell_registry.proofs.Forgetting as forgetting
 use Rattle.effect_term.specs.declared.reply.Outcome.{Outcome}
 use Rattle.fiber_frames.specs.declared.uses.Use.{Use}
 use Rattle.fiber_frames.specs.declared.uses.Use.TheVariants.{Awaits, Cancels, Completes, Gets, Joins, Stores}
-use Rattle.fiber_frames.specs.Fiber.{Fiber, ask_of}
+use Rattle.fiber_frames.specs.Fiber.{Fiber, ask_of, silent_move}
 use Rattle.fiber_frames.specs.Uses.{is_some, used_place, uses_in}
 use Rattle.scheduled_core.specs.declared.wish.Wish.{Wish}
 use Rattle.scheduled_core.specs.declared.wish.Wish.TheVariants.{Shared, Alone, Nothing}
-use Rattle.scheduled_core.specs.Core.{World, answered, turned, wish_of, wished}
+use Rattle.scheduled_core.specs.Core.{World, answered, called, turned, wish_of, wished}
 use Rattle.every_schedule.specs.Places.{Place, placed, stepped}
-use Rattle.every_schedule.specs.Reduced.{has_own, is_another, is_kept, is_left_alone, is_made, is_own, is_own_call, keeps, may_be, next_of, others, rests}
-use Rattle.every_schedule.specs.Private.Rivalry.{AreAlike, AreApart, AreLeft, AreRivals, CanUse, IsApart, IsBarred, IsNoted, IsRival, OnlyHas, bars, can_use, is_completing, requested_by, used_by}
+use Rattle.every_schedule.specs.Reduced.{has_own, is_another, is_kept, is_left_alone, is_made, is_own, keeps, may_be, next_of, others, rests}
+use Rattle.every_schedule.specs.Private.Rivalry.{AreAlike, AreApart, AreLeft, AreRivals, CanUse, IsApart, IsBarred, IsNoted, IsRival, OnlyHas, bars, can_use, touched_by, used_by}
 use Rattle.every_schedule.proofs.Alone.{keeps_told, one_fails}
 use Rattle.every_schedule.proofs.Bare.{enters}
 use Rattle.every_schedule.proofs.Bare.Enters.{Stays, Goes}
@@ -103,11 +103,11 @@ module _ (g h : ℕ) (v : World) where
   -- a fiber that hasn't ended
   still_open : has_ended (cell_of v.cells h).stage ≡ false → (w : World) → AreAlike g h v w →
       rests (slice_get w.fibers h) && has_ended (cell_of w.cells h).stage ≡ false
-  still_open open w like = nor_both (rests (slice_get w.fibers h)) (has_ended (cell_of w.cells h).stage)
-      (ap (λ (s : Stage). has_ended s) like.stage ∙ open)
+  still_open lives w like = nor_both (rests (slice_get w.fibers h)) (has_ended (cell_of w.cells h).stage)
+      (ap (λ (s : Stage). has_ended s) like.stage ∙ lives)
 
   bars_join : (i : ℕ) → i ≡ h → has_ended (cell_of v.cells h).stage ≡ false → IsBarred g h (Join i) v
-  bars_join i is open = λ w like. subst (λ j. rests (slice_get w.fibers j) && has_ended (cell_of w.cells j).stage ≡ false) (sym is) (still_open open w like)
+  bars_join i is lives = λ w like. subst (λ j. rests (slice_get w.fibers j) && has_ended (cell_of w.cells j).stage ≡ false) (sym is) (still_open lives w like)
 
   -- the move of a fiber whose call isn't an own move isn't one
   pub barred_rival : (a b : Fiber) (c : Call) → slice_get v.fibers g ≡ Some a → slice_get v.fibers h ≡ Some b → wish_of (ask_of a) ≡ Shared c →
@@ -212,41 +212,47 @@ pub another_can : (v : World) (g h : ℕ) (u : Use) (n : ℕ) (b : Fiber) (r : B
 another_can v g h u n b r apart at told =
     told ∙ sym (ap (used_by u n) at) ∙ sym (ap (λ t. t && used_by u n (slice_get v.fibers h)) (same_not h g apart))
 
+pub other_named : (m n : ℕ) (t : Bool) → m ≢ n → false ≡ nat_eq m n && t
+other_named m n t apart = sym (ap (λ x. x && t) (not_true (nat_eq m n) (same_not m n apart)))
+
+pub same_named : (m n : ℕ) (r t : Bool) → m ≡ n → r ≡ t → r ≡ nat_eq m n && t
+same_named m n r t same is = is ∙ sym (ap (λ x. x && t) (eq-eqb m n same))
+
 -- ---- a move of another fiber
 deferreds_after : (s : Cells) (f : ℕ) (c : Call) (g : ℕ) → IsApart (Shared c) g → (after s f c).deferreds ≡ s.deferreds
 unfolding after
-deferreds_after s f (Complete d v) g no = absurd no
-deferreds_after s f Start g no = refl
-deferreds_after s f (Cancel i) g no = refl
-deferreds_after s f (Join i) g no = refl
-deferreds_after s f Look g no = refl
-deferreds_after s f Mask g no = refl
-deferreds_after s f Unmask g no = refl
-deferreds_after s f Cut g no = refl
-deferreds_after s f (Finish o) g no = refl
-deferreds_after s f NewRef g no = refl
-deferreds_after s f NewDeferred g no = refl
-deferreds_after s f (Get r) g no = refl
-deferreds_after s f (Set r v) g no = refl
-deferreds_after s f (Modify r v) g no = refl
-deferreds_after s f (Read d) g no = refl
+deferreds_after s f (Complete d v) g away = absurd away
+deferreds_after s f Start g away = refl
+deferreds_after s f (Cancel i) g away = refl
+deferreds_after s f (Join i) g away = refl
+deferreds_after s f Look g away = refl
+deferreds_after s f Mask g away = refl
+deferreds_after s f Unmask g away = refl
+deferreds_after s f Cut g away = refl
+deferreds_after s f (Finish o) g away = refl
+deferreds_after s f NewRef g away = refl
+deferreds_after s f NewDeferred g away = refl
+deferreds_after s f (Get r) g away = refl
+deferreds_after s f (Set r v) g away = refl
+deferreds_after s f (Modify r v) g away = refl
+deferreds_after s f (Read d) g away = refl
 
 no_request : (c : Call) (g : ℕ) → IsApart (Shared c) g → c ≢ Cancel g
-no_request (Complete d v) g no = absurd no
-no_request (Cancel i) g no = λ e. no (cc)
-no_request Start g no = λ e. absurd (cc)
-no_request (Join i) g no = λ e. absurd (cc)
-no_request Look g no = λ e. absurd (cc)
-no_request Mask g no = λ e. absurd (cc)
-no_request Unmask g no = λ e. absurd (cc)
-no_request Cut g no = λ e. absurd (cc)
-no_request (Finish o) g no = λ e. absurd (cc)
-no_request NewRef g no = λ e. absurd (cc)
-no_request NewDeferred g no = λ e. absurd (cc)
-no_request (Get r) g no = λ e. absurd (cc)
-no_request (Set r v) g no = λ e. absurd (cc)
-no_request (Modify r v) g no = λ e. absurd (cc)
-no_request (Read d) g no = λ e. absurd (cc)
+no_request (Complete d v) g away = absurd away
+no_request (Cancel i) g away = λ e. away (cc)
+no_request Start g away = λ e. absurd (cc)
+no_request (Join i) g away = λ e. absurd (cc)
+no_request Look g away = λ e. absurd (cc)
+no_request Mask g away = λ e. absurd (cc)
+no_request Unmask g away = λ e. absurd (cc)
+no_request Cut g away = λ e. absurd (cc)
+no_request (Finish o) g away = λ e. absurd (cc)
+no_request NewRef g away = λ e. absurd (cc)
+no_request NewDeferred g away = λ e. absurd (cc)
+no_request (Get r) g away = λ e. absurd (cc)
+no_request (Set r v) g away = λ e. absurd (cc)
+no_request (Modify r v) g away = λ e. absurd (cc)
+no_request (Read d) g away = λ e. absurd (cc)
 
 -- what of the registry the two worlds have alike
 record HaveAlike (g h : ℕ) (s t : Cells) : Type 0 where
@@ -274,19 +280,25 @@ cells_after s f g h c apart away = record {
 module _ (k : Limits) (w : World) (f g h : ℕ) (apart : f ≢ h) where
   answered_alike : (b : Fiber) (c : Call) (o : Option CellError) (x : Place) → IsApart (Shared c) g → placed k (answered w f b c o) ≡ Ok x →
       HaveAlike g h w.cells x.world.cells
-  answered_alike b c None x away e = let same : after w.cells f c ≡ x.world.cells = cc in subst (HaveAlike g h w.cells) same (cells_after w.cells f g h c apart away)
+  answered_alike b c None x away e =
+      let same : record { limits = k; world = called w f b c (reply_of w.cells f c) } ≡ x = cc in
+      subst (λ (y : Place). HaveAlike g h w.cells y.world.cells) same (cells_after w.cells f g h c apart away)
   answered_alike b c (Some d) x away e = absurd (cc)
 
   wished_alike : (b : Fiber) (v : Wish) (x : Place) → IsApart v g → placed k (wished k w f b v) ≡ Ok x → HaveAlike g h w.cells x.world.cells
   wished_alike b (Shared c) x away e = answered_alike b c (refusal k w.cells f c) x away e
-  wished_alike b Alone x away e = let same : w.cells ≡ x.world.cells = cc in subst (HaveAlike g h w.cells) same (cells_none g h w.cells)
-  wished_alike b Nothing x away e = let same : w.cells ≡ x.world.cells = cc in subst (HaveAlike g h w.cells) same (cells_none g h w.cells)
+  wished_alike b Alone x away e =
+      let same : record { limits = k; world = record { fibers = set w.fibers f (silent_move b); cells = w.cells } } ≡ x = cc in
+      subst (λ (y : Place). HaveAlike g h w.cells y.world.cells) same (cells_none g h w.cells)
+  wished_alike b Nothing x away e =
+      let same : record { limits = k; world = w } ≡ x = cc in
+      subst (λ (y : Place). HaveAlike g h w.cells y.world.cells) same (cells_none g h w.cells)
 
   turned_alike : (o : Option Fiber) (b : Fiber) (x : Place) → o ≡ Some b → IsApart (wish_of (ask_of b)) g → placed k (turned k w f o) ≡ Ok x →
       HaveAlike g h w.cells x.world.cells
   turned_alike None b x is away e = absurd (cc)
   turned_alike (Some a) b x is away e =
-      let same : b ≡ a = cc in
+      let same : b ≡ a = sym (same_Some a b is) in
       wished_alike a (wish_of (ask_of a)) x (subst (λ (y : Fiber). IsApart (wish_of (ask_of y)) g) same away) e
 
 -- the rivals that a move leaves are rivals after it
@@ -344,40 +356,40 @@ pub only_same : (old : List (Option ℕ)) → OnlyHas old old
 only_same old = λ g h at. at
 
 pub only_more : (old new : List (Option ℕ)) → OnlyHas old new → OnlyHas old (new ++ None ∷ [])
-only_more old new only = λ g h at. elim (get_end new None g (Some h) at) [
+only_more old new only = λ g h at. elim (get_end new None (Some h) g at) [
   | inl early ↦ only g h early
   | inr last ↦ let no : (let o : Option ℕ = None in o) ≡ Some h = last.1 in absurd (cc)
 ]
 
-apart_call : (c : Call) (f g : ℕ) → is_completing (Shared c) ≡ false → requested_by f (Shared c) ≢ g → IsApart (Shared c) g
-apart_call (Complete d v) f g e away = absurd (cc)
-apart_call (Cancel i) f g e away = away
-apart_call Start f g e away = tt
-apart_call (Join i) f g e away = tt
-apart_call Look f g e away = tt
-apart_call Mask f g e away = tt
-apart_call Unmask f g e away = tt
-apart_call Cut f g e away = tt
-apart_call (Finish o) f g e away = tt
-apart_call NewRef f g e away = tt
-apart_call NewDeferred f g e away = tt
-apart_call (Get r) f g e away = tt
-apart_call (Set r v) f g e away = tt
-apart_call (Modify r v) f g e away = tt
-apart_call (Read d) f g e away = tt
+apart_call : (c : Call) (f g i : ℕ) → touched_by f (Shared c) ≡ Some i → i ≢ g → IsApart (Shared c) g
+apart_call (Complete d v) f g i e away = absurd (cc)
+apart_call (Cancel j) f g i e away = λ same. away (sym (same_Some j i e) ∙ same)
+apart_call Start f g i e away = tt
+apart_call (Join j) f g i e away = tt
+apart_call Look f g i e away = tt
+apart_call Mask f g i e away = tt
+apart_call Unmask f g i e away = tt
+apart_call Cut f g i e away = tt
+apart_call (Finish o) f g i e away = tt
+apart_call NewRef f g i e away = tt
+apart_call NewDeferred f g i e away = tt
+apart_call (Get r) f g i e away = tt
+apart_call (Set r v) f g i e away = tt
+apart_call (Modify r v) f g i e away = tt
+apart_call (Read d) f g i e away = tt
 
-apart_so : (x : Wish) (f g : ℕ) → is_completing x ≡ false → requested_by f x ≢ g → IsApart x g
-apart_so (Shared c) f g e away = apart_call c f g e away
-apart_so Alone f g e away = tt
-apart_so Nothing f g e away = tt
+apart_so : (x : Wish) (f g i : ℕ) → touched_by f x ≡ Some i → i ≢ g → IsApart x g
+apart_so (Shared c) f g i e away = apart_call c f g i e away
+apart_so Alone f g i e away = tt
+apart_so Nothing f g i e away = tt
 
-pub left_after : (old mid new : List (Option ℕ)) (f i : ℕ) (x : Wish) → is_completing x ≡ false → i ≡ requested_by f x → IsNoted old mid i None →
-    AreApart mid new f → AreLeft old new f x
-left_after old mid new f i x e is noted h = λ g j at.
+pub left_after : (old mid new : List (Option ℕ)) (f i : ℕ) (x : Wish) → touched_by f x ≡ Some i → IsNoted old mid i None → AreApart mid new f →
+    AreLeft old new f x
+left_after old mid new f i x e noted h = λ g j at.
     let it = h g j at in
     elim (noted g j it.0) [
       | inl one ↦ let no : (let o : Option ℕ = None in o) ≡ Some j = one.1 in absurd (cc)
-      | inr other ↦ record { there = other.1; own = it.1; rival = it.2; apart = apart_so x f g e (λ same. other.0 (sym (is ∙ same))) }
+      | inr other ↦ record { there = other.1; own = it.1; rival = it.2; apart = apart_so x f g i e (λ same. other.0 (sym same)) }
     ]
 
 pub left_none : (old : List (Option ℕ)) (f : ℕ) (x : Wish) → AreLeft old [] f x

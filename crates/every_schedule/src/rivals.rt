@@ -1,6 +1,6 @@
 //! The rivals of fibers: a fiber has no own move as long as its rival, another fiber, can still influence or see its
 //! next move.
-ghost use Rattle.std.specs.Prelude.{◌≡◌, ◌≢◌, ◌<◌, ℕ, IfSome, Some, false, is_none, length, not, true};
+ghost use Rattle.std.specs.Prelude.{◌≡◌, ◌≢◌, ◌<◌, ◌&&◌, ℕ, IfSome, Some, false, is_none, length, nat_eq, not, true};
 ghost use Rattle.std.specs.List.{slice_get};
 ghost use Rattle.cell_registry.specs.Cells.{cell_of, deferred_of};
 ghost use Rattle.cell_registry.specs.Words.{has_ended};
@@ -9,7 +9,7 @@ ghost use Rattle.scheduled_core.specs.Core.{wish_of};
 ghost use Rattle.scheduled_core.specs.Fitting.{AllFit};
 ghost use Rattle.every_schedule.specs.Reduced.{IsNamed};
 ghost use Rattle.every_schedule.specs.Private.Rivalry.{AreApart, AreLeft, Drops, IsNoted, IsRival, OnlyHas, bars};
-ghost use Rattle.every_schedule.specs.Private.Rivalry.{can_use, is_completing, requested_by};
+ghost use Rattle.every_schedule.specs.Private.Rivalry.{can_use, touched_by};
 ghost use Rattle.every_schedule.specs.Private.Standing.{IsSame, here};
 
 use crate::current::Current;
@@ -47,7 +47,7 @@ fn rival_at(current: &mut Current, by: u16, call: Call) -> Option<u16>
     ensures same { IsSame current.old current.new }
     ensures rival { IfSome result (λ h. IsRival by h (here current.old).world) }
 {
-    let place = named_by(&*current, by, call);
+    let place = current.rival(by);
     if place >= few_born(&*current) {
         return None;
     }
@@ -56,14 +56,6 @@ fn rival_at(current: &mut Current, by: u16, call: Call) -> Option<u16>
         return Some(rival);
     }
     None
-}
-
-// The fiber that a join or a request of fiber `by` names, or else its rival that was noted last.
-fn named_by(current: &Current, by: u16, call: Call) -> usize {
-    match call {
-        Call::Join(other) | Call::Cancel(other) => usize::from(other),
-        _ => current.rival(by),
-    }
 }
 
 // Whether the fiber `rival` keeps this call of fiber `by` from being an own move.
@@ -78,7 +70,7 @@ fn is_rival(current: &mut Current, by: u16, call: Call, rival: u16) -> bool
     match call {
         Call::Start | Call::NewRef | Call::NewDeferred => true,
         Call::Mask | Call::Unmask | Call::Cut => false,
-        Call::Cancel(other) | Call::Join(other) => other == rival && is_open(&*current, rival),
+        Call::Cancel(other) | Call::Join(other) => is_named(current, by, other, rival),
         Call::Look => is_free(&*current, by) && can(current, by, Use::Cancels, by, rival),
         Call::Finish(_) => {
             can(&mut *current, by, Use::Joins, by, rival)
@@ -96,6 +88,20 @@ fn is_rival(current: &mut Current, by: u16, call: Call, rival: u16) -> bool
         }
         Call::Read(it) => is_empty(&*current, it),
     }
+}
+
+// Whether the fiber that the call names is `rival`, and hasn't ended. If it is another one, it is noted.
+fn is_named(current: &mut Current, by: u16, named: u16, rival: u16) -> bool
+    requires other { rival < length (here current.old).world.fibers }
+    requires fits { AllFit (here current.old).world }
+    ensures same { IsSame current.old current.new }
+    ensures named { result ≡ (nat_eq named rival && not (has_ended (cell_of (here current.old).world.cells rival).stage)) }
+{
+    if named != rival {
+        current.note_rival(by, usize::from(named));
+        return false;
+    }
+    is_open(&*current, rival)
 }
 
 // Whether the fiber `rival` isn't `by`, and can still use the number in this way.
@@ -177,31 +183,23 @@ pub(crate) fn widen(rivals: &mut Vec<Option<u16>>, born: usize) -> Result<(), Al
 pub(crate) fn forget(rivals: &mut Vec<Option<u16>>, by: u16, wish: Wish)
     ensures { AreLeft rivals.old.items rivals.new.items by wish }
 {
-    if completes(wish) {
-        rivals.clear();
-        return;
-    }
-    note_rival(&mut *rivals, requested(by, wish), None);
-    forget_moved(rivals, by);
-}
-
-// Whether a move with this wish completes a deferred.
-fn completes(wish: Wish) -> bool
-    ensures { result ≡ is_completing wish }
-{
-    match wish {
-        Wish::Shared(Call::Complete(_, _)) => true,
-        _ => false,
+    match touched(by, wish) {
+        None => rivals.clear(),
+        Some(it) => {
+            note_rival(&mut *rivals, it, None);
+            forget_moved(rivals, by);
+        }
     }
 }
 
-// The fiber that a move of fiber `by` with this wish requests, or `by` itself.
-fn requested(by: u16, wish: Wish) -> u16
-    ensures { result ≡ requested_by by wish }
+// The fiber that a move of fiber `by` with this wish requests, or `by` itself. `None` if the move completes a deferred.
+fn touched(by: u16, wish: Wish) -> Option<u16>
+    ensures { result ≡ touched_by by wish }
 {
     match wish {
-        Wish::Shared(Call::Cancel(other)) => other,
-        _ => by,
+        Wish::Shared(Call::Complete(_, _)) => None,
+        Wish::Shared(Call::Cancel(other)) => Some(other),
+        _ => Some(by),
     }
 }
 

@@ -108,12 +108,8 @@ abbrev pub Drops : (old new : List (Option ℕ)) → ℕ → ℕ → Type 0
 Drops old new place f = (g h : ℕ) → slice_get new g ≡ Some (Some h) →
     (slice_get old g ≡ Some (Some h)) × (g ≡ place → f ≢ h)
 
--- a move with this wish completes a deferred
-abbrev pub is_completing : Wish → Bool
-is_completing (Shared (Complete d v)) = true
-is_completing _ = false
-
--- the fiber that a move of fiber f with this wish requests, or f itself
-abbrev pub requested_by : ℕ → Wish → ℕ
-requested_by f (Shared (Cancel i)) = i
-requested_by f _ = f
+-- the fiber that a move of fiber f with this wish requests, or f itself; none if the move completes a deferred
+abbrev pub touched_by : ℕ → Wish → Option ℕ
+touched_by f (Shared (Complete d v)) = None
+touched_by f (Shared (Cancel i)) = Some i
+touched_by f _ = Some f

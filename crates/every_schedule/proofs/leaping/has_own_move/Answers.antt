@@ -1,4 +1,7 @@
-use Rattle.std.proofs.Common.{sym, ap, ◌∙◌}
+use Rattle.std.proofs.Common.{◌≡◌, ℕ, sym, ap, ◌∙◌, subst, arith}
+use Rattle.std.specs.Prelude.{List, Option, Some}
+use Rattle.std.specs.List.{slice_get}
+use Rattle.std.proofs.lemmas.Grind.{common_steps}
 use Rattle.every_schedule.specs.Places.{Place}
 use Rattle.every_schedule.specs.Reduced.{is_made}
 use Rattle.every_schedule.specs.Private.Standing.{here}
@@ -12,7 +15,9 @@ returns-then-has_rival-clause-same c = same_none c.args.current.now
 pub returns-then-has_rival-clause-own : goal.returns-then-has_rival-clause-own
 returns-then-has_rival-clause-own c =
     let it = c.has_rival.ensures c.if-has_rival.true in
-    sym (rival_unmade c.args.stores (here c.args.current.now).world c.args.fiber it.0 (c.requires.rivals c.args.fiber it.0 it.1))
+    let same : c.as_slice.result.now ≡ c.args.rivals.now.items = grind (arith, common_steps) in
+    let at = subst (λ (l : List (Option ℕ)). slice_get l c.args.fiber ≡ Some (Some it.0)) same it.1 in
+    sym (rival_unmade c.args.stores (here c.args.current.now).world c.args.fiber it.0 (c.requires.rivals c.args.fiber it.0 at))
 
 pub returns-in-Some-clause-own : goal.returns-in-Some-clause-own
 returns-in-Some-clause-own c =

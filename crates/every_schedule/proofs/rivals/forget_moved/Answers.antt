@@ -1,12 +1,12 @@
-use Rattle.std.proofs.Common.{◌≡◌, ◌<◌, ℕ, inl, inr, length, sym, ◌∙◌, arith}
-use Rattle.std.specs.Prelude.{Option, Some, None}
+use Rattle.std.proofs.Common.{◌∙◌, arith}
+use Rattle.std.specs.Prelude.{Some}
 use Rattle.std.proofs.lemmas.Option.{slice_get_within}
 use Rattle.every_schedule.proofs.Rivalry.{dropped_next, noted_none}
 use Rattle.every_schedule.proofs.rivals.forget_moved.Goals as goal
 
 pub loop-place-init : goal.loop-place-init
 loop-place-init c = record {
-  long = sym c.len.ensures;
+  long = (let len = c.len-place-end.ensures in omega arith);
   each = λ g h at. let it = noted_none c.args.rivals.now.items c.note_rival.new.rivals.items c.args.by c.note_rival.ensures g h at in (it.0, it.1, λ low. absurd (omega arith));
 }
 
