@@ -19,6 +19,7 @@ pub mod Growing
 pub mod Bare
 pub mod Still
 pub mod EarlyMoves
+pub mod Rivalry
 pub mod Leaps
 pub mod Trails
 pub mod PastBound

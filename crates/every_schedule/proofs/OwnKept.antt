@@ -184,7 +184,7 @@ start_reply s g Start e = refl
 start_reply s g _ e = absurd (cc)
 
 -- a call that isn't a request keeps the request of a cell
-request_same : (s : Cells) (f g : ℕ) (d : Call) → d ≢ Cancel f → (cell_of (after s g d) f).request ≡ (cell_of s f).request
+pub request_same : (s : Cells) (f g : ℕ) (d : Call) → d ≢ Cancel f → (cell_of (after s g d) f).request ≡ (cell_of s f).request
 unfolding after
 request_same s f g (Cancel i) none = ap (λ (c : Cell). c.request) (get_or-set_other s.cells i f (requested (cell_of s i)) fresh (λ e. none (ap Cancel (sym e))))
 request_same s f g (Join i) none = get_or-set_kept (λ (c : Cell). c.request) s.cells i (awaited (cell_of s i)) fresh refl f

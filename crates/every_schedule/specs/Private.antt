@@ -6,6 +6,7 @@ pub mod Packed
 pub mod Turning
 pub mod Knowing
 pub mod Standing
+pub mod Rivalry
 pub mod Reporting
 pub mod Trails
 pub mod Seen

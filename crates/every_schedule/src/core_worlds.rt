@@ -48,6 +48,8 @@ pub(crate) struct CoreWorlds {
     current: Current,
     rows: Rows,
     faults: Faults,
+    // The rivals of fibers, as far as the last entry found them.
+    rivals: Vec<Option<u16>>,
 }
 
 impl Model for CoreWorlds {
@@ -95,6 +97,7 @@ impl CoreWorlds {
             current,
             rows,
             faults: Faults::new(alloc),
+            rivals: Vec::new(alloc),
         })
     }
 
@@ -185,7 +188,7 @@ impl CoreWorlds {
         self.current
             .go_to(self.rows.registry(world), self.rows.fibers(world))?;
         trail.clear();
-        match leap(&mut self.current, fiber, at_once, &mut *trail) {
+        match leap(&mut self.current, fiber, at_once, &mut self.rivals, &mut *trail) {
             Ok(()) => {}
             Err(fault) => return fault_met(&mut self.faults, fault),
         }

@@ -2,16 +2,23 @@
 ghost use Rattle.std.specs.Prelude.{◌≡◌, ◌≢◌, ◌⊎◌, ◌++◌, ◌<◌, ◌≤◌, [], ◌∷◌, length, false, true};
 ghost use Rattle.std.specs.Prelude.{IfErr, IfOk, OnOk};
 ghost use Rattle.std.specs.Prelude.{Ok as GoesWell, Err as Fails};
+ghost use Rattle.std.specs.Prelude.{Some};
+ghost use Rattle.std.specs.List.{slice_get};
+ghost use Rattle.fiber_frames.specs.Fiber.{Fiber, ask_of};
+ghost use Rattle.scheduled_core.specs.Core.{wish_of as the_wish};
 ghost use Rattle.scheduled_core.specs.Fitting.{AllFit};
 ghost use Rattle.every_schedule.specs.Reduced.{after_own, is_made, is_own_at_once, leapt, own_of, pushed, pushed_once};
+ghost use Rattle.every_schedule.specs.Private.Rivalry.{AreRivals};
 ghost use Rattle.every_schedule.specs.Private.Standing.{IsOnward, IsSame, here};
 ghost use Rattle.every_schedule.specs.Private.Trails.{IsFirstOf, IsLeapTrail, IsOwnTrail};
 
 use crate::births::is_birth;
 use crate::current::Current;
 use crate::own_moves::{is_own_move, may_be_made};
+use crate::rivals::{forget, has_rival, note_rival, rival_of, widen};
 use cell_registry::RunError;
 use effect_term::facts_of;
+use scheduled_core::Wish;
 use std::alloc::AllocError;
 
 /// Which own moves are made at once after an entry.
@@ -26,11 +33,12 @@ pub(crate) struct AtOnce {
 }
 
 /// Makes the entry of a fiber, then the own moves that `at_once` allows. Adds these entries to the trail, also an entry
-/// that ends in a fault, but no entry of a fiber that isn't born or has ended.
+/// that ends in a fault, but no entry of a fiber that isn't born or has ended. `rivals` is a list whose room is used.
 pub(crate) fn leap(
     current: &mut Current,
     fiber: u16,
     at_once: AtOnce,
+    rivals: &mut Vec<Option<u16>>,
     trail: &mut Vec<u16>,
 ) -> Result<(), RunError>
     requires { AllFit (here current.old).world }
@@ -50,7 +58,8 @@ pub(crate) fn leap(
         Ok(()) => {}
         Err(fault) => return Err(fault),
     }
-    push(current, at_once, trail)?;
+    rivals.clear();
+    push(current, at_once, rivals, trail)?;
     Ok(())
 }
 
@@ -86,8 +95,14 @@ fn add(trail: &mut Vec<u16>, fiber: u16) -> Result<(), AllocError>
 }
 
 // Makes the own moves of each fiber that `at_once` allows.
-fn push(current: &mut Current, at_once: AtOnce, trail: &mut Vec<u16>) -> Result<(), AllocError>
-    requires { AllFit (here current.old).world }
+fn push(
+    current: &mut Current,
+    at_once: AtOnce,
+    rivals: &mut Vec<Option<u16>>,
+    trail: &mut Vec<u16>,
+) -> Result<(), AllocError>
+    requires fits { AllFit (here current.old).world }
+    requires rivals { AreRivals (here current.old).world rivals.old.items }
     ensures onward { IsOnward current.old current.new }
     ensures goes { OnOk result (here current.new ≡ pushed at_once at_once.most (here current.old)) }
     ensures fits { OnOk result (AllFit (here current.new).world) }
@@ -95,7 +110,7 @@ fn push(current: &mut Current, at_once: AtOnce, trail: &mut Vec<u16>) -> Result<
         (here current.new)) }
 {
     for _move in 0..at_once.most {
-        let moved = push_once(&mut *current, at_once, &mut *trail)?;
+        let moved = push_once(&mut *current, at_once, &mut *rivals, &mut *trail)?;
         if !moved {
             return Ok(());
         }
@@ -107,9 +122,12 @@ fn push(current: &mut Current, at_once: AtOnce, trail: &mut Vec<u16>) -> Result<
 fn push_once(
     current: &mut Current,
     at_once: AtOnce,
+    rivals: &mut Vec<Option<u16>>,
     trail: &mut Vec<u16>,
 ) -> Result<bool, AllocError>
-    requires { AllFit (here current.old).world }
+    requires fits { AllFit (here current.old).world }
+    requires rivals { AreRivals (here current.old).world rivals.old.items }
+    ensures rivals { OnOk result (AreRivals (here current.new).world rivals.new.items) }
     ensures onward { IsOnward current.old current.new }
     ensures goes { OnOk result (here current.new ≡ pushed_once at_once (here current.old)) }
     ensures stays { IfOk result (λ it. it ≡ false → pushed_once at_once (here current.new) ≡ here current.new) }
@@ -118,10 +136,11 @@ fn push_once(
         (here current.new)) }
 {
     let born = few_born(&*current);
+    widen(&mut *rivals, born)?;
     let mut moved = false;
     for done in 0..born {
         let fiber = (born - 1 - done) as u16;
-        let made = push_fiber(&mut *current, at_once, fiber, &mut *trail)?;
+        let made = push_fiber(&mut *current, at_once, fiber, &mut *rivals, &mut *trail)?;
         moved = either(moved, made);
     }
     Ok(moved)
@@ -139,10 +158,13 @@ fn push_fiber(
     current: &mut Current,
     at_once: AtOnce,
     fiber: u16,
+    rivals: &mut Vec<Option<u16>>,
     trail: &mut Vec<u16>,
 ) -> Result<bool, AllocError>
     requires few { fiber < 1000 }
     requires fits { AllFit (here current.old).world }
+    requires rivals { AreRivals (here current.old).world rivals.old.items }
+    ensures rivals { OnOk result (AreRivals (here current.new).world rivals.new.items) }
     ensures onward { IsOnward current.old current.new }
     ensures goes { OnOk result (here current.new ≡
         after_own (here current.old) (own_of at_once (here current.old) fiber)) }
@@ -151,9 +173,10 @@ fn push_fiber(
     ensures trail { OnOk result (IsOwnTrail at_once trail.old.items trail.new.items (here current.old)
         (here current.new)) }
 {
-    if !has_own_move(&mut *current, at_once, fiber) {
+    if !has_own_move(&mut *current, at_once, fiber, &mut *rivals) {
         return Ok(false);
     }
+    let wish = wish_of(&*current, fiber);
     match current.enter(fiber) {
         Ok(()) => {}
         Err(fault) => {
@@ -163,12 +186,26 @@ fn push_fiber(
             return Ok(false);
         }
     }
+    forget(rivals, fiber, wish);
     add(trail, fiber)?;
     Ok(true)
 }
 
+// The wish of the next move of a fiber, if it is born.
+fn wish_of(current: &Current, fiber: u16) -> Wish
+    requires { AllFit (here current.now).world }
+    ensures { (g : Fiber) → slice_get (here current.now).world.fibers fiber ≡ Some g → result ≡ the_wish (ask_of g) }
+{
+    let place = usize::from(fiber);
+    if place < few_born(current) {
+        current.wish(place)
+    } else {
+        Wish::Nothing
+    }
+}
+
 // Whether a fiber is born, and its next move is an own move, or a birth, that is allowed at once.
-fn has_own_move(current: &mut Current, at_once: AtOnce, fiber: u16) -> bool
+fn can_move(current: &mut Current, at_once: AtOnce, fiber: u16) -> bool
     requires { AllFit (here current.old).world }
     ensures same { IsSame current.old current.new }
     ensures own { result ≡ is_made at_once (here current.old).world fiber }
@@ -183,6 +220,29 @@ fn has_own_move(current: &mut Current, at_once: AtOnce, fiber: u16) -> bool
         return false;
     }
     is_birth(current, fiber)
+}
+
+// The same, by the rivals that are known. Notes the fiber's rival.
+fn has_own_move(
+    current: &mut Current,
+    at_once: AtOnce,
+    fiber: u16,
+    rivals: &mut Vec<Option<u16>>,
+) -> bool
+    requires fits { AllFit (here current.old).world }
+    requires rivals { AreRivals (here current.old).world rivals.old.items }
+    ensures same { IsSame current.old current.new }
+    ensures own { result ≡ is_made at_once (here current.old).world fiber }
+    ensures rivals { AreRivals (here current.old).world rivals.new.items }
+{
+    if has_rival(rivals.as_slice(), fiber) {
+        return false;
+    }
+    if let Some(rival) = rival_of(&mut *current, fiber) {
+        note_rival(rivals, fiber, Some(rival));
+        return false;
+    }
+    can_move(current, at_once, fiber)
 }
 
 // Whether the next move of a fiber is an own move that is allowed at once.

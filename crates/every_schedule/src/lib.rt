@@ -38,6 +38,7 @@ mod pool;
 mod reduced_worlds;
 mod reports;
 mod resting;
+mod rivals;
 mod rows;
 mod seen_row;
 mod seen_worlds;

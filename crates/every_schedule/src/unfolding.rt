@@ -116,8 +116,9 @@ pub(crate) fn unfold(
     let first = CoreWorld::first(alloc, program, limits)?;
     let mut current = Current::new(alloc, first)?;
     let mut trail = Vec::new(alloc);
+    let mut rivals = Vec::new(alloc);
     for fiber in schedule {
-        match leap(&mut current, *fiber, at_once, &mut trail) {
+        match leap(&mut current, *fiber, at_once, &mut rivals, &mut trail) {
             Ok(()) => {}
             Err(fault) => {
                 if is_memory(fault) {

@@ -1,54 +1,37 @@
-use Rattle.std.proofs.Common.{◌≡◌, ◌<◌, Bool, true, false, not, length, refl, sym, ◌∙◌, subst, arith}
-use Rattle.scheduled_core.specs.Fitting.{AllFit}
+use Rattle.std.proofs.Common.{◌≡◌, ℕ, sym, ap, ◌∙◌, subst, arith}
+use Rattle.std.specs.Prelude.{List, Option, Some}
+use Rattle.std.specs.List.{slice_get}
+use Rattle.std.proofs.lemmas.Grind.{common_steps}
 use Rattle.every_schedule.specs.Places.{Place}
+use Rattle.every_schedule.specs.Reduced.{is_made}
 use Rattle.every_schedule.specs.Private.Standing.{here}
-use Rattle.every_schedule.proofs.Leaps.{made_allowed, made_birth, made_neither, made_unborn}
+use Rattle.every_schedule.proofs.Rivalry.{noted_rivals, rival_unmade}
 use Rattle.every_schedule.proofs.Standing.{same_none, same_on}
 use Rattle.every_schedule.proofs.leaping.has_own_move.Goals as goal
 
-not_true : (b : Bool) → not b ≡ true → b ≡ false
-not_true true e = absurd (cc)
-not_true false e = refl
+pub returns-then-has_rival-clause-same : goal.returns-then-has_rival-clause-same
+returns-then-has_rival-clause-same c = same_none c.args.current.now
 
-not_false : (b : Bool) → not b ≡ false → b ≡ true
-not_false true e = refl
-not_false false e = absurd (cc)
+pub returns-then-has_rival-clause-own : goal.returns-then-has_rival-clause-own
+returns-then-has_rival-clause-own c =
+    let it = c.has_rival.ensures c.if-has_rival.true in
+    let same : c.as_slice.result.now ≡ c.args.rivals.now.items = grind (arith, common_steps) in
+    let at = subst (λ (l : List (Option ℕ)). slice_get l c.args.fiber ≡ Some (Some it.0)) same it.1 in
+    sym (rival_unmade c.args.at_once (here c.args.current.now).world c.args.fiber it.0 (c.requires.rivals c.args.fiber it.0 at))
 
-pub returns-then-from-few_born-clause-same : goal.returns-then-from-few_born-clause-same
-returns-then-from-few_born-clause-same c = same_none c.args.current.now
+pub returns-in-Some-clause-own : goal.returns-in-Some-clause-own
+returns-in-Some-clause-own c =
+    sym (rival_unmade c.args.at_once (here c.args.current.now).world c.args.fiber c.in-Some.rival c.in-Some.ensures.rival)
 
-pub returns-then-from-few_born-clause-own : goal.returns-then-from-few_born-clause-own
-returns-then-from-few_born-clause-own c =
-    sym (made_unborn c.args.at_once (here c.args.current.now) c.args.fiber (let born = c.few_born.ensures.born in omega arith))
-
-pub returns-then-is_allowed-clause-same : goal.returns-then-is_allowed-clause-same
-returns-then-is_allowed-clause-same c = c.is_allowed.ensures.same
-
-pub returns-then-is_allowed-clause-own : goal.returns-then-is_allowed-clause-own
-returns-then-is_allowed-clause-own c =
-    sym (made_allowed c.args.at_once (here c.args.current.now).world c.args.fiber (sym c.is_allowed.ensures.allowed ∙ c.if-is_allowed.true))
-
-pub returns-then-not-at_once-clause-same : goal.returns-then-not-at_once-clause-same
-returns-then-not-at_once-clause-same c = c.is_allowed.ensures.same
-
-pub returns-then-not-at_once-clause-own : goal.returns-then-not-at_once-clause-own
-returns-then-not-at_once-clause-own c =
-    sym (made_neither c.args.at_once (here c.args.current.now).world c.args.fiber (sym c.is_allowed.ensures.allowed ∙ c.if-is_allowed.false)
-    (not_true c.args.at_once.births c.if-not-at_once.true))
-
-pub is_birth-requires-clause-born : goal.is_birth-requires-clause-born
-is_birth-requires-clause-born c =
-    subst (λ (p : Place). c.args.fiber < length p.world.fibers) (sym c.is_allowed.ensures.same.here) (let born = c.few_born.ensures.born in omega arith)
-
-pub is_birth-requires-clause-fits : goal.is_birth-requires-clause-fits
-is_birth-requires-clause-fits c = subst (λ (p : Place). AllFit p.world) (sym c.is_allowed.ensures.same.here) c.requires
-
-pub returns-clause-same : goal.returns-clause-same
-returns-clause-same c =
-    same_on c.args.current.now c.is_allowed.new.current c.is_birth.new.current c.is_allowed.ensures.same c.is_birth.ensures.same
+pub returns-in-Some-clause-rivals : goal.returns-in-Some-clause-rivals
+returns-in-Some-clause-rivals c =
+    noted_rivals (here c.args.current.now).world c.args.rivals.now.items c.note_rival.new.rivals.items c.args.fiber c.in-Some.rival c.note_rival.ensures
+    c.in-Some.ensures.rival c.requires.rivals
 
 pub returns-clause-own : goal.returns-clause-own
 returns-clause-own c =
-    c.is_birth.ensures.birth
-    ∙ sym (made_birth c.args.at_once (here c.args.current.now) (here c.is_allowed.new.current) c.args.fiber c.is_allowed.ensures.same.here
-    (sym c.is_allowed.ensures.allowed ∙ c.if-is_allowed.false) (not_false c.args.at_once.births c.if-not-at_once.false))
+    c.can_move.ensures.own ∙ ap (λ (p : Place). is_made c.args.at_once p.world c.args.fiber) c.rival_of.ensures.same.here
+
+pub returns-clause-same : goal.returns-clause-same
+returns-clause-same c =
+    same_on c.args.current.now c.rival_of.new.current c.can_move.new.current c.rival_of.ensures.same c.can_move.ensures.same

@@ -1,7 +1,10 @@
-use Rattle.std.proofs.Common.{◌≡◌, inl, inr, Ok, arith}
+use Rattle.std.proofs.Common.{◌≡◌, ℕ, List, inl, inr, Ok, sym, subst, arith}
+use Rattle.std.specs.Prelude.{Option}
 use Rattle.every_schedule.specs.Reduced.{leapt}
+use Rattle.every_schedule.specs.Private.Rivalry.{AreRivals}
 use Rattle.every_schedule.specs.Private.Standing.{here}
 use Rattle.every_schedule.proofs.Leaps.{leapt_goes, leapt_stops}
+use Rattle.every_schedule.proofs.Rivalry.{no_rivals}
 use Rattle.every_schedule.proofs.Standing.{onward_on}
 use Rattle.every_schedule.proofs.Trails.{leap_more, leap_none, leap_stops}
 use Rattle.every_schedule.proofs.leaping.leap.Goals as goal
@@ -37,3 +40,8 @@ returns-in-Err-clause-stops c =
           let to = leapt_stops n p f c.in-Err.fault (let born = c.few_born.ensures.born in omega arith) stops.0 in
           inr (to, leap_stops n p f (omega arith) c.args.trail.now.items c.note.new.trail.items c.in-Err.fault c.in_ok-note.ensures stops.0 to)
     ]
+
+pub push-requires-clause-rivals : goal.push-requires-clause-rivals
+push-requires-clause-rivals c =
+    let w = (here c.enter.new.self).world in
+    subst (λ (l : List (Option ℕ)). AreRivals w l) (sym c.clear.ensures.items) (no_rivals w)

@@ -10,7 +10,8 @@ pub loop-move-init : goal.loop-move-init
 loop-move-init c = record {
   onward = onward_none c.args.current.now;
   goes = ap (λ i. pushed c.args.at_once i (here c.args.current.now)) (let e : c.args.at_once.most ≡ c.args.at_once.most - 0 = omega arith in e);
-  fits = c.requires;
+  fits = c.requires.fits;
+  rivals = c.requires.rivals;
   trail = own_none c.args.at_once c.args.trail.now.items (here c.args.current.now);
 }
 
@@ -44,6 +45,7 @@ loop-move-preserved c =
       onward = onward_on c.args.current.now c.loop-move.current c.push_once.new.current known.onward c.push_once.ensures.onward;
       goes = known.goes ∙ pushed_next c.args.at_once (c.args.at_once.most - c.loop-move._move) m (here c.loop-move.current) next left told.goes;
       fits = told.fits;
+      rivals = told.rivals;
       trail = own_more c.args.at_once c.args.trail.now.items c.loop-move.trail.items c.push_once.new.trail.items (here c.args.current.now)
           (here c.loop-move.current) next known.trail told.trail;
     }

@@ -1,9 +1,16 @@
 use Rattle.std.proofs.Common.{◌≡◌, ℕ, List, Ok, Err, sym, ◌∙◌, subst}
+use Rattle.std.specs.Prelude.{Some}
+use Rattle.std.specs.List.{slice_get}
+use Rattle.fiber_frames.specs.Fiber.{ask_of}
+use Rattle.scheduled_core.specs.declared.wish.Wish.{Wish}
+use Rattle.scheduled_core.specs.Core.{wish_of}
 use Rattle.scheduled_core.specs.Fitting.{AllFit}
 use Rattle.every_schedule.specs.Places.{Place, stepped}
 use Rattle.every_schedule.specs.Private.Standing.{here}
 use Rattle.every_schedule.specs.Private.Trails.{IsOwnTrail}
 use Rattle.every_schedule.proofs.Leaps.{fiber_made, fiber_none, fiber_refused, may_own, own_moves, refused_with}
+use Rattle.every_schedule.specs.Private.Rivalry.{AreLeft, AreRivals}
+use Rattle.every_schedule.proofs.Rivalry.{left_rivals, made_born}
 use Rattle.every_schedule.proofs.Standing.{onward_on, same_onward}
 use Rattle.every_schedule.proofs.Trails.{own_none, own_one}
 use Rattle.every_schedule.proofs.leaping.push_fiber.Goals as goal
@@ -84,3 +91,27 @@ returns-in-Err-clause-trail c =
     let p = here c.args.current.now in
     let both = refused_with c.in-Err.fault _ (c.is_memory.ensures c.if-is_memory.false) c.in-Err.ensures.stops in
     subst (λ (x : Place). IsOwnTrail c.args.at_once old old p x) (sym (both.1 ∙ c.has_own_move.ensures.same.here)) (own_none c.args.at_once old p)
+
+pub returns-then-not-has_own_move-clause-rivals : goal.returns-then-not-has_own_move-clause-rivals
+returns-then-not-has_own_move-clause-rivals c =
+    subst (λ (p : Place). AreRivals p.world c.has_own_move.new.rivals.items) (sym c.has_own_move.ensures.same.here) c.has_own_move.ensures.rivals
+
+pub returns-in-Err-clause-rivals : goal.returns-in-Err-clause-rivals
+returns-in-Err-clause-rivals c =
+    let both = refused_with c.in-Err.fault _ (c.is_memory.ensures c.if-is_memory.false) c.in-Err.ensures.stops in
+    subst (λ (p : Place). AreRivals p.world c.has_own_move.new.rivals.items) (sym (both.1 ∙ c.has_own_move.ensures.same.here)) c.has_own_move.ensures.rivals
+
+pub returns-clause-rivals : goal.returns-clause-rivals
+returns-clause-rivals c =
+    let p = here c.args.current.now in
+    let q = here c.enter.new.self in
+    let own = sym c.has_own_move.ensures.own ∙ c.if-not-has_own_move.false in
+    let goes : stepped p c.args.fiber ≡ Ok q = subst (λ (x : Place). stepped x c.args.fiber ≡ Ok q) c.has_own_move.ensures.same.here c.in-Ok.ensures.goes in
+    let b = made_born c.args.at_once p.world c.args.fiber own in
+    let wish : c.wish_of-wish.result ≡ wish_of (ask_of b.0) =
+    c.wish_of-wish.ensures b.0 (subst (λ (x : Place). slice_get x.world.fibers c.args.fiber ≡ Some b.0) (sym c.has_own_move.ensures.same.here) b.1) in
+    left_rivals p q c.args.fiber b.0 c.has_own_move.new.rivals.items c.forget.new.rivals.items b.1
+    (subst (λ (x : Wish). AreLeft c.has_own_move.new.rivals.items c.forget.new.rivals.items c.args.fiber x) wish c.forget.ensures) goes c.has_own_move.ensures.rivals
+
+pub wish_of-wish-requires : goal.wish_of-wish-requires
+wish_of-wish-requires c = subst (λ (p : Place). AllFit p.world) (sym c.has_own_move.ensures.same.here) c.requires.fits

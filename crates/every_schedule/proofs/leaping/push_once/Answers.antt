@@ -3,6 +3,7 @@ use Rattle.every_schedule.specs.Places.{Place}
 use Rattle.every_schedule.specs.Reduced.{pushed_once, swept}
 use Rattle.every_schedule.specs.Private.Standing.{here}
 use Rattle.every_schedule.proofs.Leaps.{swept_next, swept_none}
+use Rattle.every_schedule.proofs.Rivalry.{only_rivals}
 use Rattle.every_schedule.proofs.Standing.{onward_none, onward_on}
 use Rattle.every_schedule.proofs.Trails.{own_more, own_none}
 use Rattle.every_schedule.proofs.leaping.push_once.Goals as goal
@@ -12,7 +13,8 @@ loop-done-init c = record {
   onward = onward_none c.args.current.now;
   goes = ap (λ i. swept c.args.at_once i (here c.args.current.now)) (let e : c.few_born-born.result ≡ c.few_born-born.result - 0 = omega arith in e);
   stays = λ e. refl;
-  fits = c.requires;
+  fits = c.requires.fits;
+  rivals = only_rivals (here c.args.current.now).world c.args.rivals.now.items c.widen.new.rivals.items c.in_ok-widen.ensures c.requires.rivals;
   trail = own_none c.args.at_once c.args.trail.now.items (here c.args.current.now);
 }
 
@@ -31,6 +33,7 @@ loop-done-preserved c =
           ap (λ i. swept c.args.at_once i next) place;
       stays = λ none. let both = c.either-moved.ensures none in told.stays both.1 ∙ known.stays both.0;
       fits = told.fits;
+      rivals = told.rivals;
       trail = own_more c.args.at_once c.args.trail.now.items c.loop-done.trail.items c.push_fiber.new.trail.items (here c.args.current.now) now
           next known.trail told.trail;
     }
