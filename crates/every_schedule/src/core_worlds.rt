@@ -188,7 +188,13 @@ impl CoreWorlds {
         self.current
             .go_to(self.rows.registry(world), self.rows.fibers(world))?;
         trail.clear();
-        match leap(&mut self.current, fiber, at_once, &mut self.rivals, &mut *trail) {
+        match leap(
+            &mut self.current,
+            fiber,
+            at_once,
+            &mut self.rivals,
+            &mut *trail,
+        ) {
             Ok(()) => {}
             Err(fault) => return fault_met(&mut self.faults, fault),
         }

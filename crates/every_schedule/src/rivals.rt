@@ -78,8 +78,7 @@ fn is_rival(current: &mut Current, by: u16, call: Call, rival: u16) -> bool
         }
         Call::Get(it) => can(current, by, Use::Stores, it, rival),
         Call::Set(it, _) | Call::Modify(it, _) => {
-            can(&mut *current, by, Use::Stores, it, rival)
-                || can(current, by, Use::Gets, it, rival)
+            can(&mut *current, by, Use::Stores, it, rival) || can(current, by, Use::Gets, it, rival)
         }
         Call::Complete(it, _) => {
             is_empty(&*current, it)
