@@ -45,10 +45,13 @@ pub fn obey_sample<I: TextIn, O: TextOut, E: TextOut>(
         never,
         reach,
     } = sampling;
-    if are_none(always.as_slice(), never.as_slice(), reach.as_slice()) {
+    let held = always.as_slice();
+    let barred = never.as_slice();
+    let sought = reach.as_slice();
+    if are_none(held, barred, sought) {
         return obey_plain(alloc, order, json, input, out, err);
     }
-    match asked_of(alloc, always.as_slice(), never.as_slice(), reach.as_slice()) {
+    match asked_of(alloc, held, barred, sought) {
         Ok(asked) => obey_asked(alloc, order, json, asked.as_slice(), input, out, err),
         Err(fault) => refuse_claim(alloc, fault, err),
     }

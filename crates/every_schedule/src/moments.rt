@@ -1,5 +1,5 @@
 //! The moments of one schedule: the claims that a world on its way meets.
-ghost use Rattle.std.specs.Prelude.{◌≡◌, ◌<◌, ◌≤◌, ℕ, List, length, OnErr, OnOk, IfOk, Ok as GoesWell, Some, true, false};
+ghost use Rattle.std.specs.Prelude.{◌≡◌, ◌++◌, ◌<◌, ◌≤◌, ℕ, List, [], ◌∷◌, length, IfErr, IfOk, OnOk, Some, true};
 ghost use Rattle.std.specs.List.{All, slice_get};
 ghost use Rattle.derived_ops.specs.Expansion.{code_of};
 ghost use Rattle.derived_ops.specs.Reading.{source_of};
@@ -47,7 +47,7 @@ pub fn note_met(
         All (IsFew 1000) met.new.items) }
     ensures brief { OnOk result ((most : ℕ) → length schedule.now ≤ most → All (IsBrief most) met.old.items →
         All (IsBrief most) met.new.items) }
-    ensures memory { OnErr result (λ e. e ≡ RunError.NoMemory) }
+    ensures memory { IfErr result (λ e. e ≡ RunError.NoMemory) }
 {
     let mut world = CoreWorld::first(alloc, program, limits)?;
     let mut seen = Vec::new(alloc);
@@ -92,11 +92,35 @@ fn look(
         AreFoundBelow code k claims.now entries.now met.new.items (length claims.now)) }
 {
     for number in 0..claims.len() {
-        let claim = &claims[number];
-        if !has_claim(met.as_slice(), number) && is_met(alloc, world, seen, claim)? {
-            add(&mut *met, number, entries, alloc)?;
-        }
+        look_at(alloc, world, seen, entries, number, &claims[number], &mut *met)?;
     }
+    Ok(())
+}
+
+// Adds one claim, if it isn't in `met` yet and this world meets it.
+fn look_at(
+    alloc: Global,
+    world: &CoreWorld,
+    seen: &[u16],
+    entries: &[u16],
+    number: usize,
+    claim: &Claim,
+    met: &mut Vec<Met>,
+) -> Result<(), AllocError>
+    ensures added { OnOk result ((code : Tree) (k : TheLimits) (claims : List (List TheClaimWord)) →
+        IsAt code k world.now seen.now entries.now → slice_get claims number ≡ Some claim.now →
+        AddsMet code k claims entries.now met.old.items met.new.items) }
+    ensures found { OnOk result (is_met record { place = world.now; seen = seen.now } claim.now ≡ true →
+        IsFound number met.new.items) }
+{
+    if has_claim(met.as_slice(), number) {
+        return Ok(());
+    }
+    let here = is_met(alloc, world, seen, claim)?;
+    if !here {
+        return Ok(());
+    }
+    add(met, number, entries, alloc)?;
     Ok(())
 }
 
@@ -111,7 +135,7 @@ fn is_met(alloc: Global, world: &CoreWorld, seen: &[u16], claim: &Claim) -> Resu
 
 // Whether the claim of this number is in `met`.
 fn has_claim(met: &[Met], claim: usize) -> bool
-    ensures some { result ≡ true → IsFound claim met.now }
+    ensures { result ≡ true → IsFound claim met.now }
 {
     for one in met {
         if one.claim == claim {

@@ -43,11 +43,13 @@ pub fn sample_claims(
     let first = first_fibers(alloc, program)?;
     let mut draws = Draws::new(seed);
     let mut met = Vec::new(alloc);
-    for _ in 0..times {
+    let mut schedules = 0;
+    while schedules < times {
         let most = entries as usize;
         let drawn = draw(alloc, first.as_slice(), limits, &mut draws, most)?;
         let schedule = drawn.answer.schedule.as_slice();
         note_met(alloc, program, limits, schedule, claims, &mut met)?;
+        schedules += 1;
     }
     Ok(met)
 }
