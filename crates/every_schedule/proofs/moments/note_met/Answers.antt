@@ -1,4 +1,4 @@
-use Rattle.std.proofs.Common.{◌≡◌, ℕ, ◌+◌, List, get_or, length, take, Ok, Err, refl, sym, ap, ap₂, ◌∙◌, subst, arith}
+use Rattle.std.proofs.Common.{◌≡◌, ℕ, ◌+◌, List, get_or, length, take, Ok, Err, inl, inr, refl, sym, ap, ap₂, ◌∙◌, subst, arith}
 use Rattle.std.proofs.lemmas.List.{take_all}
 use Rattle.std.proofs.lemmas.List.Sums.{fold_more}
 use Rattle.derived_ops.specs.Expansion.{code_of}
@@ -205,9 +205,13 @@ returns-in-Err-clause-looked c =
     let first = first_view (first_place code k) in
     let f = get_or schedule i 0 in
     let set = c.in_ok-note_ref.ensures ∙ ap (noted c.loop-place.seen.items) c.stored_by-stored.ensures in
+    let stopped : stepped c.loop-place.world f ≡ Err c.in-Err.fault = elim c.in-Err.ensures.stops [
+      | inl lacks ↦ absurd (c.is_memory.ensures c.if-is_memory.false lacks)
+      | inr is ↦ is
+    ] in
     let stop : run (viewed stepped) (Ok first) (take (i + 1) schedule) ≡ Err c.in-Err.fault =
     fold_more (entered (viewed stepped)) (Ok first) schedule i 0 c.loop-place-test.true ∙ ap (λ x. entered (viewed stepped) x f) known.at
-    ∙ ap₂ seeing (sym set) ? in
+    ∙ ap₂ seeing (sym set) stopped in
     looked_fault code k claims schedule new (i + 1) c.in-Err.fault stop
     (before_more code k claims schedule old new i more.more (c.in_ok-look.ensures.found code k at) known.found)
 
