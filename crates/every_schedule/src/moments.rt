@@ -137,8 +137,8 @@ fn is_met(alloc: Global, world: &CoreWorld, seen: &[u16], claim: &Claim) -> Resu
 fn has_claim(met: &[Met], claim: usize) -> bool
     ensures { result ≡ true → IsFound claim met.now }
 {
-    for one in met {
-        if one.claim == claim {
+    for number in 0..met.len() {
+        if met[number].claim == claim {
             return true;
         }
     }
