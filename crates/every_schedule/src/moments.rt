@@ -92,7 +92,15 @@ fn look(
         AreFoundBelow code k claims.now entries.now met.new.items (length claims.now)) }
 {
     for number in 0..claims.len() {
-        look_at(alloc, world, seen, entries, number, &claims[number], &mut *met)?;
+        look_at(
+            alloc,
+            world,
+            seen,
+            entries,
+            number,
+            &claims[number],
+            &mut *met,
+        )?;
     }
     Ok(())
 }

@@ -1,4 +1,3 @@
-use Rattle.std.proofs.Common.{◌≡◌}
 use Rattle.derived_ops.specs.Tree.{Tree}
 use Rattle.cell_registry.specs.declared.limits.Limits.{Limits}
 use Rattle.every_schedule.specs.Private.Looking.{AddsMet, AreFoundBelow, IsAt}

@@ -4,7 +4,7 @@ use Rattle.std.specs.List.{slice_get}
 use Rattle.world_search.specs.declared.claims.Met.{Met}
 use Rattle.world_search.specs.Claims.{IsFound}
 use Rattle.every_schedule.specs.declared.claims.ClaimWord.{ClaimWord}
-use Rattle.every_schedule.specs.Claims.{Meets, is_met}
+use Rattle.every_schedule.specs.Claims.{Meets}
 use Rattle.every_schedule.proofs.Looking.{adds_none, adds_one, found_last, met_here}
 use Rattle.every_schedule.proofs.moments.look_at.Goals as goal
 

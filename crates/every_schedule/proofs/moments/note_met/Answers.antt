@@ -1,4 +1,4 @@
-use Rattle.std.proofs.Common.{◌≡◌, ℕ, ◌+◌, List, get_or, length, take, Ok, Err, inl, inr, refl, sym, ap, ap₂, ◌∙◌, subst, arith}
+use Rattle.std.proofs.Common.{◌≡◌, ℕ, ◌+◌, List, get_or, length, take, Ok, Err, inl, inr, sym, ap, ap₂, ◌∙◌, subst, arith}
 use Rattle.std.proofs.lemmas.List.{take_all}
 use Rattle.std.proofs.lemmas.List.Sums.{fold_more}
 use Rattle.derived_ops.specs.Expansion.{code_of}
@@ -214,4 +214,3 @@ returns-in-Err-clause-looked c =
     ∙ ap₂ seeing (sym set) stopped in
     looked_fault code k claims schedule new (i + 1) c.in-Err.fault stop
     (before_more code k claims schedule old new i more.more (c.in_ok-look.ensures.found code k at) known.found)
-
