@@ -55,8 +55,8 @@ pairs_length R xs ys no_pair = refl
 pairs_length R xs ys (a_pair all bs a b h r) =
     length-append all (a ∷ []) ∙ ap (λ n. n + 1) (pairs_length R all bs h) ∙ sym (length-append bs (b ∷ []))
 
-pub lines_more : (L : Asked → Verdict → List ℕ → Type 0) (all : List Asked) (vs : List Verdict) (text new line : List ℕ) (i : ℕ) (a : Asked) (v : Verdict) → i < length all →
-    a ≡ get_or all i a → i < length vs → v ≡ get_or vs i v → new ≡ text ++ line → L a v line →
+pub lines_more : (L : Asked → Verdict → List ℕ → Type 0) (all : List Asked) (vs : List Verdict) (text new line : List ℕ) (i : ℕ) (a : Asked) (v : Verdict) →
+    i < length all → a ≡ get_or all i a → i < length vs → v ≡ get_or vs i v → new ≡ text ++ line → L a v line →
     AreLines L (take i all) (take i vs) text → AreLines L (take (i + 1) all) (take (i + 1) vs) new
 lines_more L all vs text new line i a v low at low' at' is l h =
     subst (λ t. AreLines L (take (i + 1) all) (take (i + 1) vs) t) (sym is)

@@ -4,8 +4,8 @@ ghost use Rattle.std.specs.Prelude.{◌≡◌, ◌++◌, IfOk, OnOk, length};
 ghost use Rattle.std.specs.List.{All};
 ghost use Rattle.cell_registry.specs.Cells.{AreLimits};
 ghost use Rattle.claim_answers.specs.Private.Met.{IsLineOf, IsSpellable};
-ghost use Rattle.claim_answers.specs.Verdicts.{AreLines, IsLine, IsShown, IsTimed, json_line, json_schedule, rule_text, under};
-ghost use Rattle.claim_answers.specs.Verdicts.{json_back, json_front, verdict_text, word_line};
+ghost use Rattle.claim_answers.specs.Verdicts.{AreLines, IsLine, IsShown, IsTimed, json_line, json_schedule};
+ghost use Rattle.claim_answers.specs.Verdicts.{json_back, json_front, rule_text, under, verdict_text, word_line};
 
 use crate::asked::{Asked, Rule};
 use crate::judging::Verdict;

@@ -11,7 +11,8 @@ ghost use Rattle.std.specs.List.{All};
 ghost use Rattle.claim_words.specs.Spacing.{spaced_text};
 ghost use Rattle.claim_answers.specs.Claims.{IsSought, Pairwise};
 ghost use Rattle.claim_answers.specs.ClaimsAnswers.{IsUnnamedAnswer};
-ghost use Rattle.claim_answers.specs.Drawn.{IsSampledClaims, IsSeenAnswer, IsSeenLine, form_of, sampled_as, seen_status};
+ghost use Rattle.claim_answers.specs.Drawn.{IsSampledClaims, IsSeenAnswer, IsSeenLine, form_of, sampled_as};
+ghost use Rattle.claim_answers.specs.Drawn.{seen_status};
 ghost use Rattle.claim_answers.specs.Private.Met.{AreSeenBy, IsFoundAs};
 ghost use Rattle.claim_answers.specs.Verdicts.{AreLines};
 

@@ -36,12 +36,13 @@ samples_alone json order before after status =
     ObeysNoted (sample_refuses json) (samples_as json order) IsTextReasons false before after status
 
 -- The text is answered for these claims, and the note goes to `err`. If there is a fault, only its line goes to `err`.
-pub record SeesText (order : SampleOrder) (json : Bool) (asked : List Asked) (before after : Devices) (status : Status) :
-    Type 0
+pub record SeesText (order : SampleOrder) (json : Bool) (asked : List Asked) (before after : Devices)
+    (status : Status) : Type 0
   where
     pub note : List ℕ
     pub result : Result Status TextFault
-    pub answered : IsAnswered (IsSampledClaims json order asked note) before.input after.input before.out after.out result
+    pub answered : IsAnswered (IsSampledClaims json order asked note) before.input after.input before.out after.out
+        result
     pub told : TellsBeside IsTextReasons false note result before.input after.input before.err after.err
     pub status_is : status ≡ status_of result
 

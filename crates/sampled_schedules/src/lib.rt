@@ -6,8 +6,8 @@
 //! counts of all answers add up to the number of schedules that were drawn. The crate promises nothing about schedules
 //! that weren't drawn. The numbers are those of xoshiro256++, so that a seed gives the same answers on every machine.
 //!
-//! [`sample_claims`] checks claims in each world on the way of such schedules. Each claim that it returns has a schedule
-//! that leads to a world which meets the claim.
+//! [`sample_claims`] checks claims in each world on the way of such schedules. Each claim that it returns has a
+//! schedule that leads to a world which meets the claim.
 #![tactic(auto)]
 
 mod claimed;
