@@ -49,3 +49,23 @@ loop-schedules-preserved c =
       brief = noted.brief c.args.entries (subst (λ (s : List ℕ). length s ≤ c.args.entries) (sym same) drawing.drawn.short) known.brief;
       within = omega arith;
     }
+
+pub loop-schedules-preserved-in_ok-note_met : goal.loop-schedules-preserved-in_ok-note_met
+loop-schedules-preserved-in_ok-note_met c =
+    let known = c.loop-schedules.invariant in
+    let code = code_of (source_of c.args.program.now) in
+    let k = c.args.limits in
+    let d = c.in_ok-drawn.drawn in
+    let old = c.loop-schedules.met.items in
+    let new = c.note_met.new.met.items in
+    let drawing : IsDrawing code k c.args.entries d = c.in_ok-drawn.ensures.drawn code (c.as_slice.ensures.value ∙ c.in_ok-first.ensures.first) in
+    let noted = c.in_ok-note_met.ensures in
+    let same = c.as_slice-schedule.ensures in
+    record {
+      met = noted.met known.met;
+      looked = looks_more code k c.args.entries c.args.claims.now c.loop-schedules.schedules old new d known.looked drawing noted.kept
+          (λ i words is m. noted.looked i words is (subst (λ (s : List ℕ). MeetsOnTheWay code k words s) (sym same) m));
+      few = noted.few (subst (λ (s : List ℕ). All (λ f. f < 1000) s) (sym same) drawing.drawn.numbers) known.few;
+      brief = noted.brief c.args.entries (subst (λ (s : List ℕ). length s ≤ c.args.entries) (sym same) drawing.drawn.short) known.brief;
+      within = omega arith;
+    }
