@@ -1,4 +1,3 @@
-use Rattle.std.proofs.Common.{false, true}
 use Rattle.claim_answers.proofs.sampling.sampled_answer.Goals as goal
 
 pub returns-then-json : goal.returns-then-json
