@@ -63,11 +63,11 @@ early step Free free = record { goes = free.goes; commutes = λ w f x h q g apar
 
 module _ {W E : Type 0} (step : W → ℕ → Result W E) where
   -- some entries after y lead to where at most n entries lead from x
-  abbrev Comes : W → Result W E → ℕ → Type 0
+  abbrev pub Comes : W → Result W E → ℕ → Type 0
   Comes x y n = (t : List ℕ) × (more : List ℕ) × (length t ≤ n) × (run step y more ≡ run step (Ok x) t)
 
   -- an entry that changes nothing is left out
-  idle_left_out : (s : List ℕ) (w x : W) (y : Result W E) → y ≡ Ok w → Comes x (run step (Ok w) s) (length s) → Comes x (run step y s) (suc (length s))
+  pub idle_left_out : (s : List ℕ) (w x : W) (y : Result W E) → y ≡ Ok w → Comes x (run step (Ok w) s) (length s) → Comes x (run step y s) (suc (length s))
   idle_left_out s w x y idle h = (h.0, h.1, omega (arith, h.2), ap (λ z. run step (run step z s) h.1) idle ∙ h.3)
 
   module _ (Free : W → ℕ → Type 0) (free : AreEarly step Free) where
@@ -89,7 +89,7 @@ module _ {W E : Type 0} (step : W → ℕ → Result W E) where
         ])
 
     -- several free moves made earlier
-    ahead_led : (w v : W) → Leads step Free w v → (s : List ℕ) → Comes v (run step (Ok w) s) (length s)
+    pub ahead_led : (w v : W) → Leads step Free w v → (s : List ℕ) → Comes v (run step (Ok w) s) (length s)
     ahead_led w v (Here a b same) s = (s, [], omega arith, ap (λ x. run step (Ok x) s) same)
     ahead_led w v (On a f x b h q on) s =
         let one = ahead s a x f h q in
@@ -129,7 +129,7 @@ module _ {W E : Type 0} (step : W → ℕ → Result W E) where
       overtakes w s = overtaken (length s) w s (omega arith)
 
       -- a schedule of the reduced system is one of the full system, in which each free move is an entry
-      unfolded_next : (y : Result W E) (z : Result W E) → Leaps step Free y z → (s : List ℕ) × (run step y s ≡ z)
+      pub unfolded_next : (y : Result W E) (z : Result W E) → Leaps step Free y z → (s : List ℕ) × (run step y s ≡ z)
       unfolded_next (Ok x) z h = let on = leads_run x h.0 h.1 in (on.0, on.1 ∙ sym h.2)
       unfolded_next (Err e) z h = ([], sym h)
 
