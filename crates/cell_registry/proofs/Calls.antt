@@ -1,31 +1,13 @@
 -- What each call leaves of a registry.
-use Rattle.std.proofs.Common.{◌≡◌, ◌≢◌, ◌⊎◌, inl, inr, ℕ, ◌+◌, ◌<◌, ◌≤◌, Bool, true, false, refl, sym, ap, ◌∙◌}
-use Rattle.std.proofs.Common.{subst, arith, eqb, eq-eqb, ne_eqb, length-set, get_or-set_other, pos, ℤ, ◌+ℤ◌}
-use mathlib.Core.Logic.{dite}
-use native.Mathlib.Decide.{ℕ_discrete}
-use Rattle.std.specs.Prelude.{cond, Option, Some, None}
-use Rattle.std.proofs.lemmas.List.{length-replicate}
-use Rattle.effect_term.specs.declared.reply.Outcome.{Outcome}
-use Rattle.effect_term.specs.declared.reply.Outcome.TheVariants.{Succeeded, Errored, Canceled}
-use Rattle.effect_term.specs.Values.{IsValue}
-use Rattle.effect_term.proofs.ValueLaws.{wrapped_is_value}
-use Rattle.cell_registry.specs.declared.limits.Limits.{Limits}
-use Rattle.cell_registry.specs.declared.limits.Band.{Band}
-use Rattle.cell_registry.specs.declared.limits.Band.TheVariants.{Fibers, Refs, Deferreds}
+use Rattle.cell_registry.proofs.Prelude.{◌≡◌, ◌≢◌, ◌⊎◌, inl, inr, ℕ, ◌+◌, ◌<◌, ◌≤◌, Bool, true, false, refl, sym, ap, ◌∙◌, subst, arith, eqb, eq-eqb, ne_eqb}
+use Rattle.cell_registry.proofs.Prelude.{length-set, get_or-set_other, pos, ℤ, ◌+ℤ◌, dite, ℕ_discrete, cond, Option, Some, None, length-replicate, Outcome}
+use Rattle.cell_registry.proofs.Prelude.{Succeeded, Errored, Canceled, IsValue, wrapped_is_value, Limits, Band, Fibers, Refs, Deferreds, Stage, Running}
+use Rattle.cell_registry.proofs.Prelude.{Finalizing, Ended, Cell, Call, Start, Cancel, Join, Mask, Unmask, Cut, Finish, NewRef, NewDeferred, Set, Modify}
+use Rattle.cell_registry.proofs.Prelude.{Complete, AreLimits, fresh, requested, awaited, owned, MayFinish, Cells, opening, cell_of, ref_of, deferred_of}
+use Rattle.cell_registry.proofs.Prelude.{with_cell, with_ref, with_deferred, filled, after, IsAllowed, full, spent, refusal, IsAccepted, OutcomeFits, ValueFits}
+use Rattle.cell_registry.proofs.Prelude.{IsCell, IsSound, next_of, claim_of}
 use Rattle.cell_registry.specs.declared.limits.CellError.{CellError}
 use Rattle.cell_registry.specs.declared.limits.CellError.TheVariants.{Full, Spent}
-use Rattle.cell_registry.specs.declared.cell.Stage.{Stage}
-use Rattle.cell_registry.specs.declared.cell.Stage.TheVariants.{Running, Finalizing, Ended}
-use Rattle.cell_registry.specs.declared.cell.Cell.{Cell}
-use Rattle.cell_registry.specs.declared.call.Call.{Call}
-use Rattle.cell_registry.specs.declared.call.Call.TheVariants.{Start, Cancel, Join, Look, Mask, Unmask, Cut}
-use Rattle.cell_registry.specs.declared.call.Call.TheVariants.{Finish, NewRef, NewDeferred, Get, Set, Modify}
-use Rattle.cell_registry.specs.declared.call.Call.TheVariants.{Complete, Read}
-use Rattle.cell_registry.specs.Cells.{AreLimits, fresh, requested, awaited, owned, MayFinish, Cells, opening}
-use Rattle.cell_registry.specs.Cells.{cell_of, ref_of, deferred_of, with_cell, with_ref, with_deferred, filled}
-use Rattle.cell_registry.specs.Cells.{after, IsAllowed, full, spent, refusal, IsAccepted, OutcomeFits}
-use Rattle.cell_registry.specs.Cells.{ValueFits, IsCell, IsSound}
-use Rattle.cell_registry.specs.Bands.{next_of, claim_of}
 use Rattle.cell_registry.proofs.Lists.{All-set, get_or-set_kept, get_or-replicate_default}
 
 -- ---- what isn't refused
@@ -62,34 +44,18 @@ next_of-claim : (b a : Band) (s : Cells) (by : ℕ) → (next_of b (after s by (
     ((claim_of a ≡ claim_of b) × (next_of b (after s by (claim_of a)) ≡ next_of b s + 1))
 unfolding after
 next_of-claim Fibers Fibers s by = inr (refl, refl)
-next_of-claim Fibers Refs s by = inl refl
-next_of-claim Fibers Deferreds s by = inl refl
-next_of-claim Refs Fibers s by = inl refl
 next_of-claim Refs Refs s by = inr (refl, refl)
-next_of-claim Refs Deferreds s by = inl refl
-next_of-claim Deferreds Fibers s by = inl refl
-next_of-claim Deferreds Refs s by = inl refl
 next_of-claim Deferreds Deferreds s by = inr (refl, refl)
+next_of-claim _ _ s by = inl refl
 
 -- the next number of a band stays, or the call took it
 next_of-after : (b : Band) (s : Cells) (by : ℕ) (c : Call) → (next_of b (after s by c) ≡ next_of b s) ⊎
     ((c ≡ claim_of b) × (next_of b (after s by c) ≡ next_of b s + 1))
 unfolding after
 next_of-after b s by Start = next_of-claim b Fibers s by
-next_of-after b s by (Cancel f) = inl (next_of-kept b s (after s by (Cancel f)) refl refl refl)
-next_of-after b s by (Join f) = inl (next_of-kept b s (after s by (Join f)) refl refl refl)
-next_of-after b s by Look = inl (next_of-kept b s (after s by Look) refl refl refl)
-next_of-after b s by Mask = inl (next_of-kept b s (after s by Mask) refl refl refl)
-next_of-after b s by Unmask = inl (next_of-kept b s (after s by Unmask) refl refl refl)
-next_of-after b s by Cut = inl (next_of-kept b s (after s by Cut) refl refl refl)
-next_of-after b s by (Finish o) = inl (next_of-kept b s (after s by (Finish o)) refl refl refl)
 next_of-after b s by NewRef = next_of-claim b Refs s by
 next_of-after b s by NewDeferred = next_of-claim b Deferreds s by
-next_of-after b s by (Get r) = inl (next_of-kept b s (after s by (Get r)) refl refl refl)
-next_of-after b s by (Set r v) = inl (next_of-kept b s (after s by (Set r v)) refl refl refl)
-next_of-after b s by (Modify r v) = inl (next_of-kept b s (after s by (Modify r v)) refl refl refl)
-next_of-after b s by (Complete d v) = inl (next_of-kept b s (after s by (Complete d v)) refl refl refl)
-next_of-after b s by (Read d) = inl (next_of-kept b s (after s by (Read d)) refl refl refl)
+next_of-after b s by t = inl (next_of-kept b s (after s by t) refl refl refl)
 
 pub next_of-rises : (b : Band) (s : Cells) (by : ℕ) (c : Call) → next_of b s ≤ next_of b (after s by c)
 next_of-rises b s by c = elim (next_of-after b s by c) [ inl same ↦ omega arith | inr took ↦ let up = took.1 in omega arith ]
@@ -99,30 +65,21 @@ next_fiber-rises = next_of-rises Fibers
 
 -- a number that is given after a call was given before it, or by it
 pub next_of-new : (b : Band) (s : Cells) (by : ℕ) (c : Call) (n : ℕ) → n < next_of b (after s by c) → (n < next_of b s) ⊎ ((c ≡ claim_of b) × (n ≡ next_of b s))
-next_of-new b s by c n below =
-    elim (next_of-after b s by c) [
-      | inl same ↦ inl (omega arith)
-      | inr took ↦ let up = took.1 in dite (ℕ_discrete n (next_of b s)) (λ q. inr (took.0, q)) (λ q. inl (omega arith))
-    ]
+next_of-new b s by c n below = elim (next_of-after b s by c) [
+  | inl same ↦ inl (omega arith)
+  | inr took ↦ let up = took.1 in dite (ℕ_discrete n (next_of b s)) (λ q. inr (took.0, q)) (λ q. inl (omega arith))
+]
 
 -- another's call leaves what the owner alone changes
 pub owned-after : (s : Cells) (by : ℕ) (c : Call) (f : ℕ) → by ≢ f → owned (cell_of (after s by c) f) ≡ owned (cell_of s f)
 unfolding after
-owned-after s by Start f apart = refl
 owned-after s by (Cancel g) f apart = get_or-set_kept owned s.cells g (requested (cell_of s g)) fresh refl f
 owned-after s by (Join g) f apart = get_or-set_kept owned s.cells g (awaited (cell_of s g)) fresh refl f
-owned-after s by Look f apart = refl
 owned-after s by Mask f apart = ap owned (get_or-set_other s.cells by f _ fresh (λ q. apart (sym q)))
 owned-after s by Unmask f apart = ap owned (get_or-set_other s.cells by f _ fresh (λ q. apart (sym q)))
 owned-after s by Cut f apart = ap owned (get_or-set_other s.cells by f _ fresh (λ q. apart (sym q)))
 owned-after s by (Finish o) f apart = ap owned (get_or-set_other s.cells by f _ fresh (λ q. apart (sym q)))
-owned-after s by NewRef f apart = refl
-owned-after s by NewDeferred f apart = refl
-owned-after s by (Get r) f apart = refl
-owned-after s by (Set r v) f apart = refl
-owned-after s by (Modify r v) f apart = refl
-owned-after s by (Complete d v) f apart = refl
-owned-after s by (Read d) f apart = refl
+owned-after s by _ f apart = refl
 
 -- ---- a sound registry stays sound
 pub opening-sound : (k : Limits) → AreLimits k → IsSound k (opening k)
@@ -204,10 +161,8 @@ pub outcome-fits : (g : Stage) (depth : ℕ) (o : Outcome) → MayFinish g depth
 outcome-fits Running depth (Succeeded v) h = h.1
 outcome-fits Running depth (Errored c) h = h.1
 outcome-fits Running depth Canceled h = tt
-outcome-fits Finalizing depth (Succeeded v) h = absurd h
-outcome-fits Finalizing depth (Errored c) h = absurd h
 outcome-fits Finalizing depth Canceled h = tt
-outcome-fits (Ended p) depth o h = absurd h
+outcome-fits _ depth _ h = absurd h
 
 -- a change of the owner's that isn't refused
 counted : (k : Limits) (s : Cells) (by : ℕ) → IsSound k s → spent (cell_of s by).count k.count ≡ None → (cell_of s by).count + 1 ≤ k.count
@@ -219,7 +174,6 @@ after-sound k s by Start h a = let apart = full-room _ s.next_fiber k.fibers a.r
     with_next-sound k s (s.next_fiber + 1) s.next_ref s.next_deferred h (omega arith) (omega arith) h.next_ref h.next_deferred
 after-sound k s by (Cancel f) h a = let i = h.each_cell f in with_cell-sound k s f _ h record { count = i.count; depth = i.depth; stage = i.stage }
 after-sound k s by (Join f) h a = let i = h.each_cell f in with_cell-sound k s f _ h record { count = i.count; depth = i.depth; stage = i.stage }
-after-sound k s by Look h a = h
 after-sound k s by Mask h a = let deep = a.allowed.1 in
     with_cell-sound k s by _ h record { count = counted k s by h a.room; depth = omega arith; stage = (h.each_cell by).stage }
 after-sound k s by Unmask h a = let deep = (h.each_cell by).depth in
@@ -231,8 +185,7 @@ after-sound k s by NewRef h a = let apart = full-room _ s.next_ref k.refs a.room
     with_next-sound k s s.next_fiber (s.next_ref + 1) s.next_deferred h h.some_fiber h.next_fiber (omega arith) h.next_deferred
 after-sound k s by NewDeferred h a = let apart = full-room _ s.next_deferred k.deferreds a.room in let below = h.next_deferred in
     with_next-sound k s s.next_fiber s.next_ref (s.next_deferred + 1) h h.some_fiber h.next_fiber h.next_ref (omega arith)
-after-sound k s by (Get r) h a = h
 after-sound k s by (Set r v) h a = with_ref-sound k s r v h a.allowed.1
 after-sound k s by (Modify r v) h a = with_ref-sound k s r _ h (wrapped_is_value (ref_of s r +ℤ v))
 after-sound k s by (Complete d v) h a = with_deferred-sound k s d _ h (filled-fits (deferred_of s d) v (h.each_deferred d) a.allowed.1)
-after-sound k s by (Read d) h a = h
+after-sound k s by _ h a = h

@@ -1,28 +1,11 @@
 -- The steps on the word of a fiber.
-use Rattle.std.proofs.Common.{◌≡◌, ℕ, ◌+◌, ◌<◌, List, [], ◌∷◌, ◌++◌, length, set, get_or, ◌⊎◌, inl, inr, ⊎_elim}
-use Rattle.std.proofs.Common.{refl, sym, ap, ◌∙◌, subst, arith, get_or-set_same}
-use Rattle.std.specs.Prelude.{bit_or}
-use lib.Seq.{set-get_or}
-use Rattle.atomic_table.specs.Table.{Me, Allows}
-use Rattle.effect_term.specs.declared.reply.Outcome.{Outcome}
-use Rattle.effect_term.specs.declared.reply.Reply.TheVariants as reply
-use Rattle.effect_term.specs.Values.{value_bits}
-use Rattle.control_word.specs.Word.{InRange, value_of}
+use Rattle.cell_registry.proofs.Prelude.{◌≡◌, ℕ, ◌+◌, ◌<◌, List, [], ◌∷◌, ◌++◌, length, set, get_or, ◌⊎◌, inl, inr, ⊎_elim, refl, sym, ap, ◌∙◌, subst, arith}
+use Rattle.cell_registry.proofs.Prelude.{get_or-set_same, bit_or, set-get_or, Me, Allows, Outcome, value_bits, InRange, value_of, Limits, Ended, Cell, Call}
+use Rattle.cell_registry.proofs.Prelude.{Cancel, Join, Look, Entry, Knowledge, AreLimits, fresh, requested, awaited, owned, cancel_reply, join_reply, IsOpen}
+use Rattle.cell_registry.proofs.Prelude.{Cells, cell_of, with_cell, after, reply_of, IsAllowed, refusal, IsAccepted, left, IsLegal, control, cell_word}
+use Rattle.cell_registry.proofs.Prelude.{value_place, Leaves, Has, seen_cell, Fits, StoredLast, WordsAreAHistory, entry, Called, IsSame, AtCell, Cancelled}
+use Rattle.cell_registry.proofs.Prelude.{Joined, SawRequest, Reply}
 use Rattle.control_word.proofs.Fields.{or_cancel, or_waited}
-use Rattle.cell_registry.specs.declared.limits.Limits.{Limits}
-use Rattle.cell_registry.specs.declared.cell.Stage.TheVariants.{Ended}
-use Rattle.cell_registry.specs.declared.cell.Cell.{Cell}
-use Rattle.cell_registry.specs.declared.call.Call.{Call}
-use Rattle.cell_registry.specs.declared.call.Call.TheVariants.{Cancel, Join, Look}
-use Rattle.cell_registry.specs.declared.call.Entry.{Entry}
-use Rattle.cell_registry.specs.declared.knowledge.Knowledge.{Knowledge}
-use Rattle.cell_registry.specs.Cells.{AreLimits, fresh, requested, awaited, owned, cancel_reply, join_reply}
-use Rattle.cell_registry.specs.Cells.{IsOpen, Cells, cell_of, with_cell, after, reply_of, IsAllowed, refusal}
-use Rattle.cell_registry.specs.Cells.{IsAccepted}
-use Rattle.cell_registry.specs.Histories.{left, IsLegal}
-use Rattle.cell_registry.specs.Words.{control, cell_word, value_place, Leaves}
-use Rattle.cell_registry.specs.Rule.{Has, seen_cell, Fits, StoredLast, WordsAreAHistory}
-use Rattle.cell_registry.specs.Steps.{entry, Called, IsSame, AtCell, Cancelled, Joined, SawRequest}
 use Rattle.cell_registry.proofs.Lists.{get_or-set_kept}
 use Rattle.cell_registry.proofs.Legal.{left-push, sound}
 use Rattle.cell_registry.proofs.TableWords.{in_range, value_in, word_at, put_word}
@@ -139,7 +122,7 @@ module _ {S : Type 0} where
         packs = or_cancel (control c) range;
         ends = λ o e. inl e;
         told = λ made now. at_cell i f
-            (λ g. Cancelled g v (cell_word c) (advanced v h (entry v.number (Cancel f) (reply.Cancel (cancel_reply c.stage c.request))))) is (
+            (λ g. Cancelled g v (cell_word c) (advanced v h (entry v.number (Cancel f) (Reply.Cancel (cancel_reply c.stage c.request))))) is (
               c,
               range,
               refl,
@@ -166,7 +149,7 @@ module _ {S : Type 0} where
         leaves = refl;
         packs = or_waited (control c) range;
         ends = λ o e. inl e;
-        told = λ made now. at_cell i f (λ g. Joined g v (cell_word c) (advanced v h (entry v.number (Join f) (reply.Join (join_reply c.stage))))) is (
+        told = λ made now. at_cell i f (λ g. Joined g v (cell_word c) (advanced v h (entry v.number (Join f) (Reply.Join (join_reply c.stage))))) is (
           c,
           range,
           refl,

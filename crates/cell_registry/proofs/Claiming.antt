@@ -1,22 +1,9 @@
 -- The steps on the claim word of a band.
-use Rattle.std.proofs.Common.{◌≡◌, ◌≢◌, ℕ, ◌+◌, ◌<◌, ◌≤◌, List, [], ◌∷◌, ◌++◌, get_or, ◌⊎◌, inl, inr, ⊎_elim}
-use Rattle.std.proofs.Common.{refl, sym, ap, ◌∙◌, subst, arith, eqb, append_assoc}
-use prog.Atomic.{either}
-use Rattle.atomic_table.specs.Table.{Me, Allows}
-use Rattle.atomic_table.proofs.Lists.{exchanged}
-use Rattle.effect_term.specs.declared.reply.Reply.TheVariants as reply
-use Rattle.cell_registry.specs.declared.limits.Limits.{Limits}
-use Rattle.cell_registry.specs.declared.limits.Band.{Band}
-use Rattle.cell_registry.specs.declared.limits.Band.TheVariants.{Fibers, Refs, Deferreds}
-use Rattle.cell_registry.specs.declared.cell.Cell.{Cell}
-use Rattle.cell_registry.specs.declared.call.Entry.{Entry}
-use Rattle.cell_registry.specs.declared.knowledge.Knowledge.{Knowledge}
-use Rattle.cell_registry.specs.Cells.{AreLimits, fresh, owned, Cells, cell_of, after, reply_of, IsAllowed, refusal, IsAccepted}
-use Rattle.cell_registry.specs.Histories.{left, IsLegal, calls_by}
-use Rattle.cell_registry.specs.Words.{Leaves}
-use Rattle.cell_registry.specs.Rule.{Has, seen_cell, Fits, WordsAreAHistory}
-use Rattle.cell_registry.specs.Bands.{next_of, limit_of, claim_of}
-use Rattle.cell_registry.specs.Steps.{entry, Called, Looked, IsSame, band_word, MayClaim, fibers_with, IsNew, Claimed, SawNext, Tried, AtBand, FoundNone}
+use Rattle.cell_registry.proofs.Prelude.{◌≡◌, ◌≢◌, ℕ, ◌+◌, ◌<◌, ◌≤◌, List, [], ◌∷◌, ◌++◌, get_or, ◌⊎◌, inl, inr, ⊎_elim, refl, sym, ap, ◌∙◌, subst, arith, eqb}
+use Rattle.cell_registry.proofs.Prelude.{append_assoc, either, Me, Allows, exchanged, Limits, Band, Fibers, Refs, Deferreds, Cell, Entry, Knowledge, AreLimits}
+use Rattle.cell_registry.proofs.Prelude.{fresh, owned, Cells, cell_of, after, reply_of, IsAllowed, refusal, IsAccepted, left, IsLegal, calls_by, Leaves, Has}
+use Rattle.cell_registry.proofs.Prelude.{seen_cell, Fits, WordsAreAHistory, next_of, limit_of, claim_of, entry, Called, Looked, IsSame, band_word, MayClaim}
+use Rattle.cell_registry.proofs.Prelude.{fibers_with, IsNew, Claimed, SawNext, Tried, AtBand, FoundNone, Reply}
 use Rattle.cell_registry.proofs.Calls.{full-none}
 use Rattle.cell_registry.proofs.Legal.{left-push, next_of-prefix, unborn, unborn_cell, calls_by-other}
 use Rattle.cell_registry.proofs.Giving.{reply-claim, given, next_of-most}
@@ -29,30 +16,22 @@ use Rattle.cell_registry.proofs.CellTurns.{own_same, own_stage}
 after-claim : (b : Band) (s : Cells) (by : ℕ) → (after s by (claim_of b)).cells ≡ s.cells
 unfolding after
 after-claim Fibers s by = refl
-after-claim Refs s by = refl
-after-claim Deferreds s by = refl
+after-claim _ s by = refl
 
 accepts-claim : (b : Band) (k : Limits) (s : Cells) (by : ℕ) → MayClaim b (cell_of s by).stage → next_of b s ≢ limit_of b k → IsAccepted k s by (claim_of b)
 unfolding IsAllowed refusal
 accepts-claim Fibers k s by may room = record { allowed = may; room = full-none _ _ _ room }
-accepts-claim Refs k s by may room = record { allowed = tt; room = full-none _ _ _ room }
-accepts-claim Deferreds k s by may room = record { allowed = tt; room = full-none _ _ _ room }
+accepts-claim _ k s by may room = record { allowed = tt; room = full-none _ _ _ room }
 
 band_word-one : (b c : Band) → band_word b ≡ band_word c → b ≡ c
 band_word-one Fibers Fibers e = refl
 band_word-one Refs Refs e = refl
 band_word-one Deferreds Deferreds e = refl
-band_word-one Fibers Refs e = absurd (omega arith)
-band_word-one Fibers Deferreds e = absurd (omega arith)
-band_word-one Refs Fibers e = absurd (omega arith)
-band_word-one Refs Deferreds e = absurd (omega arith)
-band_word-one Deferreds Fibers e = absurd (omega arith)
-band_word-one Deferreds Refs e = absurd (omega arith)
+band_word-one _ _ e = absurd (omega arith)
 
 band_word-low : (b : Band) → band_word b < 3
 band_word-low Fibers = omega arith
-band_word-low Refs = omega arith
-band_word-low Deferreds = omega arith
+band_word-low _ = omega arith
 
 at_band : (b : Band) (P : Band → Type 0) → P b → AtBand (band_word b) P
 at_band b P p = λ c is. subst P (band_word-one b c is) p
@@ -107,14 +86,13 @@ module _ {S : Type 0} where
 -- ---- a claim
 -- what the pass knows once the next number is claimed
 abbrev claimed : Band → Knowledge → List Entry → ℕ → Knowledge
-claimed b v h n = record v { seen = h ++ entry v.number (claim_of b) (reply.Number n) ∷ []; fibers = fibers_with b n v.fibers; guests = []; heard = [] }
+claimed b v h n = record v { seen = h ++ entry v.number (claim_of b) (Reply.Number n) ∷ []; fibers = fibers_with b n v.fibers; guests = []; heard = [] }
 
 fibers-claim : (b : Band) (s : Cells) (by : ℕ) (v : Knowledge) (g : ℕ) → Has (fibers_with b (next_of b s) v.fibers) g → Has v.fibers g ⊎
     ((s.next_fiber ≤ g) × (g < (after s by (claim_of b)).next_fiber))
 unfolding after
 fibers-claim Fibers s by v g a = ⊎_elim (λ (e : s.next_fiber ≡ g). inr (omega arith, omega arith)) (λ a. inl a) a
-fibers-claim Refs s by v g a = inl a
-fibers-claim Deferreds s by v g a = inl a
+fibers-claim _ s by v g a = inl a
 
 -- the number of a new fiber is no other's
 unused : (b : Band) (k : Limits) (h : List Entry) (v : Knowledge) → Has v.fibers v.number → IsLegal k h → Fits k h v →
@@ -126,10 +104,9 @@ unused Fibers k h v has legal mine now =
       above = λ f owns. (mine.own f owns).born;
       cell = ap (λ (x : Cells). owned (cell_of x n)) now ∙
           ap (λ (cs : List Cell). owned (get_or cs n fresh)) (after-claim Fibers (left k h) v.number) ∙ unborn_cell k h n legal (omega arith);
-      calls = calls_by-other n h (entry v.number (claim_of Fibers) (reply.Number n)) (λ q. omega arith) ∙ unborn k h n legal (omega arith);
+      calls = calls_by-other n h (entry v.number (claim_of Fibers) (Reply.Number n)) (λ q. omega arith) ∙ unborn k h n legal (omega arith);
     }
-unused Refs k h v has legal mine now = tt
-unused Deferreds k h v has legal mine now = tt
+unused _ k h v has legal mine now = tt
 
 claim : (b : Band) (k : Limits) (h : List Entry) (words : List ℕ) (v : Knowledge) (old : ℕ) → Leaves words (left k h) → Has v.fibers v.number →
     IsLegal k h → Fits k h v → MayClaim b (seen_cell v v.number).stage → next_of b (left k h) ≡ old → old < limit_of b k
@@ -137,7 +114,7 @@ claim : (b : Band) (k : Limits) (h : List Entry) (words : List ℕ) (v : Knowled
 claim b k h words v old leaves has legal mine may is within =
     let s : Cells = left k h in
     let n : ℕ = next_of b s in
-    let e : Entry = entry v.number (claim_of b) (reply.Number n) in
+    let e : Entry = entry v.number (claim_of b) (Reply.Number n) in
     let w : Knowledge = claimed b v h n in
     let replied = reply-claim b s v.number in
     let limits : v.limits ≡ k = mine.limits v.number has in
@@ -210,14 +187,13 @@ same_twice u v w a b = record {
 new_after_look : (b : Band) (u v w : Knowledge) (n : ℕ) → IsSame u v → IsNew b v n w → IsNew b u n w
 new_after_look Fibers u v w n s new =
     record { above = λ f h. new.above f (subst (λ (fs : List ℕ). Has fs f) (sym s.fibers) h); cell = new.cell; calls = new.calls }
-new_after_look Refs u v w n s new = tt
-new_after_look Deferreds u v w n s new = tt
+new_after_look _ u v w n s new = tt
 
 pub looked_then_claimed : (b : Band) (u v w : Knowledge) (n : ℕ) → Has u.fibers u.number → Looked u v → IsSame u v → Claimed b v n w → Claimed b u n w
 looked_then_claimed b u v w n has a s c =
     let m = c.call in
     let by : v.number ≡ u.number = s.number in
-    let e = λ (f : ℕ). entry f (claim_of b) (reply.Number n) in
+    let e = λ (f : ℕ). entry f (claim_of b) (Reply.Number n) in
     record {
       call = record {
         between = a.seen.0 ++ m.between;

@@ -1,15 +1,9 @@
 -- Who was joined changes nothing: neither what a call is answered, nor how it is refused, nor what else it leaves.
-use Rattle.std.proofs.Common.{◌≡◌, ◌<◌, ℕ, zero, suc, ◌+◌, List, [], ◌∷◌, ◌++◌, arith, drop, get_or, length, map, take, replicate, set, refl, sym, ap, ap₂, ◌∙◌, subst}
-use Rattle.std.proofs.lemmas.List.{length-map, map-set}
+use Rattle.cell_registry.proofs.Prelude.{◌≡◌, ◌<◌, ℕ, zero, suc, ◌+◌, List, [], ◌∷◌, ◌++◌, arith, drop, get_or, length, map, take, replicate, set, refl, sym}
+use Rattle.cell_registry.proofs.Prelude.{ap, ap₂, ◌∙◌, subst, length-map, map-set, Limits, Cell, Call, Cells, IsCell, IsSound, after, awaited, cancel_reply}
+use Rattle.cell_registry.proofs.Prelude.{cell_of, cut, finished, fresh, join_reply, masked, opening, refusal, reply_of, requested, spent, unawaited, unmasked}
+use Rattle.cell_registry.proofs.Prelude.{without_waits, IsPlain, PlainView, Reply}
 use Rattle.std.proofs.Math.ListN as lists
-use Rattle.effect_term.specs.declared.reply.Reply.TheVariants as reply
-use Rattle.cell_registry.specs.declared.limits.Limits.{Limits}
-use Rattle.cell_registry.specs.declared.cell.Cell.{Cell}
-use Rattle.cell_registry.specs.declared.call.Call.{Call}
-use Rattle.cell_registry.specs.declared.call.Call.TheVariants as call
-use Rattle.cell_registry.specs.Cells.{Cells, IsCell, IsSound, after, awaited, cancel_reply, cell_of, cut, finished, fresh, join_reply, masked}
-use Rattle.cell_registry.specs.Cells.{opening, refusal, reply_of, requested, spent, unawaited, unmasked, without_waits}
-use Rattle.cell_registry.specs.Plain.{IsPlain, PlainView}
 
 pub unawaited_cell : (s : Cells) (f : ℕ) → cell_of (without_waits s) f ≡ unawaited (cell_of s f)
 unawaited_cell s f = lists.get_or-map unawaited s.cells f fresh
@@ -27,40 +21,19 @@ count_stays s f = ap (λ (c : Cell). c.count) (unawaited_cell s f)
 -- what a call is answered
 pub same_reply : (s : Cells) (by : ℕ) (c : Call) → reply_of (without_waits s) by c ≡ reply_of s by c
 unfolding reply_of
-same_reply s by call.Start = refl
-same_reply s by (call.Cancel f) = ap (λ (c : Cell). reply.Cancel (cancel_reply c.stage c.request)) (unawaited_cell s f)
-same_reply s by (call.Join f) = ap (λ (c : Cell). reply.Join (join_reply c.stage)) (unawaited_cell s f)
-same_reply s by call.Look = ap (λ (c : Cell). reply.Seen c.request) (unawaited_cell s by)
-same_reply s by call.Mask = refl
-same_reply s by call.Unmask = refl
-same_reply s by call.Cut = refl
-same_reply s by (call.Finish o) = refl
-same_reply s by call.NewRef = refl
-same_reply s by call.NewDeferred = refl
-same_reply s by (call.Get r) = refl
-same_reply s by (call.Set r v) = refl
-same_reply s by (call.Modify r v) = refl
-same_reply s by (call.Complete d v) = refl
-same_reply s by (call.Read d) = refl
+same_reply s by (Call.Cancel f) = ap (λ (c : Cell). Reply.Cancel (cancel_reply c.stage c.request)) (unawaited_cell s f)
+same_reply s by (Call.Join f) = ap (λ (c : Cell). Reply.Join (join_reply c.stage)) (unawaited_cell s f)
+same_reply s by Call.Look = ap (λ (c : Cell). Reply.Seen c.request) (unawaited_cell s by)
+same_reply s by _ = refl
 
 -- how it is refused
 pub same_refusal : (k : Limits) (s : Cells) (by : ℕ) (c : Call) → refusal k (without_waits s) by c ≡ refusal k s by c
 unfolding refusal
-same_refusal k s by call.Start = refl
-same_refusal k s by (call.Cancel f) = refl
-same_refusal k s by (call.Join f) = refl
-same_refusal k s by call.Look = refl
-same_refusal k s by call.Mask = ap (λ n. spent n k.count) (count_stays s by)
-same_refusal k s by call.Unmask = ap (λ n. spent n k.count) (count_stays s by)
-same_refusal k s by call.Cut = ap (λ n. spent n k.count) (count_stays s by)
-same_refusal k s by (call.Finish o) = ap (λ n. spent n k.count) (count_stays s by)
-same_refusal k s by call.NewRef = refl
-same_refusal k s by call.NewDeferred = refl
-same_refusal k s by (call.Get r) = refl
-same_refusal k s by (call.Set r v) = refl
-same_refusal k s by (call.Modify r v) = refl
-same_refusal k s by (call.Complete d v) = refl
-same_refusal k s by (call.Read d) = refl
+same_refusal k s by Call.Mask = ap (λ n. spent n k.count) (count_stays s by)
+same_refusal k s by Call.Unmask = ap (λ n. spent n k.count) (count_stays s by)
+same_refusal k s by Call.Cut = ap (λ n. spent n k.count) (count_stays s by)
+same_refusal k s by (Call.Finish o) = ap (λ n. spent n k.count) (count_stays s by)
+same_refusal k s by _ = refl
 
 -- ---- what it leaves
 forget_twice : (cs : List Cell) → map unawaited (map unawaited cs) ≡ map unawaited cs
@@ -86,21 +59,19 @@ changes g same s f = ap (λ (l : List Cell). record s { cells = l }) (changed g 
 
 pub same_after : (s : Cells) (by : ℕ) (c : Call) → without_waits (after (without_waits s) by c) ≡ without_waits (after s by c)
 unfolding after
-same_after s by call.Start = without_waits_twice (record s { next_fiber = s.next_fiber + 1 })
-same_after s by (call.Cancel f) = changes requested (λ c. refl) s f
-same_after s by (call.Join f) = changes awaited (λ c. refl) s f
-same_after s by call.Look = without_waits_twice s
-same_after s by call.Mask = changes masked (λ c. refl) s by
-same_after s by call.Unmask = changes unmasked (λ c. refl) s by
-same_after s by call.Cut = changes cut (λ c. refl) s by
-same_after s by (call.Finish o) = changes (finished o) (λ c. refl) s by
-same_after s by call.NewRef = without_waits_twice (record s { next_ref = s.next_ref + 1 })
-same_after s by call.NewDeferred = without_waits_twice (record s { next_deferred = s.next_deferred + 1 })
-same_after s by (call.Get r) = without_waits_twice s
-same_after s by (call.Set r v) = without_waits_twice (after s by (call.Set r v))
-same_after s by (call.Modify r v) = without_waits_twice (after s by (call.Modify r v))
-same_after s by (call.Complete d v) = without_waits_twice (after s by (call.Complete d v))
-same_after s by (call.Read d) = without_waits_twice s
+same_after s by Call.Start = without_waits_twice (record s { next_fiber = s.next_fiber + 1 })
+same_after s by (Call.Cancel f) = changes requested (λ c. refl) s f
+same_after s by (Call.Join f) = changes awaited (λ c. refl) s f
+same_after s by Call.Mask = changes masked (λ c. refl) s by
+same_after s by Call.Unmask = changes unmasked (λ c. refl) s by
+same_after s by Call.Cut = changes cut (λ c. refl) s by
+same_after s by (Call.Finish o) = changes (finished o) (λ c. refl) s by
+same_after s by Call.NewRef = without_waits_twice (record s { next_ref = s.next_ref + 1 })
+same_after s by Call.NewDeferred = without_waits_twice (record s { next_deferred = s.next_deferred + 1 })
+same_after s by (Call.Set r v) = without_waits_twice (after s by (Call.Set r v))
+same_after s by (Call.Modify r v) = without_waits_twice (after s by (Call.Modify r v))
+same_after s by (Call.Complete d v) = without_waits_twice (after s by (Call.Complete d v))
+same_after s by _ = without_waits_twice s
 
 -- at the opening nobody was joined
 forget_fresh : (n : ℕ) → map unawaited (replicate n fresh) ≡ replicate n fresh
@@ -131,8 +102,7 @@ sound_without k s h = record {
 pub plain_without : (r : PlainView) → IsPlain r → IsPlain (record r { state = without_waits r.state })
 plain_without r h = record { limits = h.limits; sound = sound_without r.limits r.state h.sound }
 
-pub plain_with : (r : PlainView) (cs : List Cell) → IsPlain r → cs ≡ map unawaited r.state.cells →
-    IsPlain (record r { state = record r.state { cells = cs } })
+pub plain_with : (r : PlainView) (cs : List Cell) → IsPlain r → cs ≡ map unawaited r.state.cells → IsPlain (record r { state = record r.state { cells = cs } })
 plain_with r cs h e = subst (λ (l : List Cell). IsPlain (record r { state = record r.state { cells = l } })) (sym e) (plain_without r h)
 
 -- one more of some cells

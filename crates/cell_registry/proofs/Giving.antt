@@ -1,25 +1,14 @@
 -- The numbers below the next one are those that were given.
-use Rattle.std.proofs.Common.{◌≡◌, ℕ, ◌+◌, ◌<◌, ◌≤◌, List, [], ◌∷◌, ◌++◌, ◌⊎◌, inl, inr, ⊎_elim, refl, sym, ap, ◌∙◌, subst, arith}
-use mathlib.Core.List.{IsPrefix}
-use mathlib.Core.Logic.{dite}
-use native.Mathlib.Decide.{ℕ_discrete}
-use Rattle.effect_term.specs.declared.reply.Reply.TheVariants.{Number}
-use Rattle.cell_registry.specs.declared.limits.Limits.{Limits}
-use Rattle.cell_registry.specs.declared.limits.Band.{Band}
-use Rattle.cell_registry.specs.declared.limits.Band.TheVariants.{Fibers, Refs, Deferreds}
-use Rattle.cell_registry.specs.declared.call.Call.{Call}
-use Rattle.cell_registry.specs.declared.call.Entry.{Entry}
-use Rattle.cell_registry.specs.Cells.{AreLimits, Cells, opening, after, reply_of}
-use Rattle.cell_registry.specs.Histories.{left_from, IsLegalFrom, left, IsLegal}
-use Rattle.cell_registry.specs.Bands.{next_of, limit_of, claim_of, first_of, WasGiven, WasBorn}
+use Rattle.cell_registry.proofs.Prelude.{◌≡◌, ℕ, ◌+◌, ◌<◌, ◌≤◌, List, [], ◌∷◌, ◌++◌, ◌⊎◌, inl, inr, ⊎_elim, refl, sym, ap, ◌∙◌, subst, arith, IsPrefix, dite}
+use Rattle.cell_registry.proofs.Prelude.{ℕ_discrete, Number, Limits, Band, Fibers, Refs, Deferreds, Call, Entry, AreLimits, Cells, opening, after, reply_of}
+use Rattle.cell_registry.proofs.Prelude.{left_from, IsLegalFrom, left, IsLegal, next_of, limit_of, claim_of, first_of, WasGiven, WasBorn}
 use Rattle.cell_registry.proofs.Calls.{next_of-new}
 use Rattle.cell_registry.proofs.Legal.{next_of-left_from, next_fiber-left_from, sound}
 
 pub reply-claim : (b : Band) (s : Cells) (by : ℕ) → reply_of s by (claim_of b) ≡ Number (next_of b s)
 unfolding reply_of
 reply-claim Fibers s by = refl
-reply-claim Refs s by = refl
-reply-claim Deferreds s by = refl
+reply-claim _ s by = refl
 
 given_from : (b : Band) (k : Limits) (s : Cells) (h : List Entry) (n : ℕ) → IsLegalFrom k s h → n < next_of b (left_from s h) → (n < next_of b s) ⊎
     WasGiven b h n
@@ -34,8 +23,7 @@ given_from b k s (e ∷ es) n l below = ⊎_elim
 
 first-given : (b : Band) (k : Limits) (n : ℕ) → first_of b ≤ n → n < next_of b (opening k) → ⊥
 first-given Fibers k n lo hi = omega arith
-first-given Refs k n lo hi = omega arith
-first-given Deferreds k n lo hi = omega arith
+first-given _ k n lo hi = omega arith
 
 pub given : (b : Band) (k : Limits) (h : List Entry) (n : ℕ) → IsLegal k h → first_of b ≤ n → n < next_of b (left k h) → WasGiven b h n
 unfolding left IsLegal
@@ -46,8 +34,7 @@ given b k h n l lo below =
 next-claim : (b : Band) (s : Cells) (by : ℕ) → next_of b (after s by (claim_of b)) ≡ next_of b s + 1
 unfolding after
 next-claim Fibers s by = refl
-next-claim Refs s by = refl
-next-claim Deferreds s by = refl
+next-claim _ s by = refl
 
 WasGiven-next_from : (b : Band) (k : Limits) (s : Cells) (h : List Entry) (n : ℕ) → IsLegalFrom k s h → WasGiven b h n → n < next_of b (left_from s h)
 WasGiven-next_from b k s [] n l w = absurd w

@@ -1,16 +1,8 @@
 -- Histories, one entry longer, and what a legal one leaves.
-use Rattle.std.proofs.Common.{◌≡◌, ◌≢◌, ℕ, ◌≤◌, Bool, List, [], ◌∷◌, ◌++◌, refl, sym, ap, ◌∙◌, subst, arith}
-use Rattle.std.proofs.Common.{eqb, eq-eqb, ne_eqb, le_trans, append-nil, append_assoc}
-use Rattle.std.specs.Prelude.{cond}
+use Rattle.cell_registry.proofs.Prelude.{◌≡◌, ◌≢◌, ℕ, ◌≤◌, Bool, List, [], ◌∷◌, ◌++◌, refl, sym, ap, ◌∙◌, subst, arith, eqb, eq-eqb, ne_eqb, le_trans}
+use Rattle.cell_registry.proofs.Prelude.{append-nil, append_assoc, cond, IsPrefix, Limits, Band, Fibers, Entry, AreLimits, fresh, owned, Cells, opening}
+use Rattle.cell_registry.proofs.Prelude.{cell_of, after, IsSound, MayFollow, left_from, IsLegalFrom, left, IsLegal, calls_by, next_of}
 use Rattle.std.proofs.lemmas.List.Elements.{filter-append}
-use mathlib.Core.List.{IsPrefix}
-use Rattle.cell_registry.specs.declared.limits.Limits.{Limits}
-use Rattle.cell_registry.specs.declared.limits.Band.{Band}
-use Rattle.cell_registry.specs.declared.limits.Band.TheVariants.{Fibers}
-use Rattle.cell_registry.specs.declared.call.Entry.{Entry}
-use Rattle.cell_registry.specs.Cells.{AreLimits, fresh, owned, Cells, opening, cell_of, after, IsSound}
-use Rattle.cell_registry.specs.Histories.{MayFollow, left_from, IsLegalFrom, left, IsLegal, calls_by}
-use Rattle.cell_registry.specs.Bands.{next_of}
 use Rattle.cell_registry.proofs.Lists.{get_or-replicate_default}
 use Rattle.cell_registry.proofs.Calls.{next_of-rises, next_fiber-rises, owned-after, opening-sound, after-sound}
 

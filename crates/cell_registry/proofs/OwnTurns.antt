@@ -1,29 +1,13 @@
 -- The steps by which a fiber changes its own cell.
-use Rattle.std.proofs.Common.{◌≡◌, ℕ, ◌+◌, ◌-◌, ◌%◌, ◌<◌, Bool, true, false, List, [], ◌⊎◌, inl, inr, get_or}
-use Rattle.std.proofs.Common.{refl, sym, ap, ◌∙◌, subst, arith, get_or-set_same, get_or-set_other, set, ◌≢◌}
-use Rattle.std.specs.Prelude.{None, Some}
-use Rattle.atomic_table.specs.Table.{Me, keeps, Allows}
-use Rattle.effect_term.specs.declared.reply.Outcome.{Outcome}
-use Rattle.effect_term.specs.declared.reply.Reply.{Reply}
-use Rattle.effect_term.specs.declared.reply.Reply.TheVariants as reply
-use Rattle.effect_term.specs.Values.{value_bits}
+use Rattle.cell_registry.proofs.Prelude.{◌≡◌, ℕ, ◌+◌, ◌-◌, ◌%◌, ◌<◌, Bool, true, false, List, [], ◌⊎◌, inl, inr, get_or, refl, sym, ap, ◌∙◌, subst, arith}
+use Rattle.cell_registry.proofs.Prelude.{get_or-set_same, get_or-set_other, set, ◌≢◌, None, Some, Me, keeps, Allows, Outcome, Reply, value_bits, Limits, Stage}
+use Rattle.cell_registry.proofs.Prelude.{Running, Finalizing, Ended, Cell, Call, Mask, Unmask, Cut, Finish, Entry, Knowledge, AreLimits, fresh, masked}
+use Rattle.cell_registry.proofs.Prelude.{unmasked, cut, finished, owned, IsOpen, MayUnmask, MayFinish, Cells, cell_of, with_cell, after, reply_of, IsAllowed}
+use Rattle.cell_registry.proofs.Prelude.{spent, refusal, IsAccepted, StageInRange, left, phase_at, control, cell_word, value_place, Has, seen_cell, Fits}
+use Rattle.cell_registry.proofs.Prelude.{last_stored, StoredLast, Owns, IsHistory, WordsAreAHistory, entry, Called, Changed, Masked, Unmasked, WasCut, Finished}
+use Rattle.cell_registry.proofs.Prelude.{WasStored, FoundValue}
 use Rattle.control_word.specs.Word as word
 use Rattle.control_word.proofs.Sums.{finish_one}
-use Rattle.cell_registry.specs.declared.limits.Limits.{Limits}
-use Rattle.cell_registry.specs.declared.cell.Stage.{Stage}
-use Rattle.cell_registry.specs.declared.cell.Stage.TheVariants.{Running, Finalizing, Ended}
-use Rattle.cell_registry.specs.declared.cell.Cell.{Cell}
-use Rattle.cell_registry.specs.declared.call.Call.{Call}
-use Rattle.cell_registry.specs.declared.call.Call.TheVariants.{Mask, Unmask, Cut, Finish}
-use Rattle.cell_registry.specs.declared.call.Entry.{Entry}
-use Rattle.cell_registry.specs.declared.knowledge.Knowledge.{Knowledge}
-use Rattle.cell_registry.specs.Cells.{AreLimits, fresh, masked, unmasked, cut, finished, owned, IsOpen}
-use Rattle.cell_registry.specs.Cells.{MayUnmask, MayFinish, Cells, cell_of, with_cell, after, reply_of}
-use Rattle.cell_registry.specs.Cells.{IsAllowed, spent, refusal, IsAccepted, StageInRange}
-use Rattle.cell_registry.specs.Histories.{left}
-use Rattle.cell_registry.specs.Words.{phase_at, control, cell_word, value_place}
-use Rattle.cell_registry.specs.Rule.{Has, seen_cell, Fits, last_stored, StoredLast, Owns, IsHistory, WordsAreAHistory}
-use Rattle.cell_registry.specs.Steps.{entry, Called, Changed, Masked, Unmasked, WasCut, Finished, WasStored, FoundValue}
 use Rattle.cell_registry.proofs.Calls.{spent-none, outcome-fits}
 use Rattle.cell_registry.proofs.Requests.{request-prefix}
 use Rattle.cell_registry.proofs.TableWords.{no_outcome, value_in, value_at, put_value, put_value-at}
@@ -39,9 +23,8 @@ unmask-open Finalizing depth m = (tt, omega arith)
 unmask-open (Ended o) depth m = absurd m
 
 pub finish-open : (g : Stage) (depth : ℕ) (o : Outcome) → MayFinish g depth o → IsOpen g
-finish-open Running depth o m = tt
-finish-open Finalizing depth o m = tt
 finish-open (Ended p) depth o m = m
+finish-open _ depth o m = tt
 
 -- ---- what the owner knows of its cell at the moment
 record Own (k : Limits) (v : Knowledge) (h : List Entry) : Type 0 where
@@ -76,8 +59,7 @@ control-cut c e = go c.stage e
   where
     go : (g : Stage) → g ≡ Running → word.cut (control (record c { stage = g })) ≡ control (cut (record c { stage = g }))
     go Running e = refl
-    go Finalizing e = cc
-    go (Ended o) e = cc
+    go _ e = cc
 
 cut_word : (k : Limits) (h : List Entry) (v : Knowledge) (amount : ℕ) → (cell_of (left k h) v.number).stage ≡ Running →
     (cell_of (left k h) v.number).depth ≡ 0 → (cell_of (left k h) v.number).count < word.greatest_count → word.Cuts amount →
@@ -102,7 +84,7 @@ module _ {S : Type 0} where
   changes : (k : Limits) (id : ℕ) (me : Me S Knowledge) (i slots : ℕ) (c : Call) (φ : Cell → Cell) (ψ : ℕ → ℕ) (then : Knowledge → Type 0) →
       me.1 ≡ [] → Has me.0.fibers me.0.number → i ≡ me.0.number + 3 → (seen_cell me.0 me.0.number).count < k.count
       → ((s : Cells) → after s me.0.number c ≡ with_cell s me.0.number (φ (cell_of s me.0.number)))
-      → ((s : Cells) → reply_of s me.0.number c ≡ reply.Done)
+      → ((s : Cells) → reply_of s me.0.number c ≡ Reply.Done)
       → ((a b : Cell) → owned a ≡ owned b → owned (φ a) ≡ owned (φ b))
       → ((h : List Entry) → Fits k h me.0 → Own k me.0 h → IsAccepted k (left k h) me.0.number c)
       → ((h : List Entry) → Fits k h me.0 → Own k me.0 h → word.InRange (control (cell_of (left k h) me.0.number)) →
@@ -131,8 +113,7 @@ module _ {S : Type 0} where
             number = refl;
             stored = refl;
             fibers = refl;
-            cell =
-                ap owned (now v.number ∙ get_or-set_same s.cells v.number (φ a) fresh there) ∙ owns a (seen_cell v v.number) o.same;
+            cell = ap owned (now v.number ∙ get_or-set_same s.cells v.number (φ a) fresh there) ∙ owns a (seen_cell v v.number) o.same;
           },
         );
       })

@@ -1,34 +1,21 @@
 -- What the word of a fiber tells.
-use Rattle.std.proofs.Common.{◌≡◌, Bool, true, false, refl, sym, ap, ◌∙◌, arith}
-use Rattle.std.proofs.Common.{ℤ, pos, ℕ, eqb, ◌%◌, ◌^◌}
-use Rattle.effect_term.specs.declared.reply.Outcome.{Outcome}
-use Rattle.effect_term.specs.declared.reply.Outcome.TheVariants.{Succeeded, Errored, Canceled}
-use Rattle.effect_term.specs.declared.reply.CancelReply.TheVariants as canceled
-use Rattle.effect_term.specs.Values.{IsValue, value_bits, bits_value}
-use Rattle.effect_term.proofs.ValueLaws.{bits_lt, back}
-use Rattle.effect_term.specs.declared.reply.JoinReply.TheVariants as joined
-use Rattle.control_word.specs.declared.control.Control.{Control}
-use Rattle.control_word.specs.Word.{kind_of, value_of}
-use Rattle.cell_registry.specs.declared.cell.Stage.{Stage}
-use Rattle.cell_registry.specs.declared.cell.Stage.TheVariants.{Running, Finalizing, Ended}
-use Rattle.cell_registry.specs.declared.cell.Cell.{Cell}
-use Rattle.cell_registry.specs.Cells.{cancel_reply, join_reply}
-use Rattle.cell_registry.specs.Words.{control, phase_at, kind_at, has_ended, HoldsOutcome}
+use Rattle.cell_registry.proofs.Prelude.{◌≡◌, Bool, true, false, refl, sym, ap, ◌∙◌, arith, ℤ, pos, ℕ, eqb, ◌%◌, ◌^◌, Outcome, Succeeded, Errored, Canceled}
+use Rattle.cell_registry.proofs.Prelude.{IsValue, value_bits, bits_value, bits_lt, back, Control, kind_of, value_of, Stage, Running, Ended, Cell, cancel_reply}
+use Rattle.cell_registry.proofs.Prelude.{join_reply, control, phase_at, kind_at, has_ended, HoldsOutcome}
+use Rattle.effect_term.specs.declared.reply.CancelReply.{CancelReply}
+use Rattle.effect_term.specs.declared.reply.JoinReply.{JoinReply}
 
-pub ended_reply : (g : Stage) (b : Bool) → phase_at g ≡ 2 → canceled.Ended ≡ cancel_reply g b
-ended_reply Running b e = absurd (omega arith)
-ended_reply Finalizing b e = absurd (omega arith)
+pub ended_reply : (g : Stage) (b : Bool) → phase_at g ≡ 2 → CancelReply.Ended ≡ cancel_reply g b
 ended_reply (Ended o) b e = refl
+ended_reply _ b e = absurd (omega arith)
 
-pub already_reply : (g : Stage) (b : Bool) → (phase_at g ≡ 2 → ⊥) → b ≡ true → canceled.Already ≡ cancel_reply g b
-already_reply Running b n e = rw e refl
-already_reply Finalizing b n e = rw e refl
+pub already_reply : (g : Stage) (b : Bool) → (phase_at g ≡ 2 → ⊥) → b ≡ true → CancelReply.Already ≡ cancel_reply g b
 already_reply (Ended o) b n e = absurd (n refl)
+already_reply _ b n e = rw e refl
 
-pub asked_reply : (g : Stage) (b : Bool) → (phase_at g ≡ 2 → ⊥) → b ≡ false → canceled.Asked ≡ cancel_reply g b
-asked_reply Running b n e = rw e refl
-asked_reply Finalizing b n e = rw e refl
+pub asked_reply : (g : Stage) (b : Bool) → (phase_at g ≡ 2 → ⊥) → b ≡ false → CancelReply.Asked ≡ cancel_reply g b
 asked_reply (Ended o) b n e = absurd (n refl)
+asked_reply _ b n e = rw e refl
 
 pub control-phase : (r : Control) (c : Cell) → r ≡ control c → phase_at c.stage ≡ r.phase
 unfolding control
@@ -45,30 +32,25 @@ control-kind r c e = sym (ap (λ (x : Control). x.kind) e)
 -- ---- the stage of a fiber that has ended, and of one that hasn't
 pub ended_phase : (g : Stage) → eqb (phase_at g) 2 ≡ has_ended g
 ended_phase Running = refl
-ended_phase Finalizing = refl
-ended_phase (Ended o) = refl
+ended_phase _ = refl
 
-pub waits_reply : (g : Stage) → has_ended g ≡ false → joined.Waits ≡ join_reply g
-waits_reply Running n = refl
-waits_reply Finalizing n = refl
+pub waits_reply : (g : Stage) → has_ended g ≡ false → JoinReply.Waits ≡ join_reply g
 waits_reply (Ended o) n = cc
+waits_reply _ n = refl
 
 -- the outcome of a fiber that has ended
 pub outcome_of : (g : Stage) → has_ended g ≡ true → (o : Outcome) × (g ≡ Ended o)
-outcome_of Running e = cc
-outcome_of Finalizing e = cc
 outcome_of (Ended o) e = (o, refl)
+outcome_of _ e = cc
 
 -- ---- the outcome that two words tell
 pub succeeded_of : (o : Outcome) (z : ℤ) → kind_of o ≡ 1 → z ≡ value_of o → Succeeded z ≡ o
 succeeded_of (Succeeded v) z k e = ap Succeeded e
-succeeded_of (Errored v) z k e = absurd (omega arith)
-succeeded_of Canceled z k e = absurd (omega arith)
+succeeded_of _ z k e = absurd (omega arith)
 
 pub errored_of : (o : Outcome) (z : ℤ) → kind_of o ≡ 2 → z ≡ value_of o → Errored z ≡ o
-errored_of (Succeeded v) z k e = absurd (omega arith)
 errored_of (Errored v) z k e = ap Errored e
-errored_of Canceled z k e = absurd (omega arith)
+errored_of _ z k e = absurd (omega arith)
 
 pub canceled_of : (o : Outcome) → (kind_of o ≡ 1 → ⊥) → (kind_of o ≡ 2 → ⊥) → Canceled ≡ o
 canceled_of (Succeeded v) s e = absurd (s refl)

@@ -1,19 +1,8 @@
 -- A request for cancellation stays, and comes from a call.
-use Rattle.std.proofs.Common.{◌≡◌, ℕ, zero, suc, Bool, true, true≢false, List, [], ◌∷◌, ◌⊎◌, inl, inr, ⊎_elim}
-use Rattle.std.proofs.Common.{set, get_or, get_or-set_other, refl, sym, ap, ◌∙◌, subst}
-use mathlib.Core.Logic.{dite}
-use native.Mathlib.Decide.{ℕ_discrete}
-use mathlib.Core.List.{IsPrefix}
-use Rattle.cell_registry.specs.declared.limits.Limits.{Limits}
-use Rattle.cell_registry.specs.declared.call.Call.{Call}
-use Rattle.cell_registry.specs.declared.call.Call.TheVariants.{Start, Cancel, Join, Look, Mask, Unmask, Cut}
-use Rattle.cell_registry.specs.declared.call.Call.TheVariants.{Finish, NewRef, NewDeferred, Get, Set, Modify}
-use Rattle.cell_registry.specs.declared.call.Call.TheVariants.{Complete, Read}
-use Rattle.cell_registry.specs.declared.call.Entry.{Entry}
-use Rattle.cell_registry.specs.declared.cell.Cell.{Cell}
-use Rattle.cell_registry.specs.Cells.{fresh, Cells, opening, cell_of, after, requested, awaited, masked, unmasked, cut, finished, IsAllowed}
-use Rattle.cell_registry.specs.Histories.{left_from, left, IsLegal}
-use Rattle.cell_registry.specs.Cancellation.{WasCancelled, CutsAfterCancel}
+use Rattle.cell_registry.proofs.Prelude.{◌≡◌, ℕ, zero, suc, Bool, true, true≢false, List, [], ◌∷◌, ◌⊎◌, inl, inr, ⊎_elim, set, get_or, get_or-set_other, refl}
+use Rattle.cell_registry.proofs.Prelude.{sym, ap, ◌∙◌, subst, dite, ℕ_discrete, IsPrefix, Limits, Call, Cancel, Join, Mask, Unmask, Cut, Finish, Entry, Cell}
+use Rattle.cell_registry.proofs.Prelude.{fresh, Cells, opening, cell_of, after, requested, awaited, masked, unmasked, cut, finished, IsAllowed, left_from, left}
+use Rattle.cell_registry.proofs.Prelude.{IsLegal, WasCancelled, CutsAfterCancel}
 use Rattle.cell_registry.proofs.Lists.{get_or-set_kept, get_or-replicate_default}
 use Rattle.cell_registry.proofs.Legal.{left_from-append, IsLegal-at}
 
@@ -32,21 +21,13 @@ request_with s g f c up e = get_or-set_rises (λ (x : Cell). x.request) s.cells 
 
 request-after : (s : Cells) (by : ℕ) (c : Call) (f : ℕ) → (cell_of s f).request ≡ true → (cell_of (after s by c) f).request ≡ true
 unfolding after
-request-after s by Start f e = e
 request-after s by (Cancel g) f e = request_with s g f (requested (cell_of s g)) (λ _. refl) e
 request-after s by (Join g) f e = request_with s g f (awaited (cell_of s g)) (λ u. u) e
-request-after s by Look f e = e
 request-after s by Mask f e = request_with s by f (masked (cell_of s by)) (λ u. u) e
 request-after s by Unmask f e = request_with s by f (unmasked (cell_of s by)) (λ u. u) e
 request-after s by Cut f e = request_with s by f (cut (cell_of s by)) (λ u. u) e
 request-after s by (Finish o) f e = request_with s by f (finished o (cell_of s by)) (λ u. u) e
-request-after s by NewRef f e = e
-request-after s by NewDeferred f e = e
-request-after s by (Get r) f e = e
-request-after s by (Set r v) f e = e
-request-after s by (Modify r v) f e = e
-request-after s by (Complete d v) f e = e
-request-after s by (Read d) f e = e
+request-after s by _ f e = e
 
 request-left_from : (s : Cells) (h : List Entry) (f : ℕ) → (cell_of s f).request ≡ true → (cell_of (left_from s h) f).request ≡ true
 request-left_from s [] f e = e
@@ -65,23 +46,15 @@ request_kept s g f c same e = sym (get_or-set_kept (λ (x : Cell). x.request) s.
 
 request-new : (s : Cells) (by : ℕ) (c : Call) (f : ℕ) → (cell_of (after s by c) f).request ≡ true → ((cell_of s f).request ≡ true) ⊎ (c ≡ Cancel f)
 unfolding after
-request-new s by Start f e = inl e
 request-new s by (Cancel g) f e =
     dite (ℕ_discrete g f) (λ (is : g ≡ f). inr (ap Cancel is))
     (λ other. inl (ap (λ (x : Cell). x.request) (sym (get_or-set_other s.cells g f (requested (cell_of s g)) fresh (λ q. other (sym q)))) ∙ e))
 request-new s by (Join g) f e = inl (request_kept s g f (awaited (cell_of s g)) refl e)
-request-new s by Look f e = inl e
 request-new s by Mask f e = inl (request_kept s by f (masked (cell_of s by)) refl e)
 request-new s by Unmask f e = inl (request_kept s by f (unmasked (cell_of s by)) refl e)
 request-new s by Cut f e = inl (request_kept s by f (cut (cell_of s by)) refl e)
 request-new s by (Finish o) f e = inl (request_kept s by f (finished o (cell_of s by)) refl e)
-request-new s by NewRef f e = inl e
-request-new s by NewDeferred f e = inl e
-request-new s by (Get r) f e = inl e
-request-new s by (Set r v) f e = inl e
-request-new s by (Modify r v) f e = inl e
-request-new s by (Complete d v) f e = inl e
-request-new s by (Read d) f e = inl e
+request-new s by _ f e = inl e
 
 request-left : (s : Cells) (h : List Entry) (f : ℕ) → (cell_of (left_from s h) f).request ≡ true → ((cell_of s f).request ≡ true) ⊎ WasCancelled h f
 request-left s [] f e = inl e

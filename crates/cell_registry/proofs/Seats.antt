@@ -1,27 +1,16 @@
 -- What passes between seats: a new fiber gets a seat of its own, and one pass takes in another.
-use Rattle.std.proofs.Common.{◌≡◌, ◌≢◌, ℕ, zero, suc, ◌+◌, ◌<◌, List, [], ◌∷◌, ◌++◌, length, set, get_or, ◌⊎◌}
-use Rattle.std.proofs.Common.{inl, inr, ⊎_elim, refl, sym, ap, ◌∙◌, subst, arith, get_or-set_other}
-use mathlib.Core.Option.{some, some-injective, some-ne-none}
-use mathlib.Core.Logic.{dite}
-use native.Mathlib.Decide.{ℕ_discrete}
-use lib.ListN.{get_elem?}
-use Rattle.atomic_table.specs.Table.{Me, Allows, Splits, Joins, Final, Seen}
-use Rattle.atomic_table.proofs.Lists.{set_else}
-use Rattle.cell_registry.specs.declared.limits.Limits.{Limits}
-use Rattle.cell_registry.specs.declared.knowledge.Knowledge.{Knowledge}
-use Rattle.cell_registry.specs.Cells.{AreLimits, IsOpen, cell_of}
-use Rattle.cell_registry.specs.Histories.{left, IsLegal}
-use Rattle.cell_registry.specs.Rule.{Has, seen_cell, Fits, value_of, last_stored, StoredLast, Owns, Apart, WordsAreAHistory, first_knowledge}
-use Rattle.cell_registry.specs.Steps.{parent, child, hosting, nothing, Met}
-use Rattle.cell_registry.specs.Passes.{IsLeftWord}
+use Rattle.cell_registry.proofs.Prelude.{◌≡◌, ◌≢◌, ℕ, zero, suc, ◌+◌, ◌<◌, List, [], ◌∷◌, ◌++◌, length, set, get_or, ◌⊎◌, inl, inr, ⊎_elim, refl, sym, ap, ◌∙◌}
+use Rattle.cell_registry.proofs.Prelude.{subst, arith, get_or-set_other, some, some-injective, some-ne-none, dite, ℕ_discrete, get_elem?, Me, Allows, Splits}
+use Rattle.cell_registry.proofs.Prelude.{Joins, Final, Seen, set_else, Limits, Knowledge, AreLimits, IsOpen, cell_of, left, IsLegal, Has, seen_cell, Fits}
+use Rattle.cell_registry.proofs.Prelude.{last_stored, StoredLast, Owns, Apart, WordsAreAHistory, first_knowledge, parent, child, hosting, nothing, Met}
+use Rattle.cell_registry.proofs.Prelude.{IsLeftWord, replicate, None, value_place}
+use Rattle.cell_registry.specs.Rule.{value_of}
 use Rattle.cell_registry.proofs.Legal.{sound}
 use Rattle.cell_registry.proofs.TableWords.{same_words, word_at, opening_words}
 use Rattle.cell_registry.proofs.Lists.{get_or-replicate_default}
 use Rattle.cell_registry.proofs.Turns.{Tells, looks, each_view, apart_still}
 use Rattle.cell_registry.proofs.CellTurns.{own_stage}
 use Rattle.cell_registry.proofs.Claiming.{same_now}
-use Rattle.std.specs.Prelude.{replicate, None}
-use Rattle.cell_registry.specs.Words.{value_place}
 
 -- ---- a seat for a new fiber
 at_push : (l : List Knowledge) (a b : Knowledge) (j : ℕ) → get_elem? (l ++ a ∷ []) j ≡ some b → (get_elem? l j ≡ some b) ⊎ ((j ≡ length l) × (a ≡ b))
@@ -40,26 +29,22 @@ module _ {S : Type 0} where
       let c : Knowledge = child v in
       let h = kept.0 in let r = kept.1 in
       let mine : Fits k h v = r.fits id v at in
-      let fits_p : Fits k h p =
-      record {
+      let fits_p : Fits k h p = record {
         limits = λ f a. mine.limits f (inr a);
         seen = mine.seen;
         heard = (h, refl);
         own = λ f a. mine.own f (inr a);
-        guest =
-            λ f a. absurd a;
+        guest = λ f a. absurd a;
         apart = λ f _ b. absurd b;
       } in
       let own_c = λ (f : ℕ) (a : Has (n ∷ []) f). let b : n ≡ f = ⊎_elim (λ (x : n ≡ f). x) (λ x. absurd x) a in mine.own f (inl b) in
-      let fits_c : Fits k h c =
-      record {
+      let fits_c : Fits k h c = record {
         limits = λ f a. mine.limits n (inl refl);
         seen = mine.seen;
         heard = (h, refl);
         own = own_c;
         guest = λ f a. absurd a;
-        apart =
-            λ f _ b. absurd b;
+        apart = λ f _ b. absurd b;
       } in
       let of_child : (f : ℕ) → Owns c f → n ≡ f =
       λ f a. ⊎_elim (λ (b : Has (n ∷ []) f). ⊎_elim (λ (x : n ≡ f). x) (λ x. absurd x) b) (λ (b : Has [] f). absurd b) a in
@@ -159,15 +144,13 @@ module _ {S : Type 0} where
       let there : get_elem? s.views other ≡ some w = sym (set_else s.views id other (hosting v w) apart) ∙ there' in
       let mine : Fits k h v = r.fits id v at in
       let theirs : Fits k h w = r.fits other w there in
-      let both : Fits k h (hosting v w) =
-      record {
+      let both : Fits k h (hosting v w) = record {
         limits = mine.limits;
         seen = mine.seen;
         heard = theirs.seen;
         own = mine.own;
         guest = theirs.own;
-        apart =
-            λ f a b. r.apart id other v w at there apart f (inl a) (inl b);
+        apart = λ f a b. r.apart id other v w at there apart f (inl a) (inl b);
       } in
       let guests : (f : ℕ) → Has w.fibers f → IsOpen (cell_of (left k h) f).stage → value_of k s.words f ≡ 0 = λ f a opened. dite (ℕ_discrete f w.number)
       (λ (q : f ≡ w.number).
@@ -180,15 +163,13 @@ module _ {S : Type 0} where
       } in
       let stored_gone : StoredLast k s.words h nothing =
       record { own = λ a. absurd a; others = λ f a. absurd (⊎_elim (λ (b : Has [] f). b) (λ (b : Has [] f). b) a) } in
-      let gone : Fits k h nothing =
-      record {
+      let gone : Fits k h nothing = record {
         limits = λ f a. absurd a;
         seen = (h, refl);
         heard = (h, refl);
         own = λ f a. absurd a;
         guest = λ f a. absurd a;
-        apart =
-            λ f a _. absurd a;
+        apart = λ f a _. absurd a;
       } in (
         h,
         record {
@@ -242,15 +223,7 @@ pub begins : (S : Type 0) (k : Limits) (words : List ℕ) → AreLimits k →
 unfolding left IsLegal
 begins S k words limits is = (
   [],
-  record {
-    limits = limits;
-    legal = tt;
-    words_are = opening_words k words is;
-    fits = one;
-    stored = nothing_yet;
-    unborn = λ f _. zero_at f;
-    apart = two;
-  },
+  record { limits = limits; legal = tt; words_are = opening_words k words is; fits = one; stored = nothing_yet; unborn = λ f _. zero_at f; apart = two },
 )
   where
     fits : Fits k [] (first_knowledge k)
@@ -258,11 +231,9 @@ begins S k words limits is = (
       limits = λ f a. refl;
       seen = ([], refl);
       heard = ([], refl);
-      own =
-          λ f a. record { calls = refl; cell = refl; born = ⊎_elim (λ (e : 0 ≡ f). omega arith) (λ b. absurd b) a };
+      own = λ f a. record { calls = refl; cell = refl; born = ⊎_elim (λ (e : 0 ≡ f). omega arith) (λ b. absurd b) a };
       guest = λ f a. absurd a;
-      apart =
-          λ f _ b. absurd b;
+      apart = λ f _ b. absurd b;
     }
 
     one : (i : ℕ) (v : Knowledge) → get_elem? (first_knowledge k ∷ []) i ≡ some v → Fits k [] v

@@ -1,39 +1,22 @@
 -- What the words of a registry show of it.
-use Rattle.std.proofs.Common.{◌≡◌, ℕ, ℤ, ◌+◌, ◌%◌, ◌^◌, ◌<◌, List, [], ◌∷◌, ◌++◌, length, map, take, get_or, suc, Option, refl, sym, ap, ◌∙◌, subst, arith}
-use Rattle.std.proofs.lemmas.List.{take_more, ext_get_or, length-map, length-append}
-use Rattle.effect_term.specs.Values.{bits_value}
-use Rattle.effect_term.specs.declared.reply.Outcome.{Outcome}
-use Rattle.control_word.specs.declared.control.Control.{Control}
-use Rattle.cell_registry.specs.declared.limits.Limits.{Limits}
-use Rattle.cell_registry.specs.declared.cell.Stage.{Stage}
-use Rattle.cell_registry.specs.declared.cell.Stage.TheVariants.{Running, Finalizing, Ended}
-use Rattle.cell_registry.specs.declared.cell.Cell.{Cell}
-use Rattle.cell_registry.specs.Cells.{Cells, StageInRange, cell_of, deferred_of, ref_of}
-use Rattle.cell_registry.specs.Words.{TellsRead, cell_word, control, deferred_word, phase_at, value_place}
-use Rattle.cell_registry.specs.Private.Shown.{Copies, IsShown, Shows}
-use mathlib.Core.List.{IsPrefix}
-use Rattle.atomic_table.specs.Table.{Final, Seen}
-use Rattle.cell_registry.specs.declared.call.Entry.{Entry}
-use Rattle.cell_registry.specs.declared.knowledge.Knowledge.{Knowledge}
-use Rattle.cell_registry.specs.Histories.{left, IsLegal, calls_by}
-use Rattle.cell_registry.specs.Rule.{Has, WordsAreAHistory}
+use Rattle.cell_registry.proofs.Prelude.{◌≡◌, ℕ, ℤ, ◌+◌, ◌%◌, ◌^◌, ◌<◌, List, [], ◌∷◌, ◌++◌, length, map, take, get_or, suc, Option, refl, sym, ap, ◌∙◌, subst}
+use Rattle.cell_registry.proofs.Prelude.{arith, take_more, ext_get_or, length-map, length-append, bits_value, Outcome, Control, Limits, Stage, Running}
+use Rattle.cell_registry.proofs.Prelude.{Finalizing, Ended, Cell, Cells, StageInRange, cell_of, deferred_of, ref_of, TellsRead, cell_word, control}
+use Rattle.cell_registry.proofs.Prelude.{deferred_word, phase_at, value_place, Copies, IsShown, Shows, IsPrefix, Final, Seen, Entry, Knowledge, left, IsLegal}
+use Rattle.cell_registry.proofs.Prelude.{calls_by, Has, WordsAreAHistory, Result, Ok, Err, IfOk, IsLeftPlain, PlainView}
 use Rattle.cell_registry.proofs.Legal.{sound}
 use Rattle.cell_registry.proofs.Seats.{get_elem?-get_or}
-use Rattle.std.specs.Prelude.{Result, Ok, Err, IfOk}
-use Rattle.cell_registry.specs.Plain.{IsLeftPlain, PlainView}
 use Rattle.cell_registry.proofs.Replies.{told}
 use Rattle.cell_registry.proofs.TableWords.{in_range, value_at, word_at}
 use Rattle.cell_registry.proofs.ValueTurns.{deferred_at, ref_at}
 
 pub stage_running : (g : Stage) → phase_at g ≡ 0 → Running ≡ g
 stage_running Running e = refl
-stage_running Finalizing e = absurd (omega arith)
-stage_running (Ended o) e = absurd (omega arith)
+stage_running _ e = absurd (omega arith)
 
 pub stage_finalizing : (g : Stage) → phase_at g ≡ 1 → Finalizing ≡ g
-stage_finalizing Running e = absurd (omega arith)
 stage_finalizing Finalizing e = refl
-stage_finalizing (Ended o) e = absurd (omega arith)
+stage_finalizing _ e = absurd (omega arith)
 
 pub stage_ended : (g : Stage) → (phase_at g ≡ 0 → ⊥) → (phase_at g ≡ 1 → ⊥) → (o : Outcome) × (g ≡ Ended o)
 stage_ended Running a b = absurd (a refl)
@@ -54,10 +37,7 @@ cell_shown k words s f h less =
     record {
       range = in_range k (cell_of s f) h.limits (h.sound.each_cell f);
       word = sym (word_at words s f (f + 3) h.leaves refl (omega arith));
-      value = λ o e. (
-        subst StageInRange e (h.sound.each_cell f).stage,
-        value_at words s f (value_place k f) h.leaves (omega arith) ∙ h.leaves.ended f o e,
-      );
+      value = λ o e. (subst StageInRange e (h.sound.each_cell f).stage, value_at words s f (value_place k f) h.leaves (omega arith) ∙ h.leaves.ended f o e);
     }
 
 pub ref_shown : (k : Limits) (words : List ℕ) (s : Cells) (r : ℕ) → Shows k words s → r < k.refs →

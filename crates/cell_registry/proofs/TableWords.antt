@@ -1,27 +1,10 @@
 -- The words that a registry leaves, read and set one at a time.
-use Rattle.std.proofs.Common.{◌≡◌, ℕ, zero, suc, ◌+◌, ◌-◌, ◌%◌, ◌^◌, ◌<◌, List, ◌∷◌, ◌++◌, length, map, set}
-use Rattle.std.proofs.Common.{get_or, refl, sym, ap, ◌∙◌, subst, arith, replicate, pos, ◌⊎◌, ⊎_elim, length-set}
-use Rattle.std.proofs.Common.{get_or-set_same, get_or-set_other}
-use mathlib.Core.Logic.{dite}
-use native.Mathlib.Decide.{ℕ_discrete}
-use Rattle.std.specs.Prelude.{None}
-use Rattle.std.proofs.Math.ListN.{get_or-append}
-use Rattle.std.proofs.lemmas.List.{set-append_left, set-append_right, get_or-append_right, length-map, length-append, map-set, get_or-map, length-replicate}
-use lib.Seq.{set-get_or}
-use Rattle.effect_term.specs.declared.reply.Outcome.{Outcome}
-use Rattle.effect_term.specs.declared.reply.Outcome.TheVariants.{Succeeded, Errored, Canceled}
-use Rattle.effect_term.specs.Values.{value_bits}
-use Rattle.control_word.specs.Word.{InRange, HasNoOutcome, word_of, value_of}
-use Rattle.cell_registry.specs.declared.limits.Limits.{Limits}
-use Rattle.cell_registry.specs.declared.limits.Band.{Band}
-use Rattle.cell_registry.specs.declared.limits.Band.TheVariants.{Fibers, Refs, Deferreds}
-use Rattle.cell_registry.specs.declared.cell.Stage.{Stage}
-use Rattle.cell_registry.specs.declared.cell.Stage.TheVariants.{Running, Finalizing, Ended}
-use Rattle.cell_registry.specs.declared.cell.Cell.{Cell}
-use Rattle.cell_registry.specs.Cells.{AreLimits, fresh, Cells, cell_of, with_cell, IsOpen, after, IsCell, opening}
-use Rattle.cell_registry.specs.Words.{phase_at, kind_at, control, cell_word, deferred_word, Leaves}
-use Rattle.cell_registry.specs.Bands.{next_of, claim_of}
-use Rattle.cell_registry.specs.Steps.{band_word}
+use Rattle.cell_registry.proofs.Prelude.{◌≡◌, ℕ, zero, suc, ◌+◌, ◌-◌, ◌%◌, ◌^◌, ◌<◌, List, ◌∷◌, ◌++◌, length, map, set, get_or, refl, sym, ap, ◌∙◌, subst}
+use Rattle.cell_registry.proofs.Prelude.{arith, replicate, pos, ◌⊎◌, ⊎_elim, length-set, get_or-set_same, get_or-set_other, dite, ℕ_discrete, None}
+use Rattle.cell_registry.proofs.Prelude.{get_or-append, set-append_left, set-append_right, get_or-append_right, length-map, length-append, map-set, get_or-map}
+use Rattle.cell_registry.proofs.Prelude.{length-replicate, set-get_or, Outcome, Succeeded, value_bits, InRange, HasNoOutcome, word_of, value_of, Limits, Band}
+use Rattle.cell_registry.proofs.Prelude.{Fibers, Refs, Deferreds, Stage, Running, Ended, Cell, AreLimits, fresh, Cells, cell_of, with_cell, IsOpen, after}
+use Rattle.cell_registry.proofs.Prelude.{IsCell, opening, phase_at, kind_at, control, cell_word, deferred_word, Leaves, next_of, claim_of, band_word}
 use Rattle.cell_registry.proofs.Lists.{get_or-replicate_default}
 
 -- ---- cells
@@ -33,15 +16,12 @@ in_range k c l i = let small = l.count in let below = i.count in let d = i.depth
   where
     phase_lt : (g : Stage) → phase_at g < 2 ^ 2
     phase_lt Running = omega arith
-    phase_lt Finalizing = omega arith
-    phase_lt (Ended o) = omega arith
+    phase_lt _ = omega arith
 
     kind_lt : (g : Stage) → kind_at g < 2 ^ 2
     kind_lt Running = omega arith
-    kind_lt Finalizing = omega arith
     kind_lt (Ended (Succeeded v)) = omega arith
-    kind_lt (Ended (Errored v)) = omega arith
-    kind_lt (Ended Canceled) = omega arith
+    kind_lt _ = omega arith
 
 -- the word of a fiber that hasn't ended has no outcome
 pub no_outcome : (c : Cell) → IsOpen c.stage → HasNoOutcome (control c)
@@ -49,20 +29,15 @@ unfolding control
 no_outcome c o = go c.stage o
   where
     go : (g : Stage) → IsOpen g → HasNoOutcome (control (record c { stage = g }))
-    go Running u = record { kind = refl }
-    go Finalizing u = record { kind = refl }
     go (Ended p) u = absurd u
+    go _ u = record { kind = refl }
 
 -- ---- behind the first of two lists
 pub after_seam : (xs ys : List ℕ) (n j : ℕ) → length xs ≡ n → get_or (xs ++ ys) (n + j) 0 ≡ get_or ys j 0
-after_seam xs ys n j e =
-    let back : (n + j) - n ≡ j = omega arith in
-    get_or-append_right xs ys n (n + j) 0 e (omega arith) ∙ ap (λ m. get_or ys m 0) back
+after_seam xs ys n j e = let back : (n + j) - n ≡ j = omega arith in get_or-append_right xs ys n (n + j) 0 e (omega arith) ∙ ap (λ m. get_or ys m 0) back
 
 pub set_seam : (xs ys : List ℕ) (n j x : ℕ) → length xs ≡ n → set (xs ++ ys) (n + j) x ≡ xs ++ set ys j x
-set_seam xs ys n j x e =
-    let back : (n + j) - n ≡ j = omega arith in
-    set-append_right xs ys n (n + j) x e (omega arith) ∙ ap (λ m. xs ++ set ys m x) back
+set_seam xs ys n j x e = let back : (n + j) - n ≡ j = omega arith in set-append_right xs ys n (n + j) x e (omega arith) ∙ ap (λ m. xs ++ set ys m x) back
 
 -- ---- a value word for each fiber, behind all words of the other kinds
 -- where it lies among the words of a registry
@@ -109,8 +84,7 @@ put_value-at words s f i n l is within =
     let cells = length-map s.cells cell_word in
     let front : List ℕ = map cell_word s.cells in
     let back : List ℕ = map deferred_word s.deferreds in
-    let long : length words ≡ suc (suc (suc (length front + (length l.raw + (length back + length l.values))))) =
-    ap (λ (x : List ℕ). length x) l.words_are ∙
+    let long : length words ≡ suc (suc (suc (length front + (length l.raw + (length back + length l.values))))) = ap (λ (x : List ℕ). length x) l.words_are ∙
     ap (λ (m : ℕ). suc (suc (suc m))) (length-append front (l.raw ++ (back ++ l.values)) ∙
     ap (λ m. length front + m) (length-append l.raw (back ++ l.values) ∙ ap (λ m. length l.raw + m) (length-append back l.values))) in
     get_or-set_same words i n 0 (omega arith)
@@ -161,40 +135,36 @@ next_at Deferreds words s l = ap (λ (ws : List ℕ). get_or ws 2 0) l.words_are
 pub put_next : (b : Band) (words : List ℕ) (s : Cells) (by n : ℕ) → Leaves words s → n ≡ next_of b s + 1 →
     Leaves (set words (band_word b) n) (after s by (claim_of b))
 unfolding after
-put_next Fibers words s by n l e =
-    record {
-      raw = l.raw;
-      values = l.values;
-      words_are = ap (λ (ws : List ℕ). set ws 0 n) l.words_are ∙
-          (λ j. e j ∷ s.next_ref ∷ s.next_deferred ∷ (map cell_word s.cells ++ (l.raw ++ (map deferred_word s.deferreds ++ l.values))));
-      long = l.long;
-      refs = l.refs;
-      many = l.many;
-      ended = l.ended;
-    }
-put_next Refs words s by n l e =
-    record {
-      raw = l.raw;
-      values = l.values;
-      words_are = ap (λ (ws : List ℕ). set ws 1 n) l.words_are ∙
-          (λ j. s.next_fiber ∷ e j ∷ s.next_deferred ∷ (map cell_word s.cells ++ (l.raw ++ (map deferred_word s.deferreds ++ l.values))));
-      long = l.long;
-      refs = l.refs;
-      many = l.many;
-      ended = l.ended;
-    }
-put_next Deferreds words s by n l e =
-    record {
-      raw = l.raw;
-      values = l.values;
-      words_are = ap (λ (ws : List ℕ). set ws 2 n) l.words_are ∙
-          (λ j. s.next_fiber ∷ s.next_ref ∷ e j ∷ (map cell_word s.cells ++ (l.raw ++ (map deferred_word s.deferreds ++ l.values))));
-      long = l.long;
-      refs =
-          l.refs;
-      many = l.many;
-      ended = l.ended;
-    }
+put_next Fibers words s by n l e = record {
+  raw = l.raw;
+  values = l.values;
+  words_are = ap (λ (ws : List ℕ). set ws 0 n) l.words_are ∙
+      (λ j. e j ∷ s.next_ref ∷ s.next_deferred ∷ (map cell_word s.cells ++ (l.raw ++ (map deferred_word s.deferreds ++ l.values))));
+  long = l.long;
+  refs = l.refs;
+  many = l.many;
+  ended = l.ended;
+}
+put_next Refs words s by n l e = record {
+  raw = l.raw;
+  values = l.values;
+  words_are = ap (λ (ws : List ℕ). set ws 1 n) l.words_are ∙
+      (λ j. s.next_fiber ∷ e j ∷ s.next_deferred ∷ (map cell_word s.cells ++ (l.raw ++ (map deferred_word s.deferreds ++ l.values))));
+  long = l.long;
+  refs = l.refs;
+  many = l.many;
+  ended = l.ended;
+}
+put_next Deferreds words s by n l e = record {
+  raw = l.raw;
+  values = l.values;
+  words_are = ap (λ (ws : List ℕ). set ws 2 n) l.words_are ∙
+      (λ j. s.next_fiber ∷ s.next_ref ∷ e j ∷ (map cell_word s.cells ++ (l.raw ++ (map deferred_word s.deferreds ++ l.values))));
+  long = l.long;
+  refs = l.refs;
+  many = l.many;
+  ended = l.ended;
+}
 
 -- ---- a word that is only read
 pub same_words : (words : List ℕ) (s : Cells) (i : ℕ) → Leaves words s → Leaves (set words i (get_or words i 0)) s

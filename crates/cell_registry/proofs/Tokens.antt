@@ -1,26 +1,9 @@
 -- A pass, and the seat in it.
-use Rattle.std.proofs.Common.{◌≡◌, ◌≢◌, ℕ, ◌+◌, ◌<◌, ◌≤◌, Bool, true, false, List, [], ◌∷◌, ◌++◌, inl, inr}
-use Rattle.std.proofs.Common.{⊎_elim, refl, sym, ap, ◌∙◌, subst, arith, append_assoc}
-use Rattle.std.specs.Prelude.{Option, Some, None, MatchOption}
-use mathlib.Core.List.{IsPrefix}
-use Rattle.atomic_table.specs.Seated.{TableId}
-use Rattle.effect_term.specs.declared.reply.Reply.{Reply}
-use Rattle.effect_term.specs.declared.reply.Reply.TheVariants.{Number}
-use Rattle.cell_registry.specs.declared.limits.Limits.{Limits}
-use Rattle.cell_registry.specs.declared.limits.Band.{Band}
-use Rattle.cell_registry.specs.declared.limits.Band.TheVariants.{Fibers}
-use Rattle.cell_registry.specs.declared.cell.Stage.{Stage}
-use Rattle.cell_registry.specs.declared.cell.Stage.TheVariants.{Running}
-use Rattle.cell_registry.specs.declared.call.Call.{Call}
-use Rattle.cell_registry.specs.declared.call.Entry.{Entry}
-use Rattle.cell_registry.specs.declared.knowledge.Knowledge.{Knowledge}
-use Rattle.cell_registry.specs.Cells.{AreLimits, IsOpen, fresh, owned, cell_of}
-use Rattle.cell_registry.specs.Histories.{left, IsLegal}
-use Rattle.cell_registry.specs.Rule.{Has, seen_cell, first_knowledge}
-use Rattle.cell_registry.specs.Bands.{claim_of, WasGiven, WasBorn}
-use Rattle.cell_registry.specs.Steps.{entry, IsCall, Called, IsSame, IsChanged, fibers_with, FoundNone, newest}
-use Rattle.cell_registry.specs.Steps.{without_newest, Claimed, parent, child, hosting, Met}
-use Rattle.cell_registry.specs.Passes.{RegistryView, IsRegistry, PassView, pass_of, IsSeated, IsOf}
+use Rattle.cell_registry.proofs.Prelude.{◌≡◌, ◌≢◌, ℕ, ◌+◌, ◌<◌, ◌≤◌, Bool, true, false, List, [], ◌∷◌, ◌++◌, inl, inr, ⊎_elim, refl, sym, ap, ◌∙◌, subst, arith}
+use Rattle.cell_registry.proofs.Prelude.{append_assoc, Option, Some, None, MatchOption, IsPrefix, TableId, Reply, Number, Limits, Band, Fibers, Stage, Running}
+use Rattle.cell_registry.proofs.Prelude.{Call, Entry, Knowledge, AreLimits, IsOpen, fresh, owned, cell_of, left, IsLegal, Has, seen_cell, first_knowledge}
+use Rattle.cell_registry.proofs.Prelude.{claim_of, WasGiven, WasBorn, entry, IsCall, Called, IsSame, IsChanged, fibers_with, FoundNone, newest, without_newest}
+use Rattle.cell_registry.proofs.Prelude.{Claimed, parent, child, hosting, Met, RegistryView, IsRegistry, PassView, pass_of, IsSeated, IsOf}
 use Rattle.cell_registry.proofs.Lists.{get_or-replicate_default}
 use Rattle.cell_registry.proofs.Legal.{sound}
 use Rattle.cell_registry.proofs.Giving.{WasGiven-push, WasBorn-prefix}
@@ -58,17 +41,16 @@ call-prefix k fs before by c r now m = (m.between ++ entry by c r ∷ [], sym (a
 -- what a contract sees of a pass whose seat has seen more
 pub pass_of-step : (t u : TableId) (v w : Knowledge) (n : ℕ) (g : Stage) (d c : ℕ) (b : Bool) → u ≡ t → w.limits ≡ v.limits → w.fibers ≡ v.fibers →
     pass_of u w n g d c b ≡ record (pass_of t v n g d c b) { seen = w.seen }
-pass_of-step t u v w n g d c b table limits fibers =
-    λ j. record {
-      registry = record { table = table j; limits = limits j };
-      number = n;
-      stage = g;
-      depth = d;
-      count = c;
-      saw = b;
-      fibers = fibers j;
-      seen = w.seen;
-    }
+pass_of-step t u v w n g d c b table limits fibers = λ j. record {
+  registry = record { table = table j; limits = limits j };
+  number = n;
+  stage = g;
+  depth = d;
+  count = c;
+  saw = b;
+  fibers = fibers j;
+  seen = w.seen;
+}
 
 -- a pass of the same fiber, with its own part of the cell as it was, and another last look
 pub seated_looked : (v w : Knowledge) (t u : TableId) (n : ℕ) (g : Stage) (d c : ℕ) (b b' : Bool) → IsSame v w → IsPrefix v.seen w.seen →
@@ -226,15 +208,13 @@ pub seated_given : (b : Band) → ((m : ℕ) (fs : List ℕ) → fibers_with b m
     (o : Option ℕ) (v w : Knowledge) (t u : TableId) (n : ℕ) (g : Stage) (d c : ℕ) (s : Bool) → MatchOption o (FoundNone b v w) (λ m. Claimed b v m w)
     → IsSeated v (pass_of t v n g d c s) → IsSeated w (pass_of u w n g d c s)
 seated_given b adds None v w t u n g d c s e i = seated_still v w t u n g d c s e.1 e.0.seen e.0.legal i
-seated_given b adds (Some m) v w t u n g d c s e i =
-    seated_still v w t u n g d c s record {
-      limits = e.limits;
-      number = e.number;
-      stored = e.stored;
-      fibers = e.fibers ∙ adds m v.fibers;
-      cell =
-          e.cell;
-    } (call-prefix _ _ _ _ _ _ _ e.call) e.call.legal i
+seated_given b adds (Some m) v w t u n g d c s e i = seated_still v w t u n g d c s record {
+  limits = e.limits;
+  number = e.number;
+  stored = e.stored;
+  fibers = e.fibers ∙ adds m v.fibers;
+  cell = e.cell;
+} (call-prefix _ _ _ _ _ _ _ e.call) e.call.legal i
 
 -- ---- a pass that met another
 pub met_seated : (u a v w : Knowledge) (t t' : TableId) (n : ℕ) (g : Stage) (d c : ℕ) (b : Bool) → v ≡ hosting u a → Met v w →

@@ -1,24 +1,9 @@
 -- What every legal history tells.
-use Rattle.std.proofs.Common.{◌≡◌, ℕ, List, [], ◌∷◌, inl, inr, refl, sym, ap, ◌∙◌, subst, arith}
-use mathlib.Core.Logic.{dite}
-use mathlib.Core.List.{IsPrefix}
-use native.Mathlib.Decide.{ℕ_discrete}
-use Rattle.effect_term.specs.declared.reply.Outcome.{Outcome}
-use Rattle.effect_term.specs.declared.reply.JoinReply.TheVariants as joined
-use Rattle.effect_term.specs.declared.reply.Reply.TheVariants as reply
-use Rattle.cell_registry.specs.declared.limits.Limits.{Limits}
-use Rattle.cell_registry.specs.declared.cell.Stage.{Stage}
-use Rattle.cell_registry.specs.declared.cell.Stage.TheVariants.{Running, Finalizing, Ended}
-use Rattle.cell_registry.specs.declared.cell.Cell.{Cell}
-use Rattle.cell_registry.specs.declared.call.Call.{Call}
-use Rattle.cell_registry.specs.declared.call.Call.TheVariants.{Start, Cancel, Join, Look, Mask, Unmask, Cut}
-use Rattle.cell_registry.specs.declared.call.Call.TheVariants.{Finish, NewRef, NewDeferred, Get, Set, Modify}
-use Rattle.cell_registry.specs.declared.call.Call.TheVariants.{Complete, Read}
-use Rattle.cell_registry.specs.declared.call.Entry.{Entry}
-use Rattle.cell_registry.specs.Cells.{AreLimits, fresh, requested, awaited, join_reply, IsOpen, MayUnmask}
-use Rattle.cell_registry.specs.Cells.{MayFinish, Cells, opening, cell_of, after, reply_of, IsAllowed}
-use Rattle.cell_registry.specs.Histories.{left_from, IsLegalFrom, left, IsLegal}
-use Rattle.cell_registry.specs.Bands.{next_of}
+use Rattle.cell_registry.proofs.Prelude.{◌≡◌, ℕ, List, [], ◌∷◌, inl, inr, refl, sym, ap, ◌∙◌, subst, arith, dite, IsPrefix, ℕ_discrete, Outcome, Limits, Stage}
+use Rattle.cell_registry.proofs.Prelude.{Ended, Cell, Call, Cancel, Join, Mask, Unmask, Cut, Finish, Entry, AreLimits, fresh, requested, awaited, join_reply}
+use Rattle.cell_registry.proofs.Prelude.{IsOpen, MayUnmask, MayFinish, Cells, opening, cell_of, after, reply_of, IsAllowed, left_from, IsLegalFrom, left}
+use Rattle.cell_registry.proofs.Prelude.{IsLegal, next_of, Reply}
+use Rattle.effect_term.specs.declared.reply.JoinReply.{JoinReply}
 use Rattle.cell_registry.specs.Told.{WasToldEnd, JoinsAgree, IsTold}
 use Rattle.cell_registry.proofs.Lists.{get_or-set_kept}
 use Rattle.cell_registry.proofs.Calls.{owned-after}
@@ -31,21 +16,13 @@ use Rattle.cell_registry.proofs.Requests.{legal-cuts}
 ended-own : (k : Limits) (s : Cells) (f : ℕ) (c : Call) (o : Outcome) → IsAllowed k s f c → (cell_of s f).stage ≡ Ended o →
     (cell_of (after s f c) f).stage ≡ Ended o
 unfolding after IsAllowed
-ended-own k s f Start o a e = e
 ended-own k s f (Cancel g) o a e = get_or-set_kept (λ (x : Cell). x.stage) s.cells g (requested (cell_of s g)) fresh refl f ∙ e
 ended-own k s f (Join g) o a e = get_or-set_kept (λ (x : Cell). x.stage) s.cells g (awaited (cell_of s g)) fresh refl f ∙ e
-ended-own k s f Look o a e = e
 ended-own k s f Mask o a e = absurd (subst IsOpen e a.0)
 ended-own k s f Unmask o a e = absurd (subst (λ (g : Stage). MayUnmask g (cell_of s f).depth) e a)
 ended-own k s f Cut o a e = absurd (subst IsOpen (sym a.0 ∙ e) tt)
 ended-own k s f (Finish p) o a e = absurd (subst (λ (g : Stage). MayFinish g (cell_of s f).depth p) e a)
-ended-own k s f NewRef o a e = e
-ended-own k s f NewDeferred o a e = e
-ended-own k s f (Get r) o a e = e
-ended-own k s f (Set r v) o a e = e
-ended-own k s f (Modify r v) o a e = e
-ended-own k s f (Complete d v) o a e = e
-ended-own k s f (Read d) o a e = e
+ended-own k s f _ o a e = e
 
 pub ended-after : (k : Limits) (s : Cells) (by : ℕ) (c : Call) (f : ℕ) (o : Outcome) → IsAllowed k s by c → (cell_of s f).stage ≡ Ended o →
     (cell_of (after s by c) f).stage ≡ Ended o
@@ -74,23 +51,21 @@ pub open_before : (k : Limits) (s : Cells) (by : ℕ) (c : Call) (f : ℕ) → I
 open_before k s by c f a opened = go (cell_of s f).stage refl
   where
     go : (g : Stage) → (cell_of s f).stage ≡ g → IsOpen g
-    go Running e = tt
-    go Finalizing e = tt
     go (Ended o) e = subst IsOpen (ended-after k s by c f o a e) opened
+    go _ e = tt
 
 -- ---- the outcome that a join tells is the fiber's
-join_reply-ended : (g : Stage) (o : Outcome) → join_reply g ≡ joined.Ended o → g ≡ Ended o
-join_reply-ended Running o e = cc
-join_reply-ended Finalizing o e = cc
+join_reply-ended : (g : Stage) (o : Outcome) → join_reply g ≡ JoinReply.Ended o → g ≡ Ended o
 join_reply-ended (Ended p) o e = let same : p ≡ o = cc in ap Ended same
+join_reply-ended _ o e = cc
 
 WasToldEnd-left_from : (k : Limits) (s : Cells) (h : List Entry) (f : ℕ) (o : Outcome) → IsLegalFrom k s h → WasToldEnd h f o →
     (cell_of (left_from s h) f).stage ≡ Ended o
 unfolding reply_of
 WasToldEnd-left_from k s [] f o l w = absurd w
 WasToldEnd-left_from k s (e ∷ es) f o l (inl w) =
-    let answered : reply.Join (join_reply (cell_of s f).stage) ≡ reply.Join (joined.Ended o) = sym (l.0.replied ∙ ap (reply_of s e.by) w.0) ∙ w.1 in
-    let told : join_reply (cell_of s f).stage ≡ joined.Ended o = cc in
+    let answered : Reply.Join (join_reply (cell_of s f).stage) ≡ Reply.Join (JoinReply.Ended o) = sym (l.0.replied ∙ ap (reply_of s e.by) w.0) ∙ w.1 in
+    let told : join_reply (cell_of s f).stage ≡ JoinReply.Ended o = cc in
     ended-left_from k (after s e.by e.call) es f o l.1 (ended-after k s e.by e.call f o l.0.accepted.allowed (join_reply-ended (cell_of s f).stage o told))
 WasToldEnd-left_from k s (e ∷ es) f o l (inr w) = WasToldEnd-left_from k (after s e.by e.call) es f o l.1 w
 
@@ -109,7 +84,7 @@ legal-told k h limits legal = record {
   given = λ b n w. let most = next_of-most b k h limits legal in let below = WasGiven-next b k h n legal w in omega arith;
   once = λ b n before rest e is claims answers w.
       let follows = IsLegal-at k h before rest e is legal in
-      let answered : reply.Number n ≡ reply.Number (next_of b (left k before)) = sym answers ∙ follows.1.replied ∙
+      let answered : Reply.Number n ≡ Reply.Number (next_of b (left k before)) = sym answers ∙ follows.1.replied ∙
       ap (reply_of (left k before) e.by) claims ∙ reply-claim b (left k before) e.by in
       let next : n ≡ next_of b (left k before) = cc in
       let below = WasGiven-next b k before n follows.0 w in

@@ -1,22 +1,10 @@
 -- One step of one pass keeps the rule: proved once, for every call.
-use Rattle.std.proofs.Common.{◌≡◌, ◌≢◌, ℕ, ◌+◌, ◌<◌, ◌≤◌, List, [], ◌∷◌, ◌++◌, set, get_or, ◌⊎◌, inl, inr}
-use Rattle.std.proofs.Common.{⊎_elim, refl, sym, ap, ◌∙◌, subst, arith, append_assoc, append-nil}
-use Rattle.std.proofs.Common.{get_or-set_other}
-use mathlib.Core.Option.{some}
-use mathlib.Core.List.{IsPrefix}
-use lib.ListN.{get_elem?}
-use Rattle.atomic_table.specs.Table.{State, Me, Act, keeps, Valid, stepped, carried_after, Allows}
-use lib.Seq.{set-get_or}
-use Rattle.atomic_table.proofs.Lists.{at_set, set_again}
-use Rattle.cell_registry.specs.declared.limits.Limits.{Limits}
-use Rattle.cell_registry.specs.declared.call.Call.{Call}
-use Rattle.cell_registry.specs.declared.call.Entry.{Entry}
-use Rattle.cell_registry.specs.declared.knowledge.Knowledge.{Knowledge}
-use Rattle.cell_registry.specs.Cells.{AreLimits, owned, IsOpen, Cells, cell_of, after, reply_of, IsAccepted}
-use Rattle.cell_registry.specs.Histories.{left, IsLegal, calls_by}
-use Rattle.cell_registry.specs.Words.{Leaves, value_place}
-use Rattle.cell_registry.specs.Rule.{Has, IsQuietSince, Fits, value_of, last_stored, StoredLast, Owns, Apart, IsHistory, WordsAreAHistory}
-use Rattle.cell_registry.specs.Steps.{entry, Called}
+use Rattle.cell_registry.proofs.Prelude.{◌≡◌, ◌≢◌, ℕ, ◌+◌, ◌<◌, ◌≤◌, List, [], ◌∷◌, ◌++◌, set, get_or, ◌⊎◌, inl, inr, ⊎_elim, refl, sym, ap, ◌∙◌, subst, arith}
+use Rattle.cell_registry.proofs.Prelude.{append_assoc, append-nil, get_or-set_other, some, IsPrefix, get_elem?, State, Me, Act, keeps, Valid, stepped}
+use Rattle.cell_registry.proofs.Prelude.{carried_after, Allows, set-get_or, at_set, set_again, Limits, Call, Entry, Knowledge, AreLimits, owned, IsOpen, Cells}
+use Rattle.cell_registry.proofs.Prelude.{cell_of, after, reply_of, IsAccepted, left, IsLegal, calls_by, Leaves, value_place, Has, IsQuietSince, Fits}
+use Rattle.cell_registry.proofs.Prelude.{last_stored, StoredLast, Owns, Apart, IsHistory, WordsAreAHistory, entry, Called}
+use Rattle.cell_registry.specs.Rule.{value_of}
 use Rattle.cell_registry.proofs.Calls.{next_fiber-rises, owned-after}
 use Rattle.cell_registry.proofs.Legal.{left-push, IsLegal-push, calls_by-push, calls_by-other}
 use Rattle.cell_registry.proofs.Told.{open_before}

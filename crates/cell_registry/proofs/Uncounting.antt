@@ -1,11 +1,7 @@
 -- A registry within its limits stays so without the counts of changes.
-use Rattle.std.proofs.Common.{◌≡◌, ◌<◌, ℕ, zero, suc, List, [], ◌∷◌, ◌++◌, arith, drop, get_or, length, map, take, set, sym, ap, ◌∙◌, subst}
-use Rattle.std.proofs.lemmas.List.{length-map}
+use Rattle.cell_registry.proofs.Prelude.{◌≡◌, ◌<◌, ℕ, zero, suc, List, [], ◌∷◌, ◌++◌, arith, drop, get_or, length, map, take, set, sym, ap, ◌∙◌, subst}
+use Rattle.cell_registry.proofs.Prelude.{length-map, Limits, Cell, Cells, IsCell, IsSound, cell_of, fresh, uncounted, without_counts, IsPlain, PlainView}
 use Rattle.std.proofs.Math.ListN as lists
-use Rattle.cell_registry.specs.declared.limits.Limits.{Limits}
-use Rattle.cell_registry.specs.declared.cell.Cell.{Cell}
-use Rattle.cell_registry.specs.Cells.{Cells, IsCell, IsSound, cell_of, fresh, uncounted, without_counts}
-use Rattle.cell_registry.specs.Plain.{IsPlain, PlainView}
 
 uncounted_cell : (s : Cells) (f : ℕ) → cell_of (without_counts s) f ≡ uncounted (cell_of s f)
 uncounted_cell s f = lists.get_or-map uncounted s.cells f fresh

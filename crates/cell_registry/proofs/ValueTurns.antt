@@ -1,28 +1,11 @@
 -- The steps on the word of a ref or a deferred.
-use Rattle.std.proofs.Common.{◌≡◌, ℕ, zero, suc, ◌+◌, ◌-◌, ◌%◌, ◌^◌, ◌<◌, Bool, List, [], ◌∷◌, ◌++◌, length}
-use Rattle.std.proofs.Common.{map, set, get_or, inl, refl, sym, ap, ◌∙◌, subst, arith, eqb, ne_eqb, length-set}
-use Rattle.std.proofs.Common.{ℤ, pos, ◌+ℤ◌}
-use Rattle.std.specs.Prelude.{Option, Some, None, is_none}
-use Rattle.std.proofs.Math.ListN.{get_or-append}
-use Rattle.std.proofs.lemmas.List.{set-append_left, set-append_right, get_or-append_right, length-map, map-set, get_or-map}
-use prog.Atomic.{either}
-use Rattle.atomic_table.specs.Table.{Me, Allows}
-use Rattle.effect_term.specs.declared.reply.Reply.TheVariants as reply
-use Rattle.effect_term.specs.Values.{IsValue, value_bits, bits_value, wrapped}
-use Rattle.effect_term.proofs.ValueLaws.{bits_lt, back, forth, one, sum_bits}
-use Rattle.cell_registry.specs.declared.limits.Limits.{Limits}
-use Rattle.cell_registry.specs.declared.cell.Cell.{Cell}
-use Rattle.cell_registry.specs.declared.call.Call.{Call}
-use Rattle.cell_registry.specs.declared.call.Call.TheVariants.{Get, Set, Modify, Complete, Read}
-use Rattle.cell_registry.specs.declared.call.Entry.{Entry}
-use Rattle.cell_registry.specs.declared.knowledge.Knowledge.{Knowledge}
-use Rattle.cell_registry.specs.Cells.{fresh, owned, Cells, cell_of, ref_of, deferred_of, with_ref}
-use Rattle.cell_registry.specs.Cells.{with_deferred, filled, after, reply_of, IsAllowed, refusal, IsAccepted}
-use Rattle.cell_registry.specs.Cells.{ValueFits}
-use Rattle.cell_registry.specs.Histories.{left}
-use Rattle.cell_registry.specs.Words.{cell_word, deferred_word, ref_value, Leaves}
-use Rattle.cell_registry.specs.Rule.{Has, seen_cell, Fits, WordsAreAHistory}
-use Rattle.cell_registry.specs.Steps.{entry, Called, IsSame, HasBits, Got, WasSet, Modified, Completed, WasRead}
+use Rattle.cell_registry.proofs.Prelude.{◌≡◌, ℕ, zero, suc, ◌+◌, ◌-◌, ◌%◌, ◌^◌, ◌<◌, Bool, List, [], ◌∷◌, ◌++◌, length, map, set, get_or, inl, refl, sym, ap}
+use Rattle.cell_registry.proofs.Prelude.{◌∙◌, subst, arith, eqb, ne_eqb, length-set, ℤ, pos, ◌+ℤ◌, Option, Some, None, is_none, get_or-append, set-append_left}
+use Rattle.cell_registry.proofs.Prelude.{set-append_right, get_or-append_right, length-map, map-set, get_or-map, either, Me, Allows, IsValue, value_bits}
+use Rattle.cell_registry.proofs.Prelude.{bits_value, wrapped, bits_lt, back, forth, one, sum_bits, Limits, Cell, Call, Get, Set, Modify, Complete, Read, Entry}
+use Rattle.cell_registry.proofs.Prelude.{Knowledge, fresh, owned, Cells, cell_of, ref_of, deferred_of, with_ref, with_deferred, filled, after, reply_of}
+use Rattle.cell_registry.proofs.Prelude.{IsAllowed, refusal, IsAccepted, ValueFits, left, cell_word, deferred_word, ref_value, Leaves, Has, seen_cell, Fits}
+use Rattle.cell_registry.proofs.Prelude.{WordsAreAHistory, entry, Called, IsSame, HasBits, Got, WasSet, Modified, Completed, WasRead, Reply}
 use Rattle.cell_registry.proofs.Legal.{left-push, sound}
 use Rattle.cell_registry.proofs.TableWords.{same_words}
 use Rattle.cell_registry.proofs.Turns.{Turn, Tells, turns}
@@ -68,8 +51,7 @@ put_ref words s r i n v l is within e =
       values = l.values;
       words_are = rw (l.words_are, j) (λ t. s.next_fiber ∷ s.next_ref ∷ s.next_deferred ∷ rest t);
       long = length-set l.raw r n ∙ l.long ∙ sym (length-set s.refs r v);
-      refs =
-          put_both (λ a b. a % 2 ^ 63 ≡ value_bits b) l.raw s.refs r n v l.long e l.refs;
+      refs = put_both (λ a b. a % 2 ^ 63 ≡ value_bits b) l.raw s.refs r n v l.long e l.refs;
       many = l.many;
       ended = l.ended;
     }
@@ -117,8 +99,7 @@ put_deferred words s d i n o l is within e =
       raw = l.raw;
       values = l.values;
       words_are = rw (l.words_are, j) (λ t. s.next_fiber ∷ s.next_ref ∷ s.next_deferred ∷ rest t);
-      long =
-          l.long;
+      long = l.long;
       refs = l.refs;
       many = l.many;
       ended = l.ended;
@@ -148,9 +129,7 @@ pub deferred_word-one : (o p : Option ℤ) → ValueFits o → ValueFits p → d
 deferred_word-one None None f g e = refl
 deferred_word-one None (Some y) f g e = absurd (omega arith)
 deferred_word-one (Some x) None f g e = absurd (omega arith)
-deferred_word-one (Some x) (Some y) f g e =
-    let bits : value_bits x ≡ value_bits y = omega arith in
-    ap Some (one x y f g bits)
+deferred_word-one (Some x) (Some y) f g e = let bits : value_bits x ≡ value_bits y = omega arith in ap Some (one x y f g bits)
 
 some-one : {x y : ℤ} → Some x ≡ Some y → x ≡ y
 some-one {x} e = ap (λ (o : Option ℤ). value_or x o) e
@@ -168,8 +147,7 @@ value_turn k h words v i x then c has mine place accepted cells word told =
     let s : Cells = left k h in
     let e : Entry = entry v.number c (reply_of s v.number c) in
     let w : Knowledge = advanced v h e in
-    let now : owned (seen_cell w v.number) ≡ owned (cell_of s v.number) =
-    (λ j. owned (cell_of (left (mine.limits v.number has j) (h ++ e ∷ [])) v.number)) ∙
+    let now : owned (seen_cell w v.number) ≡ owned (cell_of s v.number) = (λ j. owned (cell_of (left (mine.limits v.number has j) (h ++ e ∷ [])) v.number)) ∙
     ap (λ (t : Cells). owned (cell_of t v.number)) (left-push k h e) ∙ ap (λ (cs : List Cell). owned (get_or cs v.number fresh)) cells in
     record {
       call = c;
@@ -205,7 +183,7 @@ module _ {S : Type 0} where
       (λ w made same q iq.
       let limits = ap (λ (l : Limits). l.fibers) (mine.limits v.number has) in
       let one : r ≡ q = omega arith in
-      (subst (λ (t : ℕ × ℤ). Called v (Get t.0) (reply.Value t.1) w) (λ j. (one j, found j)) made, same)))
+      (subst (λ (t : ℕ × ℤ). Called v (Get t.0) (Reply.Value t.1) w) (λ j. (one j, found j)) made, same)))
 
   pub sets : (k : Limits) (id : ℕ) (me : Me S Knowledge) (i n slots r : ℕ) (x : ℤ) → me.1 ≡ [] → Has me.0.fibers me.0.number → r < k.refs →
       i ≡ r + (3 + k.fibers) → HasBits n x
@@ -225,7 +203,7 @@ module _ {S : Type 0} where
       (λ w made same q iq z hz.
       let limits = ap (λ (l : Limits). l.fibers) (mine.limits v.number has) in
       let one : r ≡ q = omega arith in
-      (subst (λ (t : ℕ × ℤ). Called v (Set t.0 t.1) reply.Done w) (λ j. (one j, bits_one n x z bits hz j)) made, same)))
+      (subst (λ (t : ℕ × ℤ). Called v (Set t.0 t.1) Reply.Done w) (λ j. (one j, bits_one n x z bits hz j)) made, same)))
 
   pub modifies : (k : Limits) (id : ℕ) (me : Me S Knowledge) (i n slots r : ℕ) (x : ℤ) → me.1 ≡ [] → Has me.0.fibers me.0.number → r < k.refs →
       i ≡ r + (3 + k.fibers) → HasBits n x
@@ -249,7 +227,7 @@ module _ {S : Type 0} where
       (λ w made same q iq z hz.
       let limits = ap (λ (l : Limits). l.fibers) (mine.limits v.number has) in
       let one : r ≡ q = omega arith in
-      (subst (λ (t : ℕ × ℤ × ℤ). Called v (Modify t.0 t.1) (reply.Value t.2) w) (λ j. (one j, bits_one n x z bits hz j, found j)) made, same)))
+      (subst (λ (t : ℕ × ℤ × ℤ). Called v (Modify t.0 t.1) (Reply.Value t.2) w) (λ j. (one j, bits_one n x z bits hz j, found j)) made, same)))
 
   pub completes : (k : Limits) (id : ℕ) (me : Me S Knowledge) (i n slots d : ℕ) (x : ℤ) → me.1 ≡ [] → Has me.0.fibers me.0.number → d < k.deferreds →
       i ≡ d + (3 + k.fibers + k.refs) → IsValue x → n ≡ deferred_word (Some x)
@@ -274,7 +252,7 @@ module _ {S : Type 0} where
       let rs = ap (λ (l : Limits). l.refs) (mine.limits v.number has) in
       let one : d ≡ q = omega arith in
       let value : x ≡ z = some-one (deferred_word-one (Some x) (Some z) fits fz (sym bits ∙ ez)) in
-      (subst (λ (t : ℕ × ℤ × Bool). Called v (Complete t.0 t.1) (reply.Completed t.2) w) (λ j. (one j, value j, did j)) made, same)))
+      (subst (λ (t : ℕ × ℤ × Bool). Called v (Complete t.0 t.1) (Reply.Completed t.2) w) (λ j. (one j, value j, did j)) made, same)))
 
   pub reads : (k : Limits) (id : ℕ) (me : Me S Knowledge) (i slots d : ℕ) → me.1 ≡ [] → Has me.0.fibers me.0.number → d < k.deferreds →
       i ≡ d + (3 + k.fibers + k.refs)
@@ -294,4 +272,4 @@ module _ {S : Type 0} where
       let fs = ap (λ (l : Limits). l.fibers) (mine.limits v.number has) in
       let rs = ap (λ (l : Limits). l.refs) (mine.limits v.number has) in
       let one : d ≡ q = omega arith in
-      (o, good.each_deferred d, sym at, subst (λ (t : ℕ). Called v (Read t) (reply.Read o) w) one made, same)))
+      (o, good.each_deferred d, sym at, subst (λ (t : ℕ). Called v (Read t) (Reply.Read o) w) one made, same)))

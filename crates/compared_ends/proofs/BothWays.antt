@@ -1,23 +1,13 @@
 -- What two explorations show of two programs under every schedule.
-use Rattle.std.proofs.Common.{◌≡◌, ℕ, List, sym, ap, ◌∙◌, subst}
-use Rattle.std.specs.Prelude.{true, Some, Result, Ok, Err, IfOk}
-use Rattle.std.specs.List.{All, slice_get}
+use Rattle.std.{proofs.Common.{◌≡◌, ℕ, List, ap, ◌∙◌}, specs.{Prelude.{true, Some, Result, Ok, Err, IfOk}, List.{All, slice_get}}}
 use Rattle.derived_ops.specs.Tree.{Tree}
-use Rattle.cell_registry.specs.declared.limits.Limits.{Limits}
-use Rattle.cell_registry.specs.declared.limits.RunError.{RunError}
-use Rattle.scheduled_core.specs.Core.{World, core, reported}
-use Rattle.scheduled_core.specs.Finals.{IsSettled}
+use Rattle.cell_registry.specs.declared.limits.{Limits.Limits, RunError.RunError}
+use Rattle.scheduled_core.specs.{Core.{World, core, reported}, Finals.IsSettled}
 use Rattle.world_search.specs.declared.answers.Bounds.{Bounds}
-use Rattle.every_schedule.specs.declared.exploration.Answer.{Answer}
-use Rattle.every_schedule.specs.declared.exploration.Exploration.{Exploration}
-use Rattle.every_schedule.specs.Explored.{IsCovered, IsListed, IsReached}
-use Rattle.every_schedule.proofs.Told.{all_at}
-use Rattle.compared_ends.specs.declared.basis.Basis.{Basis}
-use Rattle.compared_ends.specs.declared.comparison.Extra.{Extra}
+use Rattle.every_schedule.{specs.{declared.exploration.{Answer.Answer, Exploration.Exploration}, Explored.{IsCovered, IsListed, IsReached}}, proofs.Told.all_at}
+use Rattle.compared_ends.specs.{declared.{basis.Basis.Basis, comparison.Extra.Extra}, Comparisons.{AreSeenIn, CanEnd, EndsWithin, IsExplored, IsExtra}}
+use Rattle.compared_ends.specs.{Comparisons.SameEnds, Private.Found.IsFound, Views.{View, viewed}}
 use Rattle.compared_ends.specs.declared.comparison.Extra.TheVariants as extra
-use Rattle.compared_ends.specs.Comparisons.{AreSeenIn, CanEnd, EndsWithin, IsExplored, IsExtra, SameEnds}
-use Rattle.compared_ends.specs.Private.Found.{IsFound}
-use Rattle.compared_ends.specs.Views.{View, viewed}
 
 -- if a schedule led to a settled world or a fault, its report or fault is listed
 listed : (k : Limits) (answers : List Answer) (x : Result World RunError) → IsCovered k answers x → IfOk x (IsSettled k) →

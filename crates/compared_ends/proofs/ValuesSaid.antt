@@ -1,11 +1,7 @@
 -- The values that were said before a mark, and after it.
-use Rattle.std.proofs.Common.{◌≡◌, ◌≢◌, ◌≤◌, ℕ, zero, suc, ◌+◌, Bool, true, false, not, List, [], ◌∷◌, ◌++◌, length, take, drop}
-use Rattle.std.proofs.Common.{refl, sym, ap, ◌∙◌, arith, add-one, append-nil}
-use Rattle.std.specs.Prelude.{ℤ, Option, Some, None, is_some}
-use Rattle.std.specs.List.{cons_option, filter_map, slice_get}
-use Rattle.std.proofs.lemmas.List.Elements.{filter_map-append}
-use Rattle.std.proofs.lemmas.List.{take_all}
-use Rattle.std.proofs.lemmas.Option.{none-some, same_Some, slice_get_past}
+use Rattle.std.proofs.Common.{◌≡◌, ◌≢◌, ◌≤◌, ℕ, zero, suc, ◌+◌, Bool, true, false, not, List, [], ◌∷◌, ◌++◌, length, take, drop, refl, sym, ap, ◌∙◌, arith}
+use Rattle.std.proofs.{Common.{add-one, append-nil}, lemmas.{List.{take_all, Elements.filter_map-append}, Option.{none-some, same_Some, slice_get_past}}}
+use Rattle.std.specs.{Prelude.{ℤ, Option, Some, None, is_some}, List.{cons_option, slice_get}}
 use Rattle.fiber_frames.specs.declared.mark.Mark.{Mark}
 use Rattle.compared_ends.specs.Views.{said, value_said}
 

@@ -1,32 +1,21 @@
 -- Answers to two texts.
 use Rattle.std.proofs.Common.{◌≡◌, ◌<◌, ◌++◌, ◌||◌, ◌∙◌, ℕ, Bool, false, List, Result, Ok, Err, IfOk, length, codes, refl, sym, ap, subst}
 use Rattle.std.proofs.lemmas.Option.{slice_get_within}
-use Rattle.cell_registry.specs.declared.limits.Limits.{Limits}
-use Rattle.cell_registry.specs.declared.limits.RunError.{RunError}
+use Rattle.cell_registry.specs.declared.limits.{Limits.Limits, RunError.RunError}
 use Rattle.scheduled_core.specs.declared.report.Report.{Report}
 use Rattle.derived_ops.specs.Tree.{Tree}
-use Rattle.effect_term.specs.declared.term.Term.{Term}
-use Rattle.effect_term.specs.Programs.{IsProgram}
-use Rattle.term_parse.specs.Atoms.{atoms_of}
-use Rattle.term_parse.specs.Reading.{reading}
+use Rattle.effect_term.specs.{declared.term.Term.Term, Programs.IsProgram}
+use Rattle.term_parse.specs.{Atoms.atoms_of, Reading.reading}
 use Rattle.text_io.specs.declared.status.Status.{Status}
-use Rattle.outcome_trace.specs.declared.text_order.Answer.{Answer}
-use Rattle.outcome_trace.specs.Answers.{IsRefusalAnswer}
+use Rattle.outcome_trace.specs.{declared.text_order.Answer.Answer, Answers.IsRefusalAnswer}
 use Rattle.world_search.specs.declared.answers.Bounds.{Bounds}
-use Rattle.every_schedule.specs.declared.exploration.Answer.{Answer as Found}
-use Rattle.every_schedule.specs.declared.exploration.Exploration.{Exploration}
-use Rattle.serde_json.specs.Data.{Data}
-use Rattle.serde_json.specs.Written.{has_float}
-use Rattle.json_answers.specs.ReportData.{fault_data, report_data}
-use Rattle.json_answers.proofs.Plain.{fault_plain, or_plain, report_plain}
-use Rattle.compared_ends.specs.declared.basis.Basis.{Basis}
-use Rattle.compared_ends.specs.declared.comparison.Comparison.{Comparison}
-use Rattle.compared_ends.specs.declared.comparison.Extra.{Extra}
+use Rattle.every_schedule.specs.declared.exploration.{Answer.Answer as Found, Exploration.Exploration}
+use Rattle.serde_json.specs.{Data.Data, Written.has_float}
+use Rattle.json_answers.{specs.ReportData.{fault_data, report_data}, proofs.Plain.{fault_plain, or_plain, report_plain}}
+use Rattle.compared_ends.specs.{declared.{basis.Basis.Basis, comparison.{Comparison.Comparison, Extra.Extra}}, Comparisons.IsExtra}
+use Rattle.comparison_answers.specs.{ComparisonData.{IsComparisonData, IsExtraData, end_data, side_data}, PairAnswers.{IsComparedAnswer, IsPairAnswer}}
+use Rattle.comparison_answers.specs.PairAnswers.{IsSecondAnswer, Refuses, compares, first_read, first_refused, second_refused}
 use Rattle.compared_ends.specs.declared.comparison.Extra.TheVariants as extra
-use Rattle.compared_ends.specs.Comparisons.{IsExtra}
-use Rattle.comparison_answers.specs.ComparisonData.{IsComparisonData, IsExtraData, end_data, side_data}
-use Rattle.comparison_answers.specs.PairAnswers.{IsComparedAnswer, IsPairAnswer, IsSecondAnswer, Refuses, compares, first_read, first_refused}
-use Rattle.comparison_answers.specs.PairAnswers.{second_refused}
 
 -- an end that only one program has is that of one of its answers
 pub within : (basis : Basis) (c d : Tree) (k : Limits) (one other : Exploration) (x : Extra) → IsExtra basis c d k one other x → (i : ℕ) →

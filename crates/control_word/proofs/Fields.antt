@@ -1,10 +1,7 @@
 -- The fields of a word, one by one.
-use Rattle.std.proofs.Common.{◌≡◌, ℕ, ◌+◌, ◌*◌, ◌/◌, ◌%◌, ◌^◌, ◌<◌, Bool, true, false, refl, sym, ap, ◌∙◌, arith, eqb}
-use Rattle.std.specs.Prelude.{bit_or}
-use Rattle.std.proofs.lemmas.Nat.{or_block}
-use Rattle.std.specs.Int.Bits.{or_zero_r}
-use Rattle.control_word.specs.declared.control.Control.{Control}
-use Rattle.control_word.specs.Word.{bit, InRange, word_of, control_of}
+use Rattle.std.proofs.{Common.{◌≡◌, ℕ, ◌+◌, ◌*◌, ◌/◌, ◌%◌, ◌^◌, ◌<◌, Bool, true, false, refl, sym, ap, ◌∙◌, arith, eqb}, lemmas.Nat.or_block}
+use Rattle.std.specs.{Prelude.bit_or, Int.Bits.or_zero_r}
+use Rattle.control_word.specs.{declared.control.Control.Control, Word.{bit, InRange, word_of, control_of}}
 
 -- the sum of the fields, by plain numbers
 abbrev pub total : ℕ → ℕ → ℕ → ℕ → ℕ → ℕ → ℕ

@@ -1,10 +1,7 @@
 -- The word after each of the owner's calls.
 use Rattle.std.proofs.Common.{◌≡◌, ℕ, ◌+◌, ◌*◌, ◌%◌, ◌^◌, ◌-◌, ◌<◌, Bool, true, false, refl, ap, arith}
-use Rattle.effect_term.specs.Values.{value_bits}
-use Rattle.effect_term.specs.Outcomes.{OutcomeFits}
+use Rattle.effect_term.specs.{Values.value_bits, Outcomes.OutcomeFits, declared.reply.Outcome.{Outcome, TheVariants.{Succeeded, Errored, Canceled}}}
 use Rattle.effect_term.proofs.ValueLaws.{one}
-use Rattle.effect_term.specs.declared.reply.Outcome.{Outcome}
-use Rattle.effect_term.specs.declared.reply.Outcome.TheVariants.{Succeeded, Errored, Canceled}
 use Rattle.control_word.specs.Word.{bit, InRange, word_of, finish_sum, masked, unmasked, cut, finished, kind_of, value_of, Masks, Unmasks, Cuts, Finishes}
 use Rattle.control_word.proofs.Fields.{word_is, word_lt}
 

@@ -1,11 +1,7 @@
 -- The first fault of lists of uses.
-use Rattle.std.proofs.Common.{◌≡◌, ℕ, ◌+◌, ◌<◌, ◌++◌, ◌∙◌, List, [], ◌∷◌, Option, Some, None, length, get_or, drop, ap, refl, sym}
-use Rattle.std.proofs.lemmas.List.{at_drop_more}
+use Rattle.std.proofs.{Common.{◌≡◌, ℕ, ◌+◌, ◌<◌, ◌++◌, ◌∙◌, List, [], ◌∷◌, Option, Some, None, length, get_or, drop, ap, refl, sym}, lemmas.List.at_drop_more}
 use Rattle.std.specs.Option.{option_or}
-use Rattle.effect_term.specs.declared.refusal.TermError.{TermError}
-use Rattle.effect_term.specs.declared.term.Kind.{Kind}
-use Rattle.effect_term.specs.declared.term.Term.{Term}
-use Rattle.effect_term.specs.Names.{Use, fault_of, first_fault, uses_of, uses_of_all}
+use Rattle.effect_term.specs.{declared.{refusal.TermError.TermError, term.{Kind.Kind, Term.Term}}, Names.{Use, fault_of, first_fault, uses_of, uses_of_all}}
 
 option_or-assoc : (a b c : Option TermError) → option_or (option_or a b) c ≡ option_or a (option_or b c)
 option_or-assoc None b c = refl

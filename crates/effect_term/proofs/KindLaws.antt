@@ -1,23 +1,13 @@
 -- A term's names have no fault exactly where the term is well kinded.
 use Rattle.std.proofs.Common.{◌≡◌, ◌++◌, ◌∙◌, Bool, true, false, ◌&&◌, List, [], ◌∷◌, Option, Some, None, slice_get, if◌then◌else◌, ap, refl, sym}
 use Rattle.std.specs.Option.{option_or}
-use Rattle.effect_term.specs.declared.term.Kind.{Kind}
-use Rattle.effect_term.specs.declared.term.Kind.TheVariants.{Value, Poll, Fiber, Ref, Deferred}
-use Rattle.effect_term.specs.declared.term.Name.{Name}
-use Rattle.effect_term.specs.declared.term.Operand.{Operand}
-use Rattle.effect_term.specs.declared.term.Operand.TheVariants.{Number, Named}
-use Rattle.effect_term.specs.declared.refusal.TermError.{TermError}
-use Rattle.effect_term.specs.declared.refusal.TermError.TheVariants.{WrongKind}
-use Rattle.effect_term.specs.Kinds.{Fits, ValueFits, WellKinded, AllWellKinded}
-use Rattle.effect_term.specs.Names.{Use, same_kind, fault_with, first_fault, use_of, value_uses, uses_of, uses_of_row}
-use Rattle.effect_term.proofs.Faults.{first_fault-append, first_fault-good}
-use Rattle.effect_term.specs.declared.term.Term.{Term, Row_of-Term, end_of-Term, more_of-Term}
-use Rattle.effect_term.specs.declared.term.Term.TheVariants.{Pure, Raise, Let', Seq', Handle', If0', Add, Say}
-use Rattle.effect_term.specs.declared.term.Term.TheVariants.{Cede, Never, Canceled, Uncancelable', Poll'}
-use Rattle.effect_term.specs.declared.term.Term.TheVariants.{OnCancel', Start', Join', Cancel, Ref', Get, Set}
-use Rattle.effect_term.specs.declared.term.Term.TheVariants.{Modify, Deferred', Complete, Await, Repeat'}
-use Rattle.effect_term.specs.declared.term.Term.TheVariants.{Forever', Guarantee', Bracket', BracketCase'}
-use Rattle.effect_term.specs.declared.term.Term.TheVariants.{BracketFull', Race', Both'}
+use Rattle.effect_term.specs.declared.term.{Kind.{Kind, TheVariants.{Value, Poll, Fiber, Ref, Deferred}}, Name.Name, Operand.{Operand, TheVariants.Number}}
+use Rattle.effect_term.specs.declared.term.{Operand.TheVariants.Named, Term.{Term, Row_of-Term, end_of-Term, more_of-Term, TheVariants.{Pure, Raise, Let'}}}
+use Rattle.effect_term.specs.declared.term.Term.TheVariants.{Seq', Handle', If0', Add, Say, Uncancelable', Poll', OnCancel', Start'}
+use Rattle.effect_term.specs.declared.term.Term.TheVariants.{Join', Cancel, Ref', Get, Set, Modify, Deferred', Complete, Await, Repeat', Forever', Guarantee'}
+use Rattle.effect_term.specs.declared.{term.Term.TheVariants.{Bracket', BracketCase', BracketFull', Race', Both'}, refusal.TermError.TermError}
+use Rattle.effect_term.specs.{declared.refusal.TermError.TheVariants.WrongKind, Kinds.{Fits, ValueFits, WellKinded, AllWellKinded}, Names.{Use, same_kind}}
+use Rattle.effect_term.{specs.Names.{fault_with, first_fault, use_of, value_uses, uses_of, uses_of_row}, proofs.Faults.{first_fault-append, first_fault-good}}
 
 first_none : (a b : Option TermError) → option_or a b ≡ None → a ≡ None
 first_none None b h = refl
@@ -96,10 +86,7 @@ same_kind-true Deferred Deferred h = refl
 
 same_kind-self : (a : Kind) → same_kind a a ≡ true
 same_kind-self Value = refl
-same_kind-self Poll = refl
-same_kind-self Fiber = refl
-same_kind-self Ref = refl
-same_kind-self Deferred = refl
+same_kind-self _ = refl
 
 both_true : (b c : Bool) (e : TermError) → (if b && c then None else Some e) ≡ None → (b ≡ true) × (c ≡ true)
 both_true true true e h = (refl, refl)
@@ -153,9 +140,6 @@ mutual
       let each = split_two (value_uses around v) (value_uses around w) good in
       (value_fits around v each.0, value_fits around w each.1)
   well_kinded around (Say v) good = value_fits around v good
-  well_kinded around Cede good = tt
-  well_kinded around Never good = tt
-  well_kinded around Canceled good = tt
   well_kinded around (Uncancelable' p e) good = well_kinded (around ++ Poll ∷ []) e good
   well_kinded around (Poll' n p e) good =
       let each = split_two (use_of around Poll n) (uses_of around e) good in
@@ -219,6 +203,7 @@ mutual
   well_kinded around (Both' p a q b r k) good =
       let each = split_three (uses_of around a) (uses_of around b) (uses_of (around ++ Value ∷ Value ∷ []) k) good in
       (well_kinded around a each.0, well_kinded around b each.1, well_kinded (around ++ Value ∷ Value ∷ []) k each.2)
+  well_kinded around _ good = tt
 
   all_well_kinded : (around : List Kind) {m : _} (row : Row_of-Term m) → first_fault (uses_of_row around row) ≡ None → AllWellKinded around row
   all_well_kinded around end_of-Term good = tt
@@ -246,9 +231,6 @@ mutual
       join_two (value_uses around v) (value_uses around w)
       (value_good around v fits.0) (value_good around w fits.1)
   no_fault around (Say v) fits = value_good around v fits
-  no_fault around Cede fits = refl
-  no_fault around Never fits = refl
-  no_fault around Canceled fits = refl
   no_fault around (Uncancelable' p e) fits = no_fault (around ++ Poll ∷ []) e fits
   no_fault around (Poll' n p e) fits =
       join_two (use_of around Poll n) (uses_of around e)
@@ -304,6 +286,7 @@ mutual
   no_fault around (Both' p a q b r k) fits =
       join_three (uses_of around a) (uses_of around b) (uses_of (around ++ Value ∷ Value ∷ []) k)
       (no_fault around a fits.0) (no_fault around b fits.1) (no_fault (around ++ Value ∷ Value ∷ []) k fits.2)
+  no_fault around _ fits = refl
 
   no_fault_in_row : (around : List Kind) {m : _} (row : Row_of-Term m) → AllWellKinded around row → first_fault (uses_of_row around row) ≡ None
   no_fault_in_row around end_of-Term fits = refl

@@ -1,11 +1,7 @@
 -- A term is refused exactly where it is no program.
 use Rattle.std.proofs.Common.{◌≡◌, [], None, inl, inr}
-use Rattle.effect_term.specs.declared.term.Term.{Term}
-use Rattle.effect_term.specs.declared.refusal.TermError.{TermError}
-use Rattle.effect_term.specs.Kinds.{WellKinded}
-use Rattle.effect_term.specs.Names.{first_fault, uses_of, IsFault}
-use Rattle.effect_term.specs.Programs.{IsProgram, IsPastLimit}
-use Rattle.effect_term.proofs.KindLaws.{no_fault}
+use Rattle.effect_term.specs.{declared.{term.Term.Term, refusal.TermError.TermError}, Kinds.WellKinded, Names.{first_fault, uses_of, IsFault}}
+use Rattle.effect_term.{specs.Programs.{IsProgram, IsPastLimit}, proofs.KindLaws.no_fault}
 
 -- a program's names have no fault
 pub names_of_program : (t : Term) → IsProgram t → first_fault (uses_of [] t) ≡ None

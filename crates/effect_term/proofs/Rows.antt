@@ -1,12 +1,9 @@
 -- What is counted over a row of terms, read at the items of its `Vec`.
-use Rattle.std.proofs.Common.{◌≡◌, ℕ, ◌+◌, ◌≤◌, ◌<◌, zero, suc, max, ◌||◌, List, [], ◌∷◌, ◌++◌, length, get_or}
-use Rattle.std.proofs.Common.{ap, refl, arith}
-use Rattle.effect_term.specs.declared.term.Term.{Term, Row_of-Term, end_of-Term, more_of-Term, items-the_row-Term}
-use Rattle.effect_term.specs.ExpansionSize.{expansion_size_of, expansion_sizes_of, total_expansion_size}
-use Rattle.effect_term.specs.Masks.{masks_of, most_masks_of, most_masks}
-use Rattle.effect_term.specs.Names.{uses_of, uses_of_row, uses_of_all}
-use Rattle.effect_term.specs.Sizes.{size_of, sizes_of, total_size, nest_of, nests_of, deepest}
-use Rattle.effect_term.specs.Starts.{starts_fiber, any_starts_fiber, some_starts_fiber}
+use Rattle.std.proofs.Common.{◌≡◌, ℕ, ◌+◌, ◌≤◌, ◌<◌, zero, suc, max, ◌||◌, List, [], ◌∷◌, ◌++◌, length, get_or, ap, refl, arith}
+use Rattle.effect_term.specs.{declared.term.Term.{Term, Row_of-Term, end_of-Term, more_of-Term, items-the_row-Term}, ExpansionSize.expansion_size_of}
+use Rattle.effect_term.specs.{ExpansionSize.{expansion_sizes_of, total_expansion_size}, Masks.{masks_of, most_masks_of, most_masks}, Names.uses_of}
+use Rattle.effect_term.specs.{Names.{uses_of_row, uses_of_all}, Sizes.{size_of, sizes_of, total_size, nest_of, nests_of, deepest}, Starts.starts_fiber}
+use Rattle.effect_term.specs.Starts.{any_starts_fiber, some_starts_fiber}
 
 pub sizes_of-row : (m : _) (row : Row_of-Term m) → sizes_of row ≡ total_size (items-the_row-Term m row)
 sizes_of-row _ end_of-Term = refl

@@ -1,7 +1,6 @@
 -- What the 63 bits of a value tell.
 use Rattle.std.proofs.Common.{◌≡◌, ℕ, ◌+◌, ◌-◌, ◌%◌, ◌^◌, ◌<◌, ◌≤◌, suc, ◌⊎◌, refl, sym, ap, ◌∙◌, subst, arith, ℤ, pos, negsuc, ◌+ℤ◌, inl, inr}
-use Rattle.std.proofs.lemmas.Bool.{lt-ltb, le-ltb, cases_lt}
-use Rattle.std.proofs.lemmas.Int.{ints}
+use Rattle.std.proofs.lemmas.{Bool.{lt-ltb, le-ltb, cases_lt}, Int.ints}
 use Rattle.effect_term.specs.Values.{IsValue, value_bits, bits_value, wrapped}
 
 -- the bits are below 2 ^ 63
@@ -51,10 +50,6 @@ from_bits z n is e = subst IsValue (ap bits_value (sym is) ∙ e) (is_value (val
 pub wrapped_is_value : (z : ℤ) → IsValue (wrapped z)
 unfolding wrapped
 wrapped_is_value z = is_value (value_bits z) (bits_lt z)
-
-pub wrapped_same : (z : ℤ) → IsValue z → wrapped z ≡ z
-unfolding wrapped
-wrapped_same z h = back z h
 
 -- the bits of a sum are the sum of the bits, modulo 2 ^ 63
 less : (m n : ℕ) → m < 2 ^ 62 → n < 2 ^ 62 → (m % 2 ^ 63 + (2 ^ 63 - 1 - n % 2 ^ 63)) % 2 ^ 63 ≡ value_bits (pos m +ℤ negsuc n)

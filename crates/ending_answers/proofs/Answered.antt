@@ -1,26 +1,17 @@
 -- Answers to programs whose fair schedules are decided.
-use Rattle.std.proofs.Common.{◌≡◌, ◌∙◌, ℕ, Bool, true, false, List, refl, ap, subst}
-use Rattle.std.specs.Prelude.{codes}
+use Rattle.std.proofs.Common.{◌≡◌, ◌∙◌, ℕ, Bool, false, List, refl, ap, subst}
 use Rattle.cell_registry.specs.declared.limits.Limits.{Limits}
-use Rattle.derived_ops.specs.Expansion.{code_of}
-use Rattle.derived_ops.specs.Reading.{source_of}
+use Rattle.derived_ops.specs.{Expansion.code_of, Reading.source_of}
 use Rattle.effect_term.specs.declared.term.Term.{Term}
 use Rattle.fair_ends.specs.declared.ending.Ending.{Ending}
-use Rattle.fair_ends.specs.declared.ending.Ending.TheVariants as decided
 use Rattle.text_io.specs.declared.status.Status.{Status}
 use Rattle.world_search.specs.declared.answers.Bounds.{Bounds}
-use Rattle.serde_json.specs.Data.{Data, string}
-use Rattle.serde_json.specs.Written.{has_float}
-use Rattle.json_answers.proofs.FoundPlain.{exploration_plain}
-use Rattle.json_answers.proofs.Plain.{or_plain}
-use Rattle.exploration_text.specs.declared.wants.Want.{Want}
-use Rattle.exploration_text.specs.ExploreAnswers.{IsExplorationOf}
-use Rattle.exploration_text.specs.Missing.{missing_of_exploration}
-use Rattle.ending_answers.specs.declared.decided.Decided.{Decided}
-use Rattle.ending_answers.specs.DecidedAnswers.{IsDecidedAnswer, Shows}
-use Rattle.ending_answers.specs.DecidedData.{IsDecidedData, IsEndingData, cycle_data}
-use Rattle.ending_answers.specs.DecidedText.{decided_status}
-use Rattle.ending_answers.specs.Decisions.{IsEndingOf}
+use Rattle.serde_json.specs.{Data.Data, Written.has_float}
+use Rattle.json_answers.proofs.{FoundPlain.exploration_plain, Plain.or_plain}
+use Rattle.exploration_text.specs.{declared.wants.Want.Want, ExploreAnswers.IsExplorationOf, Missing.missing_of_exploration}
+use Rattle.ending_answers.specs.{declared.decided.Decided.Decided, DecidedAnswers.{IsDecidedAnswer, Shows}, DecidedData.{IsDecidedData, IsEndingData}}
+use Rattle.ending_answers.specs.{DecidedText.decided_status, Decisions.IsEndingOf}
+use Rattle.fair_ends.specs.declared.ending.Ending.TheVariants as decided
 
 -- the answer, with the wants of the order
 pub answered : (json : Bool) (t : Term) (limits : Limits) (bounds : Bounds) (timed : Bool) (wants ws : List Want) (note answer : List ℕ)

@@ -1,14 +1,11 @@
 -- Decisions on fair schedules, from the contract of a search.
-use Rattle.std.proofs.Common.{◌≡◌, ◌⊎◌, ◌≤◌, ◌<◌, ℕ, List, length, refl, sym, subst, arith, inl, inr}
-use Rattle.std.specs.List.{All}
+use Rattle.std.proofs.Common.{◌≡◌, ◌⊎◌, ◌≤◌, ◌<◌, ℕ, refl, sym, subst, arith, inl, inr}
 use Rattle.cell_registry.specs.declared.limits.Limits.{Limits}
 use Rattle.derived_ops.specs.Tree.{Tree}
-use Rattle.fair_ends.specs.declared.ending.Cycle.{Cycle}
-use Rattle.fair_ends.specs.declared.ending.Ending.{Ending}
-use Rattle.fair_ends.specs.declared.ending.Ending.TheVariants as decided
-use Rattle.fair_ends.specs.Fair.{IsFair}
+use Rattle.fair_ends.specs.{declared.ending.{Cycle.Cycle, Ending.Ending}, Fair.IsFair}
 use Rattle.every_schedule.specs.Fairness.{Ends, IsForever}
 use Rattle.ending_answers.specs.Decisions.{IsEndingOf, IsShort}
+use Rattle.fair_ends.specs.declared.ending.Ending.TheVariants as decided
 
 pub ending_is : (code : Tree) (k : Limits) (e : Ending) →
     (e ≡ decided.Ends → (schedule : ℕ → ℕ) → IsFair 1000 schedule → Ends code k schedule) →

@@ -7,13 +7,8 @@ use Rattle.text_io.specs.declared.status.Status.TheVariants as ends
 use Rattle.ending_answers.specs.DecidedText.{ending_status, undecided_status}
 
 undecided_ends : (s : Status) → s ≢ ends.Usage → undecided_status s ≢ ends.Usage
-undecided_ends ends.Succeeded never = λ u. cc
-undecided_ends ends.Errored never = λ u. cc
-undecided_ends ends.Canceled never = λ u. cc
-undecided_ends ends.Unended never = λ u. cc
 undecided_ends ends.Usage never = never
-undecided_ends ends.Refused never = λ u. cc
-undecided_ends ends.Fault never = λ u. cc
+undecided_ends _ never = λ u. cc
 
 pub ending_ends : (e : Ending) (s : Status) → s ≢ ends.Usage → ending_status e s ≢ ends.Usage
 ending_ends decided.Ends s never = never

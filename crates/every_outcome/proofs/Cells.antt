@@ -1,19 +1,14 @@
 -- Counts of changes and notes of joins have no effect but that a count can be used up.
-use Rattle.std.proofs.Common.{◌≡◌, ◌<◌, ◌≤◌, ℕ, zero, suc, ◌+◌, Bool, true, false, cond, ◌==◌, List, [], ◌∷◌, get_or, map, set, Option, Some, None, refl, sym, ap, ap₂, ◌∙◌, arith}
-use Rattle.std.proofs.lemmas.List.{map-set}
+use Rattle.std.proofs.Common.{◌≡◌, ◌<◌, ◌≤◌, ℕ, zero, suc, ◌+◌, Bool, true, false, cond, ◌==◌, List, [], ◌∷◌, get_or, map, set, Option, Some, None, refl, sym}
+use Rattle.std.proofs.{Common.{ap, ap₂, ◌∙◌, arith}, lemmas.{List.map-set, Bool.{eqb-true, ne_eqb}}}
+use Rattle.cell_registry.specs.{declared.{limits.{Limits.Limits, Band.Band, CellError.CellError}, cell.Cell.Cell, call.Call.Call}, Cells.{Cells, after}}
+use Rattle.cell_registry.specs.Cells.{awaited, cancel_reply, cell_of, cut, finished, fresh, full, join_reply, masked, refusal, reply_of, requested, spent}
+use Rattle.cell_registry.specs.Cells.{unawaited, uncounted, unmasked, without_counts, without_waits}
 use Rattle.std.proofs.Math.ListN as lists
-use Rattle.std.proofs.lemmas.Bool.{eqb-true, ne_eqb}
 use Rattle.effect_term.specs.declared.reply.Reply.TheVariants as reply
-use Rattle.cell_registry.specs.declared.limits.Limits.{Limits}
-use Rattle.cell_registry.specs.declared.limits.Band.{Band}
 use Rattle.cell_registry.specs.declared.limits.Band.TheVariants as band
-use Rattle.cell_registry.specs.declared.limits.CellError.{CellError}
 use Rattle.cell_registry.specs.declared.limits.CellError.TheVariants as cell
-use Rattle.cell_registry.specs.declared.cell.Cell.{Cell}
-use Rattle.cell_registry.specs.declared.call.Call.{Call}
 use Rattle.cell_registry.specs.declared.call.Call.TheVariants as call
-use Rattle.cell_registry.specs.Cells.{Cells, after, awaited, cancel_reply, cell_of, cut, finished, fresh, full, join_reply, masked}
-use Rattle.cell_registry.specs.Cells.{refusal, reply_of, requested, spent, unawaited, uncounted, unmasked, without_counts, without_waits}
 
 -- a cell without its count and its note
 abbrev pub plain : Cell → Cell
@@ -35,21 +30,10 @@ plain_cell s f = lists.get_or-map plain s.cells f fresh
 -- the reply to a call
 pub plain_reply : (s : Cells) (by : ℕ) (c : Call) → reply_of (plain_cells s) by c ≡ reply_of s by c
 unfolding reply_of
-plain_reply s by call.Start = refl
 plain_reply s by (call.Cancel f) = ap (λ (c : Cell). reply.Cancel (cancel_reply c.stage c.request)) (plain_cell s f)
 plain_reply s by (call.Join f) = ap (λ (c : Cell). reply.Join (join_reply c.stage)) (plain_cell s f)
 plain_reply s by call.Look = ap (λ (c : Cell). reply.Seen c.request) (plain_cell s by)
-plain_reply s by call.Mask = refl
-plain_reply s by call.Unmask = refl
-plain_reply s by call.Cut = refl
-plain_reply s by (call.Finish o) = refl
-plain_reply s by call.NewRef = refl
-plain_reply s by call.NewDeferred = refl
-plain_reply s by (call.Get r) = refl
-plain_reply s by (call.Set r v) = refl
-plain_reply s by (call.Modify r v) = refl
-plain_reply s by (call.Complete d v) = refl
-plain_reply s by (call.Read d) = refl
+plain_reply s by _ = refl
 
 -- how a call is refused: in the same way, unless a count is used up
 abbrev pub Refused : ℕ → ℕ → Option CellError → Option CellError → Type 0
@@ -79,20 +63,13 @@ module _ (k : Limits) (n : ℕ) (some : 0 < k.count) where
   pub plain_refusal : (s : Cells) (by : ℕ) (c : Call) → Refused (cell_of s by).count n (refusal (record k { count = n }) s by c) (refusal k (plain_cells s) by c)
   unfolding refusal
   plain_refusal s by call.Start = full_refused (cell_of s by).count n band.Fibers s.next_fiber k.fibers
-  plain_refusal s by (call.Cancel f) = refl
-  plain_refusal s by (call.Join f) = refl
-  plain_refusal s by call.Look = refl
   plain_refusal s by call.Mask = spent_refused s by
   plain_refusal s by call.Unmask = spent_refused s by
   plain_refusal s by call.Cut = spent_refused s by
   plain_refusal s by (call.Finish o) = spent_refused s by
   plain_refusal s by call.NewRef = full_refused (cell_of s by).count n band.Refs s.next_ref k.refs
   plain_refusal s by call.NewDeferred = full_refused (cell_of s by).count n band.Deferreds s.next_deferred k.deferreds
-  plain_refusal s by (call.Get r) = refl
-  plain_refusal s by (call.Set r v) = refl
-  plain_refusal s by (call.Modify r v) = refl
-  plain_refusal s by (call.Complete d v) = refl
-  plain_refusal s by (call.Read d) = refl
+  plain_refusal s by _ = refl
 
 -- ---- where nothing was counted yet
 uncounted_spent : (k : Limits) (s : Cells) (by : ℕ) → (cell_of s by).count ≡ 0 →
@@ -133,18 +110,16 @@ unfolding after
 plain_after s by call.Start = plain_twice (record s { next_fiber = s.next_fiber + 1 })
 plain_after s by (call.Cancel f) = changes requested (λ c. refl) s f
 plain_after s by (call.Join f) = changes awaited (λ c. refl) s f
-plain_after s by call.Look = plain_twice s
 plain_after s by call.Mask = changes masked (λ c. refl) s by
 plain_after s by call.Unmask = changes unmasked (λ c. refl) s by
 plain_after s by call.Cut = changes cut (λ c. refl) s by
 plain_after s by (call.Finish o) = changes (finished o) (λ c. refl) s by
 plain_after s by call.NewRef = plain_twice (record s { next_ref = s.next_ref + 1 })
 plain_after s by call.NewDeferred = plain_twice (record s { next_deferred = s.next_deferred + 1 })
-plain_after s by (call.Get r) = plain_twice s
 plain_after s by (call.Set r v) = plain_twice (after s by (call.Set r v))
 plain_after s by (call.Modify r v) = plain_twice (after s by (call.Modify r v))
 plain_after s by (call.Complete d v) = plain_twice (after s by (call.Complete d v))
-plain_after s by (call.Read d) = plain_twice s
+plain_after s by _ = plain_twice s
 
 -- ---- counts grow by at most 1
 set_one : (P : Cell → Type 0) (cs : List Cell) (i f : ℕ) (y d : Cell) → P (get_or cs f d) → P y → P (get_or (set cs i y) f d)
@@ -166,15 +141,7 @@ count_after s by call.Mask m h f = set_one (λ (c : Cell). c.count ≤ suc m) s.
 count_after s by call.Unmask m h f = set_one (λ (c : Cell). c.count ≤ suc m) s.cells by f (unmasked (cell_of s by)) fresh (let a = h f in omega arith) (let a = h by in omega arith)
 count_after s by call.Cut m h f = set_one (λ (c : Cell). c.count ≤ suc m) s.cells by f (cut (cell_of s by)) fresh (let a = h f in omega arith) (let a = h by in omega arith)
 count_after s by (call.Finish o) m h f = set_one (λ (c : Cell). c.count ≤ suc m) s.cells by f (finished o (cell_of s by)) fresh (let a = h f in omega arith) (let a = h by in omega arith)
-count_after s by call.Start m h f = let a = h f in omega arith
-count_after s by call.Look m h f = let a = h f in omega arith
-count_after s by call.NewRef m h f = let a = h f in omega arith
-count_after s by call.NewDeferred m h f = let a = h f in omega arith
-count_after s by (call.Get r) m h f = let a = h f in omega arith
-count_after s by (call.Set r v) m h f = let a = h f in omega arith
-count_after s by (call.Modify r v) m h f = let a = h f in omega arith
-count_after s by (call.Complete d v) m h f = let a = h f in omega arith
-count_after s by (call.Read d) m h f = let a = h f in omega arith
+count_after s by _ m h f = let a = h f in omega arith
 
 -- some number is at least each count
 bounded : (cs : List Cell) → (m : ℕ) × ((f : ℕ) → (get_or cs f fresh).count ≤ m)

@@ -1,28 +1,18 @@
 -- A fiber's own move commutes with each move of another fiber, also without marks, numbers of masks, counts and notes.
 use Rattle.std.proofs.Common.{◌≡◌, ◌≢◌, ℕ, true, [], ◌++◌, set, map, Some, None, Option, Result, Ok, Err, refl, sym, ap, ◌∙◌, subst, append-nil}
-use Rattle.std.specs.List.{slice_get}
-use Rattle.std.proofs.lemmas.Option.{same_Some}
+use Rattle.std.{proofs.lemmas.Option.same_Some, specs.List.slice_get}
 use Rattle.effect_term.specs.declared.reply.Reply.{Reply}
-use Rattle.fiber_frames.specs.Fiber.{Fiber, ask_of, move, silent_move}
-use Rattle.fiber_frames.specs.Unmarked.{unmarked}
-use Rattle.cell_registry.specs.declared.limits.Limits.{Limits}
-use Rattle.cell_registry.specs.declared.limits.CellError.{CellError}
-use Rattle.cell_registry.specs.declared.limits.RunError.{RunError}
-use Rattle.cell_registry.specs.declared.call.Call.{Call}
-use Rattle.cell_registry.specs.declared.call.Call.TheVariants.{Start}
-use Rattle.cell_registry.specs.declared.cell.Cell.{Cell}
-use Rattle.cell_registry.specs.declared.cell.Stage.{Stage}
-use Rattle.cell_registry.specs.Cells.{cell_of, refusal, reply_of}
-use Rattle.cell_registry.proofs.Calls.{owned-after}
-use Rattle.scheduled_core.specs.declared.wish.Wish.{Wish}
-use Rattle.scheduled_core.specs.declared.wish.Wish.TheVariants.{Shared, Alone, Nothing}
-use Rattle.scheduled_core.specs.Core.{World, answered, born, called, entered, turned, wish_of, wished}
-use Rattle.scheduled_core.proofs.Lists.{slice_get-set_other}
-use Rattle.scheduled_core.proofs.Standing.Lists.{get_early}
+use Rattle.fiber_frames.specs.{Fiber.{Fiber, ask_of, move, silent_move}, Unmarked.unmarked}
+use Rattle.cell_registry.specs.declared.{limits.{Limits.Limits, CellError.CellError, RunError.RunError}, call.Call.{Call, TheVariants.Start}, cell.Cell.Cell}
+use Rattle.cell_registry.{specs.{declared.cell.Stage.Stage, Cells.{cell_of, refusal, reply_of}}, proofs.Calls.owned-after}
+use Rattle.scheduled_core.specs.{declared.wish.Wish.{Wish, TheVariants.{Shared, Alone, Nothing}}, Core.{World, answered, born, called, entered, turned}}
+use Rattle.scheduled_core.{specs.Core.{wish_of, wished}, proofs.{Lists.slice_get-set_other, Standing.Lists.get_early}}
 use Rattle.world_search.specs.Free.{AreFree, Commutes}
 use Rattle.every_schedule.specs.Places.{entering, placed}
 use Rattle.every_schedule.specs.Reduced.{IsOwn, has_own, is_own}
+use Rattle.every_schedule.specs.Claims.{stored_by}
 use Rattle.every_schedule.proofs.Commuting.{own_enter}
+use Rattle.every_schedule.proofs.SeenLeaps.{refs_turned}
 use Rattle.every_outcome.specs.Places.{Place, stepped, unmarked_after, unmarked_place, unmarked_world}
 use Rattle.every_outcome.proofs.Cells.{plain_cell, plain_is}
 use Rattle.every_outcome.proofs.Own.{is_own_unmarked}
@@ -219,10 +209,36 @@ module _ (p : Place) (f : ℕ) (h : IsFree p f) where
         )
     by_entry (Err d) e pair = other_step ∙ ap unmarked_of pair
 
+    -- the other fiber is the same after the own move
+    pub same_after : slice_get (unmarked_place x).world.fibers g ≡ slice_get p.world.fibers g
+    same_after =
+        get_unmarked x.world.fibers g (slice_get p.world.fibers g)
+        (same_turned p.limits p.world f g back (slice_get p.world.fibers f) x h.own.own h.own.goes)
+        ∙ sym (get_unmarked p.world.fibers g (slice_get p.world.fibers g) refl)
+        ∙ ap (λ (q : Place). slice_get q.world.fibers g) h.none
+
+    -- this fiber is the same after the other's move
+    pub other_stays : (q : Place) → stepped p g ≡ Ok q → slice_get q.world.fibers f ≡ slice_get p.world.fibers f
+    other_stays q e =
+        let on = unmarked_led (entering p g) q (sym (step_is p g) ∙ e) in
+        ap (λ (y : Place). slice_get y.world.fibers f) (sym on.2)
+        ∙ get_unmarked on.0.world.fibers f (Some a) (still on.0 on.1) ∙ ap Some plain_a ∙ sym at
+
     own_commutes : Commutes stepped IsFree f (unmarked_place x) g (stepped p g)
     own_commutes =
         subst (Commutes stepped IsFree f (unmarked_place x) g) (sym (step_is p g))
         (by_entry (entering p g) refl (own_enter.commutes p f x h.own h.own.goes g apart))
+
+-- where an own move leads
+pub step_goes_to : (p : Place) (f : ℕ) (h : IsFree p f) (q : Place) → stepped p f ≡ Ok q → q ≡ unmarked_place h.own.next
+step_goes_to p f h q e = let led : Ok (unmarked_place h.own.next) ≡ Ok q = sym (here p f h) ∙ e in cc
+
+-- an own move that sets and changes no ref keeps the values of all refs
+pub refs_after : (p : Place) (f : ℕ) (h : IsFree p f) (q : Place) → stored_by (slice_get p.world.fibers f) ≡ None → stepped p f ≡ Ok q →
+    q.world.cells.refs ≡ p.world.cells.refs
+refs_after p f h q still e =
+    ap (λ (y : Place). y.world.cells.refs) (step_goes_to p f h q e)
+    ∙ refs_turned p.limits p.world f (slice_get p.world.fibers f) still h.own.next h.own.goes
 
 pub own_are_free : AreFree stepped IsFree
 own_are_free = record {

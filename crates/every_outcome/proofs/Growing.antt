@@ -1,25 +1,15 @@
 -- Outcomes grow: each entry keeps them or adds to them.
-use Rattle.std.proofs.Common.{◌≡◌, ◌⊎◌, inl, inr, ℕ, zero, suc, ◌+◌, ◌<◌, List, [], ◌∷◌, ◌++◌, map, set, Some, None, Option, Result, Ok, Err, refl, sym, ap, ◌∙◌, arith}
-use Rattle.std.specs.List.{slice_get}
-use Rattle.effect_term.specs.declared.reply.Outcome.{Outcome}
-use Rattle.effect_term.specs.declared.reply.Reply.{Reply}
-use Rattle.effect_term.specs.declared.reply.Reply.TheVariants.{Done}
+use Rattle.std.proofs.Common.{◌≡◌, ◌⊎◌, inl, inr, ℕ, zero, suc, ◌+◌, ◌<◌, List, [], ◌∷◌, ◌++◌, map, set, Some, None, Option, Result, Ok, Err, refl, sym, ap}
+use Rattle.std.{proofs.Common.{◌∙◌, arith}, specs.List.slice_get}
+use Rattle.effect_term.specs.declared.reply.{Outcome.Outcome, Reply.{Reply, TheVariants.Done}}
 use Rattle.derived_ops.specs.Tree.{Mask}
-use Rattle.fiber_frames.specs.declared.ask.Look.{Look}
-use Rattle.fiber_frames.specs.Path.{Running, Runs, Final, Over, Broken}
-use Rattle.fiber_frames.specs.Fiber.{Fiber, Move_case, Looks, Cuts, Reduces, Rests, active_of, ask_of, case_in, move}
-use Rattle.fiber_frames.specs.Fiber.{move_case, move_in, outcome_in, outcome_of, row_of, silent_move}
-use Rattle.cell_registry.specs.declared.limits.Limits.{Limits}
-use Rattle.cell_registry.specs.declared.limits.CellError.{CellError}
-use Rattle.cell_registry.specs.declared.limits.RunError.{RunError}
-use Rattle.cell_registry.specs.declared.call.Call.{Call}
-use Rattle.cell_registry.specs.Cells.{refusal, reply_of}
-use Rattle.scheduled_core.specs.declared.wish.Wish.{Wish}
-use Rattle.scheduled_core.specs.declared.wish.Wish.TheVariants.{Shared, Alone, Nothing}
-use Rattle.scheduled_core.specs.Core.{World, answered, born, entered, turned, wish_of, wished}
+use Rattle.fiber_frames.specs.{declared.ask.Look.Look, Path.{Running, Over}, Fiber.{Fiber, Move_case, Looks, Cuts, Reduces, Rests}}
+use Rattle.fiber_frames.specs.Fiber.{active_of, ask_of, case_in, move, move_case, move_in, outcome_in, outcome_of, row_of, silent_move}
+use Rattle.cell_registry.specs.{declared.{limits.{Limits.Limits, CellError.CellError, RunError.RunError}, call.Call.Call}, Cells.{refusal, reply_of}}
+use Rattle.scheduled_core.specs.{declared.wish.Wish.{Wish, TheVariants.{Shared, Alone, Nothing}}, Core.{World, answered, born, entered, turned, wish_of}}
+use Rattle.scheduled_core.specs.Core.{wished}
 use Rattle.world_search.specs.Free.{AreGrowing}
-use Rattle.every_outcome.specs.Places.{Place, outcomes_at, stepped, unmarked_after, unmarked_world}
-use Rattle.every_outcome.proofs.Stepping.{outcomes_stay}
+use Rattle.every_outcome.{specs.Places.{Place, outcomes_at, stepped, unmarked_after, unmarked_world}, proofs.Stepping.outcomes_stay}
 
 -- ---- one fiber
 -- 1 for the fiber, and 1 more for its outcome
@@ -32,10 +22,8 @@ GrowsOne a b = (outcome_of b ≡ outcome_of a) ⊎ (one_size (outcome_of a) < on
 
 -- a fiber that goes on hasn't ended
 going : (w : Running) (up : List Mask) (l : Look) (c : Move_case) → case_in w up l ≡ c → (c ≡ Rests → ⊥) → outcome_in w ≡ None
-going (Runs t) up l c e h = refl
-going (Final m gs) up l c e h = refl
 going (Over o) up l c e h = absurd (h (sym e))
-going Broken up l c e h = refl
+going _ up l c e h = refl
 
 ends : (g : Fiber) (b : Fiber) (o : Option Outcome) → outcome_of g ≡ None → outcome_of b ≡ o → GrowsOne g b
 ends g b None none same = inl (same ∙ sym none)

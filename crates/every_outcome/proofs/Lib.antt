@@ -8,3 +8,6 @@ pub mod Leaps
 pub mod Told
 pub mod Listing
 pub mod Trails
+pub mod Seen
+pub mod Moments
+pub mod Filtered

@@ -1,13 +1,9 @@
 -- Answers that are listed one by one.
-use Rattle.std.proofs.Common.{◌≡◌, inl, inr, ℕ, zero, suc, ◌+◌, List, [], ◌∷◌, ◌++◌, length, refl, sym, ap, ◌∙◌, subst, arith, append_assoc, append-nil, length-append}
-use Rattle.std.specs.Prelude.{Some}
-use Rattle.std.specs.List.{All, slice_get}
-use Rattle.std.proofs.lemmas.Option.{same_Some, slice_get_within}
+use Rattle.std.proofs.Common.{◌≡◌, inl, inr, ℕ, zero, suc, ◌+◌, List, [], ◌∷◌, ◌++◌, length, refl, sym, ap, ◌∙◌, subst, arith, append_assoc, append-nil}
+use Rattle.std.{proofs.{Common.length-append, lemmas.Option.{same_Some, slice_get_within}}, specs.{Prelude.Some, List.{All, slice_get}}}
 use Rattle.scheduled_core.proofs.Lists.{parted}
 use Rattle.world_search.specs.declared.answers.Answer.{Answer as Found}
-use Rattle.every_outcome.specs.declared.outcomes.OutcomeAnswer.{OutcomeAnswer}
-use Rattle.every_outcome.specs.Places.{Kept, Place}
-use Rattle.every_outcome.specs.Private.Telling.{AreTold, IsTold, IsWithin}
+use Rattle.every_outcome.specs.{declared.outcomes.OutcomeAnswer.OutcomeAnswer, Places.{Kept, Place}, Private.Telling.{AreTold, IsTold, IsWithin}}
 use Rattle.every_outcome.proofs.Told.{all_at}
 
 -- the answers before the rest are listed
@@ -25,9 +21,6 @@ in_middle [] x ys = refl
 in_middle (y ∷ xs) x ys = in_middle xs x ys
 
 module _ (kept : Kept) (first : Place) where
-  pub none_told : (all : List Found) → SoFar kept first all all []
-  none_told all = record { before = []; is = refl; told = record { many = refl; each = λ i f a e d. absurd (cc) } }
-
   told_more : (fs : List Found) (bs : List OutcomeAnswer) (f : Found) (a : OutcomeAnswer) → AreTold kept first fs bs → IsTold kept first f a →
       AreTold kept first (fs ++ f ∷ []) (bs ++ a ∷ [])
   told_more fs bs f a told it = record {

@@ -1,46 +1,28 @@
 -- An own move is also an own move without marks, numbers of masks, counts and notes.
-use Rattle.std.proofs.Common.{◌≡◌, ℕ, suc, ◌+◌, Bool, true, false, not, ◌&&◌, ◌||◌, nat_eq, nat_lt, if◌then◌else◌, List, [], ◌∷◌, map, option_map, Option, Some, None, refl, sym, ap, ap₂, ◌∙◌}
-use Rattle.std.specs.List.{slice_get}
-use Rattle.derived_ops.specs.Naming as naming
-use Rattle.derived_ops.specs.Tree.{Act, Action, Cancel, Guarded, Handled, If0, Join, Let, Loop, Make, Maker, Mask, Masked, New_deferred, New_ref, Note, On_cancel}
-use Rattle.derived_ops.specs.Tree.{Poll, Polled, Pure, Raise, Seq, Start, Tree, Uncancelable}
-use Rattle.derived_ops.specs.Tree as tree
+use Rattle.std.proofs.Common.{◌≡◌, ℕ, suc, ◌+◌, Bool, true, false, not, ◌&&◌, ◌||◌, nat_eq, nat_lt, if◌then◌else◌, List, [], ◌∷◌, map, option_map, Option, Some}
+use Rattle.std.{proofs.Common.{None, refl, sym, ap, ap₂, ◌∙◌}, specs.List.slice_get}
+use Rattle.derived_ops.specs.Tree.{Act, Action, Cancel, Guarded, Handled, If0, Join, Let, Loop, Make, Maker, Mask, Masked, New_deferred, New_ref}
+use Rattle.derived_ops.specs.Tree.{On_cancel, Poll, Polled, Seq, Start, Tree, Uncancelable}
 use Rattle.effect_term.specs.declared.reply.Reply.{Reply}
+use Rattle.fiber_frames.specs.declared.{ask.{Ask.Ask, Look.{Look, TheVariants.{Clear, Due, Seen}}}, uses.Use.{Use, TheVariants.{Awaits, Cancels, Completes}}}
+use Rattle.fiber_frames.specs.{declared.uses.Use.TheVariants.{Gets, Joins, Starts, Stores}, Path.{At_final, At_term, Broken, Final, In_guarded, In_handle}}
+use Rattle.fiber_frames.specs.Path.{In_let, In_masked, In_polled, In_seq, Over, PathStep, Root, Running, Runs, focus, is_effective, masks_at_root, masks_in}
+use Rattle.fiber_frames.specs.{Rows.{Born, Row, RowKind, action_row, row_at, word_row}, Fiber.{Cuts, Fiber, Looks, Move_case}}
+use Rattle.fiber_frames.specs.Fiber.{Reduces, Rests, active_of, ask_in, ask_of, case_in, case_under, is_silent, is_waited, kind_in, kind_of, move_case, row_of}
+use Rattle.fiber_frames.specs.{Fiber.waits_alone, Unmarked.{all_renumbered, masks_of, placed_in, renumbered, run_renumbered, unmarked}, Uses.{Scope, all_open}}
+use Rattle.fiber_frames.specs.{Uses.{all_uses, handle_count, is_some, making, of_use, tree_uses, under as bound_under, used_place, uses_in}, Reached.Reached}
+use Rattle.fiber_frames.proofs.{Freshness.reached_fresh, Marks.Runs.live_run, Reaching.reached_kept, Renumbering.kind_renumbered, Unmarking.ask_unmarked}
+use Rattle.fiber_frames.proofs.{Unmarking.unmarked_kind, Walk.{End, Gives, Throws, Works, end_of, root_row, row_root, under, walk}}
+use Rattle.cell_registry.specs.{declared.{cell.Cell.Cell, call.Call.Call}, Cells.{Cells, cell_of, without_counts, without_waits}, Words.has_ended}
+use Rattle.scheduled_core.specs.{declared.wish.Wish.{Wish, TheVariants.{Alone, Nothing, Shared}}, Core.{World, wish_of}}
+use Rattle.every_schedule.specs.{Places.wants, Reduced.{has_come_to_end, has_own, is_another, is_completed, is_kept, is_left_alone, is_own, is_own_call, keeps}}
+use Rattle.every_schedule.specs.Reduced.{next_of, others, rests}
+use Rattle.every_outcome.{specs.{Places.unmarked_world, Private.Reduced.owns_next}, proofs.{Cells.{plain, plain_cell, plain_is}, Stepping.get_unmarked}}
+use Rattle.derived_ops.specs.Naming as naming
+use Rattle.derived_ops.specs.Tree as tree
 use Rattle.effect_term.specs.declared.reply.Reply.TheVariants as reply
-use Rattle.fiber_frames.specs.declared.ask.Ask.{Ask}
 use Rattle.fiber_frames.specs.declared.ask.Ask.TheVariants as ask
-use Rattle.fiber_frames.specs.declared.ask.Look.{Look}
-use Rattle.fiber_frames.specs.declared.ask.Look.TheVariants.{Clear, Due, Seen}
-use Rattle.fiber_frames.specs.declared.uses.Use.{Use}
-use Rattle.fiber_frames.specs.declared.uses.Use.TheVariants.{Awaits, Cancels, Completes, Gets, Joins, Starts, Stores}
-use Rattle.fiber_frames.specs.Path.{At_final, At_term, Broken, Final, In_guarded, In_handle, In_let, In_masked, In_polled, In_seq, Over, PathStep, Root, Running, Runs}
-use Rattle.fiber_frames.specs.Path.{focus, is_effective, masks_at_root, masks_in}
-use Rattle.fiber_frames.specs.Rows.{Born, Ceded, Ended, Plain, Row, RowKind, Waited, action_row, row_at, word_row}
-use Rattle.fiber_frames.specs.Fiber.{Cuts, Fiber, Looks, Move_case, Reduces, Rests, active_of, ask_in, ask_of, case_in, case_under, is_silent, is_waited, kind_in, kind_of, move_case}
-use Rattle.fiber_frames.specs.Fiber.{row_of, waits_alone}
-use Rattle.fiber_frames.specs.Unmarked.{all_renumbered, masks_of, placed_in, renumbered, run_renumbered, unmarked}
-use Rattle.fiber_frames.specs.Uses.{Scope, all_open, all_uses, handle_count, is_some, making, of_use, tree_uses, under as bound_under, used_place, uses_in}
-use Rattle.fiber_frames.specs.Reached.{Reached}
-use Rattle.fiber_frames.proofs.Freshness.{reached_fresh}
-use Rattle.fiber_frames.proofs.Marks.Runs.{live_run}
-use Rattle.fiber_frames.proofs.Reaching.{reached_kept}
-use Rattle.fiber_frames.proofs.Renumbering.{kind_renumbered}
-use Rattle.fiber_frames.proofs.Unmarking.{ask_unmarked, unmarked_kind}
-use Rattle.fiber_frames.proofs.Walk.{End, Gives, Throws, Works, end_of, root_row, row_root, under, walk}
-use Rattle.cell_registry.specs.declared.cell.Cell.{Cell}
-use Rattle.cell_registry.specs.declared.call.Call.{Call}
 use Rattle.cell_registry.specs.declared.call.Call.TheVariants as call
-use Rattle.cell_registry.specs.Cells.{Cells, cell_of, without_counts, without_waits}
-use Rattle.cell_registry.specs.Words.{has_ended}
-use Rattle.scheduled_core.specs.declared.wish.Wish.{Wish}
-use Rattle.scheduled_core.specs.declared.wish.Wish.TheVariants.{Alone, Nothing, Shared}
-use Rattle.scheduled_core.specs.Core.{World, wish_of}
-use Rattle.every_schedule.specs.Places.{wants}
-use Rattle.every_schedule.specs.Reduced.{has_come_to_end, has_own, is_another, is_completed, is_kept, is_left_alone, is_own, is_own_call, keeps, next_of, others, rests}
-use Rattle.every_outcome.specs.Places.{unmarked_world}
-use Rattle.every_outcome.specs.Private.Reduced.{owns_next}
-use Rattle.every_outcome.proofs.Cells.{plain, plain_cell, plain_is}
-use Rattle.every_outcome.proofs.Stepping.{get_unmarked}
 
 -- ---- what a fiber can still use
 module _ (u : Use) (n i : ℕ) (to : ℕ → ℕ → Mask) where
@@ -48,11 +30,6 @@ module _ (u : Use) (n i : ℕ) (to : ℕ → ℕ → Mask) where
   plus a b = a + b
 
   tree_same : (b : Scope) (t : Tree) → tree_uses u n b (renumbered i to t) ≡ tree_uses u n b t
-  tree_same b (Pure v) = refl
-  tree_same b (Raise v) = refl
-  tree_same b (Act a) = refl
-  tree_same b (Note h q) = refl
-  tree_same b (Cancel f) = refl
   tree_same b (Let e x k) = ap₂ plus (tree_same b e) (tree_same b k)
   tree_same b (Seq w e k) = ap₂ plus (tree_same b e) (tree_same b k)
   tree_same b (Handled e x h) = ap₂ plus (tree_same b e) (tree_same b h)
@@ -70,6 +47,7 @@ module _ (u : Use) (n i : ℕ) (to : ℕ → ℕ → Mask) where
   tree_same b (Masked m e) = tree_same b e
   tree_same b (Polled q e) = tree_same b e
   tree_same b (Guarded e fin) = ap₂ plus (tree_same b e) (tree_same b fin)
+  tree_same b _ = refl
 
   all_same : (gs : List Tree) → all_uses u n (all_renumbered i to gs) ≡ all_uses u n gs
   all_same [] = refl
@@ -121,17 +99,7 @@ module _ (i n : ℕ) (r : Reply) where
 
   act_wants : (a : Action) → Wants (action_row i n r a).call
   act_wants (tree.Add v w) = refl
-  act_wants (tree.Say v) = refl
-  act_wants tree.Cede = refl
-  act_wants tree.Never = refl
-  act_wants tree.Canceled = refl
-  act_wants (tree.Request f) = refl
-  act_wants (tree.Ending f) = refl
-  act_wants (tree.Get x) = refl
-  act_wants (tree.Set x v) = refl
-  act_wants (tree.Modify x v) = refl
-  act_wants (tree.Complete d v) = refl
-  act_wants (tree.Await d) = refl
+  act_wants _ = refl
 
   make_wants : (m : Maker) (x : ℕ) (k : Tree) (up : List Mask) → Wants (word_row i n r up (Make m x k)).call
   make_wants (New_ref v) x k up = refl
@@ -159,16 +127,7 @@ module _ (i n : ℕ) (r : Reply) where
   walk_wants (Act a) up = act_wants a
   walk_wants (Make m x k) up = make_wants m x k up
   walk_wants (Poll q e) up = switched (is_effective q up) ask.Unmask refl
-  walk_wants (Pure v) up = refl
-  walk_wants (Raise v) up = refl
-  walk_wants (Note h q) up = refl
-  walk_wants (Cancel f) up = refl
-  walk_wants (If0 v s e) up = refl
-  walk_wants (Join f x s y e c) up = refl
-  walk_wants (Start x e k) up = refl
-  walk_wants (Loop t e) up = refl
-  walk_wants (Uncancelable x e) up = refl
-  walk_wants (On_cancel e fin) up = refl
+  walk_wants _ up = refl
 
   root_wants : (b : Root) (E : End) (w : Row Tree) → Wants w.call → Wants (root_row i n b E w).call
   root_wants b Works w h = h
@@ -182,10 +141,8 @@ module _ (i n : ℕ) (r : Reply) where
 
   row_wants : (w : Running) → wants (wish_of (row_at i n r (focus w) w).call) ≡ goes_on w
   row_wants (Runs t) = ap (λ (x : Row Running). wants (wish_of x.call)) (row_root i n r At_term t) ∙ at_root At_term t
-  row_wants (Final m []) = refl
   row_wants (Final m (t ∷ gs)) = ap (λ (x : Row Running). wants (wish_of x.call)) (row_root i n r (At_final m gs) t) ∙ at_root (At_final m gs) t
-  row_wants (Over o) = refl
-  row_wants Broken = refl
+  row_wants _ = refl
 
 -- a fiber that doesn't rest goes on
 goes : (w : Running) (up : List Mask) (l : Look) (c : Move_case) → case_in w up l ≡ c → (c ≡ Rests → ⊥) → goes_on w ≡ true
@@ -205,9 +162,7 @@ moves g = go (move_case g) refl
 
 goes_renumbered : (i : ℕ) (to : ℕ → ℕ → Mask) (w : Running) → goes_on (run_renumbered i to w) ≡ goes_on w
 goes_renumbered i to (Runs t) = refl
-goes_renumbered i to (Final m gs) = refl
-goes_renumbered i to (Over o) = refl
-goes_renumbered i to Broken = refl
+goes_renumbered i to _ = refl
 
 goes_unmarked : (g : Fiber) → goes_on (unmarked g).running ≡ goes_on g.running
 unfolding unmarked
@@ -236,9 +191,7 @@ another_unmarked f b = ap (λ (m : ℕ). not (nat_eq m f)) (number_unmarked b)
 
 next_unmarked : (s : Cells) (k : naming.Place) → next_of k (without_counts (without_waits s)) ≡ next_of k s
 next_unmarked s naming.A_fiber = refl
-next_unmarked s naming.A_ref = refl
-next_unmarked s naming.A_deferred = refl
-next_unmarked s naming.No_handle = refl
+next_unmarked s _ = refl
 
 cell_unmarked : (s : Cells) (i : ℕ) → cell_of (without_counts (without_waits s)) i ≡ plain (cell_of s i)
 cell_unmarked s i = ap (λ (x : Cells). cell_of x i) (plain_is s) ∙ plain_cell s i
@@ -312,10 +265,7 @@ alone_kind g e = go (move_case g) refl
 
 waited_to : (r : Tree → Tree) (k : RowKind) → is_waited (kind_renumbered r k) ≡ is_waited k
 waited_to r (Born t) = refl
-waited_to r Plain = refl
-waited_to r Waited = refl
-waited_to r Ceded = refl
-waited_to r (Ended o) = refl
+waited_to r _ = refl
 
 module _ (g : Fiber) (h : Reached g) where
   waits_unmarked : wish_of (ask_of g) ≡ Alone → waits_alone (unmarked g) ≡ waits_alone g

@@ -1,30 +1,22 @@
 -- A schedule leads from a world of the core where it leads from the same world without marks, counts and notes.
-use Rattle.std.proofs.Common.{◌≡◌, ◌⊎◌, inl, inr, ◌<◌, ◌≤◌, ℕ, zero, suc, ◌+◌, List, [], ◌∷◌, ◌++◌, length, set, Option, Some, None, Result, Ok, Err, refl, sym, ap, ◌∙◌, subst, arith, get_or, replicate, length-append}
-use Rattle.std.specs.List.{fold, slice_get}
-use Rattle.std.proofs.lemmas.Option.{same_Some, slice_get_within}
+use Rattle.std.proofs.Common.{◌≡◌, ◌⊎◌, inl, inr, ◌<◌, ◌≤◌, ℕ, zero, suc, ◌+◌, List, [], ◌∷◌, ◌++◌, length, set, Option, Some, None, Result, Ok, Err, refl, sym}
+use Rattle.std.{proofs.{Common.{ap, ◌∙◌, subst, arith, get_or, replicate, length-append}, lemmas.Option.{same_Some, slice_get_within}}, specs.List.fold}
+use Rattle.std.specs.List.{slice_get}
 use Rattle.derived_ops.specs.Tree.{Tree}
 use Rattle.effect_term.specs.declared.reply.Reply.{Reply}
-use Rattle.effect_term.specs.declared.reply.Reply.TheVariants as reply
 use Rattle.fiber_frames.specs.Fiber.{Cuts, Fiber, Looks, Move_case, Reduces, Rests, ask_of, begins, child, move, move_case, move_in, silent_move}
-use Rattle.fiber_frames.specs.Reached.{Reached}
+use Rattle.fiber_frames.specs.{Reached.Reached, Rows.number_in}
+use Rattle.cell_registry.specs.{declared.{limits.{Limits.Limits, CellError.CellError, RunError.RunError}, call.Call.Call}, Cells.{after, cell_of, fresh}}
+use Rattle.cell_registry.specs.Cells.{refusal, reply_of}
+use Rattle.scheduled_core.specs.{declared.wish.Wish.{Wish, TheVariants.{Shared, Alone, Nothing}}, Core.{World, answered, born, called, core, entered}}
+use Rattle.scheduled_core.{specs.Core.{first_world, turned, wish_of, wished}, proofs.Lists.parted}
+use Rattle.every_outcome.{specs.{Outcomes.counted, Places.{Place, first_place, stepped, unmarked_world}}, proofs.{Cells.{AtMost, count_after}, Stepping.Same}}
+use Rattle.every_outcome.proofs.Stepping.{step_same}
+use Rattle.effect_term.specs.declared.reply.Reply.TheVariants as reply
 use Rattle.fiber_frames.specs.Reached as steps
-use Rattle.fiber_frames.specs.Rows.{number_in}
-use Rattle.cell_registry.specs.declared.limits.Limits.{Limits}
-use Rattle.cell_registry.specs.declared.limits.CellError.{CellError}
-use Rattle.cell_registry.specs.declared.limits.RunError.{RunError}
 use Rattle.cell_registry.specs.declared.limits.RunError.TheVariants as run
-use Rattle.cell_registry.specs.declared.call.Call.{Call}
 use Rattle.cell_registry.specs.declared.call.Call.TheVariants as call
-use Rattle.cell_registry.specs.Cells.{after, cell_of, fresh, refusal, reply_of}
-use Rattle.scheduled_core.specs.declared.wish.Wish.{Wish}
-use Rattle.scheduled_core.specs.declared.wish.Wish.TheVariants.{Shared, Alone, Nothing}
-use Rattle.scheduled_core.specs.Core.{World, answered, born, called, core, entered, first_world, turned, wish_of, wished}
-use Rattle.scheduled_core.proofs.Lists.{parted}
 use Rattle.world_search.specs.Systems as search
-use Rattle.every_outcome.specs.Outcomes.{counted}
-use Rattle.every_outcome.specs.Places.{Place, first_place, stepped, unmarked_world}
-use Rattle.every_outcome.proofs.Cells.{AtMost, count_after}
-use Rattle.every_outcome.proofs.Stepping.{Same, step_same}
 
 -- each fiber is reached and has its own number, and the registry has given one number for each fiber
 pub record Lawful (w : World) : Type 0 where
@@ -99,20 +91,7 @@ module _ (w : World) (f : ℕ) (g : Fiber) (h : Lawful w) (at : slice_get w.fibe
             subst Reached one.1 (child_fiber (number_in r) n),
             ap (λ (y : Fiber). y.number) (sym one.1) ∙ omega (arith, n, is, first),
           )
-      new_fiber (call.Cancel k) gives j is e = absurd (cc)
-      new_fiber (call.Join k) gives j is e = absurd (cc)
-      new_fiber call.Look gives j is e = absurd (cc)
-      new_fiber call.Mask gives j is e = absurd (cc)
-      new_fiber call.Unmask gives j is e = absurd (cc)
-      new_fiber call.Cut gives j is e = absurd (cc)
-      new_fiber (call.Finish o) gives j is e = absurd (cc)
-      new_fiber call.NewRef gives j is e = absurd (cc)
-      new_fiber call.NewDeferred gives j is e = absurd (cc)
-      new_fiber (call.Get k) gives j is e = absurd (cc)
-      new_fiber (call.Set k v) gives j is e = absurd (cc)
-      new_fiber (call.Modify k v) gives j is e = absurd (cc)
-      new_fiber (call.Complete k v) gives j is e = absurd (cc)
-      new_fiber (call.Read k) gives j is e = absurd (cc)
+      new_fiber _ gives j is e = absurd (cc)
 
   none_more : (r : Reply) → length (set w.fibers f (move g r) ++ []) ≡ w.cells.next_fiber
   none_more r = length-append (set w.fibers f (move g r)) [] ∙ ap (λ n. n + 0) (length_set w.fibers f (move g r)) ∙ omega (arith, h.many)
@@ -121,38 +100,12 @@ module _ (w : World) (f : ℕ) (g : Fiber) (h : Lawful w) (at : slice_get w.fibe
   many_born : (c : Call) (r : Reply) → length (set w.fibers f (move g r) ++ born g c r) ≡ (after w.cells f c).next_fiber
   unfolding after
   many_born call.Start r = length-append (set w.fibers f (move g r)) (child g (number_in r) ∷ []) ∙ ap (λ n. n + 1) (length_set w.fibers f (move g r) ∙ h.many)
-  many_born (call.Cancel k) r = none_more r
-  many_born (call.Join k) r = none_more r
-  many_born call.Look r = none_more r
-  many_born call.Mask r = none_more r
-  many_born call.Unmask r = none_more r
-  many_born call.Cut r = none_more r
-  many_born (call.Finish o) r = none_more r
-  many_born call.NewRef r = none_more r
-  many_born call.NewDeferred r = none_more r
-  many_born (call.Get k) r = none_more r
-  many_born (call.Set k v) r = none_more r
-  many_born (call.Modify k v) r = none_more r
-  many_born (call.Complete k v) r = none_more r
-  many_born (call.Read k) r = none_more r
+  many_born _ r = none_more r
 
   start_gives : (c : Call) → c ≡ call.Start → number_in (reply_of w.cells f c) ≡ length w.fibers
   unfolding reply_of
   start_gives call.Start e = sym h.many
-  start_gives (call.Cancel k) e = absurd (cc)
-  start_gives (call.Join k) e = absurd (cc)
-  start_gives call.Look e = absurd (cc)
-  start_gives call.Mask e = absurd (cc)
-  start_gives call.Unmask e = absurd (cc)
-  start_gives call.Cut e = absurd (cc)
-  start_gives (call.Finish o) e = absurd (cc)
-  start_gives call.NewRef e = absurd (cc)
-  start_gives call.NewDeferred e = absurd (cc)
-  start_gives (call.Get k) e = absurd (cc)
-  start_gives (call.Set k v) e = absurd (cc)
-  start_gives (call.Modify k v) e = absurd (cc)
-  start_gives (call.Complete k v) e = absurd (cc)
-  start_gives (call.Read k) e = absurd (cc)
+  start_gives _ e = absurd (cc)
 
   lawful_called : (c : Call) → Lawful (called w f g c (reply_of w.cells f c))
   lawful_called c = record {
@@ -162,7 +115,7 @@ module _ (w : World) (f : ℕ) (g : Fiber) (h : Lawful w) (at : slice_get w.fibe
   }
 
 -- a property of the world that an entry leads to, if it leads to one
-abbrev IfWorld : (World → Type 0) → Result World RunError → Type 0
+abbrev pub IfWorld : (World → Type 0) → Result World RunError → Type 0
 IfWorld P (Ok v) = P v
 IfWorld P (Err e) = Unit {0}
 
@@ -216,7 +169,7 @@ module _ (k : Limits) (n : ℕ) (some : 0 < k.count) where
   fault_stays e [] = refl
   fault_stays e (f ∷ s) = fault_stays e s
 
-  core_stays : (e : RunError) (s : List ℕ) → fold (entered (counted k n)) (Err e) s ≡ Err e
+  pub core_stays : (e : RunError) (s : List ℕ) → fold (entered (counted k n)) (Err e) s ≡ Err e
   core_stays e [] = refl
   core_stays e (f ∷ s) = core_stays e s
 
@@ -237,10 +190,7 @@ module _ (k : Limits) (n : ℕ) (some : 0 < k.count) where
   same_led : (w : World) (f : ℕ) (x : Result World RunError) (y : Result Place RunError) → Same k n some w f x y → Led x y
   same_led w f (Ok v) y h = h
   same_led w f (Err (run.Full b m)) y h = h
-  same_led w f (Err (run.Spent g)) y h = tt
-  same_led w f (Err run.NoMemory) y h = tt
-  same_led w f (Err (run.Lost g)) y h = tt
-  same_led w f (Err run.NoWorker) y h = tt
+  same_led w f _ y h = tt
 
   led_next : (s : List ℕ) → ((w : World) → Lawful w → Led (fold (entered (counted k n)) (Ok w) s) (search.run stepped (Ok (bare_place w)) s)) →
       (x : Result World RunError) (y : Result Place RunError) → IfWorld Lawful x → Led x y → Led (fold (entered (counted k n)) x s) (search.run stepped y s)
@@ -262,18 +212,13 @@ module _ (k : Limits) (n : ℕ) (some : 0 < k.count) where
   fully_stopped : (e : RunError) (s : List ℕ) (y : Result Place RunError) → Fully (Err e) y → Fully (fold (entered (counted k n)) (Err e) s) (search.run stepped y s)
   fully_stopped (run.Full b m) s y h =
       subst (λ x. Fully x (search.run stepped y s)) (sym (core_stays (run.Full b m) s)) (ap (λ x. search.run stepped x s) h ∙ fault_stays (run.Full b m) s)
-  fully_stopped run.NoMemory s y h = absurd h
-  fully_stopped (run.Spent g) s y h = absurd h
-  fully_stopped (run.Lost g) s y h = absurd h
-  fully_stopped run.NoWorker s y h = absurd h
+  fully_stopped _ s y h = absurd h
 
   same_fully : (w : World) (f : ℕ) (x : Result World RunError) (y : Result Place RunError) → (cell_of w.cells f).count < n → Same k n some w f x y → Fully x y
   same_fully w f (Ok v) y l h = h
   same_fully w f (Err (run.Full b m)) y l h = h
   same_fully w f (Err (run.Spent g)) y l h = absurd (omega (arith, l, h))
-  same_fully w f (Err run.NoMemory) y l h = absurd h
-  same_fully w f (Err (run.Lost g)) y l h = absurd h
-  same_fully w f (Err run.NoWorker) y l h = absurd h
+  same_fully w f _ y l h = absurd h
 
   fully_next : (s : List ℕ) (m : ℕ) → ((w : World) → Lawful w → AtMost m w.cells → Fully (fold (entered (counted k n)) (Ok w) s) (search.run stepped (Ok (bare_place w)) s)) →
       (x : Result World RunError) (y : Result Place RunError) → IfWorld Lawful x → IfWorld (λ v. AtMost m v.cells) x → Fully x y →
@@ -291,7 +236,7 @@ module _ (k : Limits) (n : ℕ) (some : 0 < k.count) where
       (same_fully w f (entered (counted k n) (Ok w) f) (stepped (bare_place w) f) (omega arith) (step_same k n some w f (λ g e. h.reached f g e)))
 
 -- ---- the first world
-first_lawful : (code : Tree) (k : Limits) → Reached (begins 0 code) → Lawful (first_world code k)
+pub first_lawful : (code : Tree) (k : Limits) → Reached (begins 0 code) → Lawful (first_world code k)
 first_lawful code k h = record {
   reached = λ f g e. let one = one_alone (begins 0 code) g f e in subst Reached one.1 h;
   own = λ f g e. let one = one_alone (begins 0 code) g f e in ap (λ (y : Fiber). y.number) (sym one.1) ∙ sym one.0;

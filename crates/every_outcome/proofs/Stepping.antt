@@ -1,31 +1,19 @@
 -- An entry leads from a world where it leads from the same world without marks, counts and notes.
-use Rattle.std.proofs.Common.{◌≡◌, ◌<◌, ◌≤◌, ℕ, zero, suc, length, arith, List, [], ◌∷◌, ◌++◌, map, set, option_map, Option, Some, None, Result, Ok, Err, refl, sym, ap, ap₂, ◌∙◌, subst}
-use Rattle.std.specs.List.{slice_get}
-use Rattle.std.proofs.lemmas.List.{map-append, map-set}
-use Rattle.effect_term.specs.declared.reply.Outcome.{Outcome}
-use Rattle.effect_term.specs.declared.reply.Reply.{Reply}
-use Rattle.effect_term.specs.declared.reply.Reply.TheVariants as reply
-use Rattle.fiber_frames.specs.declared.ask.Ask.{Ask}
-use Rattle.fiber_frames.specs.Fiber.{Fiber, ask_of, child, move, outcome_of, silent_move}
-use Rattle.fiber_frames.specs.Reached.{Reached}
-use Rattle.fiber_frames.specs.Rows.{number_in}
-use Rattle.fiber_frames.specs.Unmarked.{unmarked}
-use Rattle.fiber_frames.proofs.Unmarking.{ask_unmarked, child_unmarked, move_unmarked, unmarked_outcome, unmarked_twice}
-use Rattle.cell_registry.specs.declared.limits.Limits.{Limits}
-use Rattle.cell_registry.specs.declared.limits.CellError.{CellError}
-use Rattle.cell_registry.specs.declared.limits.CellError.TheVariants as cell
-use Rattle.cell_registry.specs.declared.limits.RunError.{RunError}
-use Rattle.cell_registry.specs.declared.limits.RunError.TheVariants as run
-use Rattle.cell_registry.specs.declared.call.Call.{Call}
-use Rattle.cell_registry.specs.declared.call.Call.TheVariants as call
-use Rattle.cell_registry.specs.Cells.{Cells, after, cell_of, refusal, reply_of}
-use Rattle.scheduled_core.specs.declared.wish.Wish.{Wish}
-use Rattle.scheduled_core.specs.declared.wish.Wish.TheVariants.{Shared, Alone, Nothing}
-use Rattle.scheduled_core.specs.Core.{World, answered, born, called, entered, turned, wish_of, wished}
-use Rattle.every_outcome.specs.Outcomes.{counted}
-use Rattle.every_outcome.specs.Places.{Place, outcomes_at, stepped, unmarked_after, unmarked_world}
-use Rattle.every_outcome.specs.Private.Keeping.{IsFull}
+use Rattle.std.proofs.Common.{◌≡◌, ◌<◌, ◌≤◌, ℕ, zero, suc, length, arith, List, [], ◌∷◌, ◌++◌, map, set, option_map, Option, Some, None, Result, Ok, Err, refl}
+use Rattle.std.{proofs.{Common.{sym, ap, ap₂, ◌∙◌, subst}, lemmas.List.{map-append, map-set}}, specs.List.slice_get}
+use Rattle.effect_term.specs.declared.reply.{Outcome.Outcome, Reply.Reply}
+use Rattle.fiber_frames.specs.{declared.ask.Ask.Ask, Fiber.{Fiber, ask_of, child, move, outcome_of, silent_move}, Reached.Reached, Rows.number_in}
+use Rattle.fiber_frames.{specs.Unmarked.unmarked, proofs.Unmarking.{ask_unmarked, child_unmarked, move_unmarked, unmarked_outcome, unmarked_twice}}
+use Rattle.cell_registry.specs.{declared.{limits.{Limits.Limits, CellError.CellError, RunError.RunError}, call.Call.Call}, Cells.{Cells, after, cell_of}}
+use Rattle.cell_registry.specs.Cells.{refusal, reply_of}
+use Rattle.scheduled_core.specs.{declared.wish.Wish.{Wish, TheVariants.{Shared, Alone, Nothing}}, Core.{World, answered, born, called, entered, turned}}
+use Rattle.scheduled_core.specs.Core.{wish_of, wished}
+use Rattle.every_outcome.specs.{Outcomes.counted, Places.{Place, outcomes_at, stepped, unmarked_after, unmarked_world}, Private.Keeping.IsFull}
 use Rattle.every_outcome.proofs.Cells.{Refused, plain_after, plain_cells, plain_is, plain_refusal, plain_reply, plain_twice, uncounted_refusal}
+use Rattle.effect_term.specs.declared.reply.Reply.TheVariants as reply
+use Rattle.cell_registry.specs.declared.limits.CellError.TheVariants as cell
+use Rattle.cell_registry.specs.declared.limits.RunError.TheVariants as run
+use Rattle.cell_registry.specs.declared.call.Call.TheVariants as call
 
 -- ---- fibers
 abbrev unmark : List Fiber → List Fiber
@@ -201,10 +189,7 @@ module _ (k : Limits) (some : 0 < k.count) (w : World) (f : ℕ) (h : (g : Fiber
 
   pub step_full : (e : RunError) → IsFull e → entered k (Ok w) f ≡ Err e → stepped here f ≡ Err e
   step_full (run.Full b m) full e = subst (λ x. Same k k.count some w f x (stepped here f)) e here_same
-  step_full run.NoMemory full e = absurd full
-  step_full (run.Spent g) full e = absurd full
-  step_full (run.Lost g) full e = absurd full
-  step_full run.NoWorker full e = absurd full
+  step_full _ full e = absurd full
 
 -- an entry of a fiber that wasn't started changes nothing
 pub get_past : (gs : List Fiber) (f : ℕ) → length gs ≤ f → slice_get gs f ≡ None

@@ -1,39 +1,23 @@
 -- What a search promises of its answers holds of the answers that are listed.
-use Rattle.std.proofs.Common.{◌≡◌, ◌≢◌, inl, inr, ℕ, ◌+◌, ◌<◌, List, [], ◌∷◌, ◌++◌, length, map, refl, Option, Result, Ok, Err, sym, ap, ◌∙◌, subst, arith, get_or}
-use Rattle.std.specs.Prelude.{Some}
-use Rattle.std.specs.List.{All, fold, slice_get}
-use Rattle.std.proofs.lemmas.Option.{get_or_from_slice_get, same_Some, slice_get-get_or, slice_get_cases, slice_get_within}
-use Rattle.std.proofs.lemmas.List.Elements.{All-get_or}
+use Rattle.std.proofs.Common.{true, ◌≡◌, ◌≢◌, inl, inr, ℕ, ◌+◌, ◌<◌, List, [], ◌∷◌, ◌++◌, length, map, refl, Option, Result, Ok, Err, sym, ap, ◌∙◌, subst}
+use Rattle.std.proofs.{Common.{arith, get_or}, lemmas.Option.{get_or_from_slice_get, same_Some, slice_get-get_or, slice_get_cases, slice_get_within}}
+use Rattle.std.{proofs.lemmas.List.Elements.All-get_or, specs.{Prelude.Some, List.{All, fold, slice_get}}}
 use Rattle.effect_term.specs.declared.reply.Outcome.{Outcome}
 use Rattle.derived_ops.specs.Tree.{Tree}
-use Rattle.fiber_frames.specs.Fiber.{Fiber, begins, outcome_of}
-use Rattle.fiber_frames.specs.Reached.{Reached}
-use Rattle.cell_registry.specs.declared.limits.Limits.{Limits}
-use Rattle.cell_registry.specs.declared.limits.RunError.{RunError}
-use Rattle.cell_registry.specs.declared.limits.RunError.TheVariants as run
-use Rattle.scheduled_core.specs.declared.report.FiberReport.{FiberReport}
-use Rattle.scheduled_core.specs.declared.report.Report.{Report}
-use Rattle.scheduled_core.specs.Core.{World, core, entered, fiber_report, reported}
+use Rattle.fiber_frames.specs.{Fiber.{Fiber, begins, outcome_of}, Reached.Reached}
+use Rattle.cell_registry.specs.declared.limits.{Limits.Limits, RunError.RunError}
+use Rattle.scheduled_core.specs.{declared.report.{FiberReport.FiberReport, Report.Report}, Core.{World, core, entered, fiber_report, reported}}
 use Rattle.scheduled_core.specs.Finals.{IsSettled}
-use Rattle.world_search.specs.declared.answers.Answer.{Answer as Found}
-use Rattle.world_search.specs.declared.landings.Landing.{Landing}
+use Rattle.world_search.{specs.declared.{answers.Answer.Answer as Found, landings.Landing.Landing}, proofs.{Closed.run-append, Free.{covers, early, leads_up}}}
+use Rattle.every_outcome.specs.{declared.outcomes.OutcomeAnswer.OutcomeAnswer, Outcomes.{Agrees, IsCovered, IsListed, IsReached, KeepsOutcomes, ListOnce}}
+use Rattle.every_outcome.specs.{Outcomes.{counted, outcomes}, Places.{Kept, Place, first_place, outcomes_at, stepped}, Private.Keeping.AreSingle}
+use Rattle.every_outcome.{specs.Private.{Reduced.leapt, Telling.{AreTold, IsEnd, IsTold, IsWithin}}, proofs.{Stepping.outcomes_stay, Running.{Fully, Lawful}}}
+use Rattle.every_outcome.proofs.{Running.{Led, bare_place, core_fully, core_lawful, core_led, fully, led}, Cells.some_bound, Growing.{outcomes_grow, size}}
+use Rattle.every_outcome.proofs.Leaps.{MayFree, leaps, may_are_free}
+use Rattle.cell_registry.specs.declared.limits.RunError.TheVariants as run
 use Rattle.world_search.specs.declared.landings.Landing.TheVariants as to
 use Rattle.world_search.specs.Answers as search
 use Rattle.world_search.specs.Systems as systems
-use Rattle.world_search.proofs.Closed.{run-append}
-use Rattle.world_search.proofs.Free.{covers, early, leads_up}
-use Rattle.every_outcome.specs.declared.outcomes.OutcomeAnswer.{OutcomeAnswer}
-use Rattle.every_outcome.specs.Outcomes.{Agrees, IsCovered, IsListed, IsReached, KeepsOutcomes, ListOnce, counted, outcomes}
-use Rattle.every_outcome.specs.Places.{Kept, Place, first_place, outcomes_at, stepped}
-use Rattle.every_outcome.specs.Private.Keeping.{AreSingle}
-use Rattle.every_outcome.specs.Private.Reduced.{leapt}
-use Rattle.every_outcome.specs.Private.Telling.{AreTold, IsEnd, IsTold, IsWithin}
-use Rattle.every_outcome.proofs.Stepping.{outcomes_stay}
-use Rattle.every_outcome.proofs.Running.{Fully, Lawful, Led, bare_place, core_fully, core_lawful, core_led, fully, led}
-use Rattle.every_outcome.proofs.Cells.{some_bound}
-use Rattle.every_outcome.proofs.Commuting.{IsFree, own_are_free}
-use Rattle.every_outcome.proofs.Growing.{outcomes_grow, size}
-use Rattle.every_outcome.proofs.Leaps.{leaps}
 
 pub all_at : {A : Type 0} (P : A → Type 0) (xs : List A) (i : ℕ) (x : A) → slice_get xs i ≡ Some x → All P xs → P x
 all_at P xs i x e h = subst P (get_or_from_slice_get xs i x x e) (All-get_or P xs i x (slice_get_within xs i x e) h)
@@ -48,14 +32,14 @@ at_within xs i h = elim ((slice_get_cases xs i).1) [
 ]
 
 -- the end of a right answer of a search is a world or fault of the store
-within : (kept : Kept) (first : Place) (s : List ℕ) (l : Landing) → search.LeadsTo leapt outcomes_at kept.places kept.faults first s l → IsWithin kept l
+within : (kept : Kept) (first : Place) (s : List ℕ) (l : Landing) → search.LeadsTo (leapt true) outcomes_at kept.places kept.faults first s l → IsWithin kept l
 within kept first s (to.World j) h = slice_get_within kept.places j h.0 h.1
 within kept first s (to.Fault j) h = slice_get_within kept.faults j h.0 h.1
 
-pub all_within : (kept : Kept) (first : Place) (found : List Found) → All (search.IsRight leapt outcomes_at kept.places kept.faults first) found →
+pub all_within : (kept : Kept) (first : Place) (found : List Found) → All (search.IsRight (leapt true) outcomes_at kept.places kept.faults first) found →
     All (λ a. IsWithin kept a.end) found
 all_within kept first found right = all_from (λ a. IsWithin kept a.end) found (λ i f e.
-    within kept first f.schedule.items f.end (all_at (search.IsRight leapt outcomes_at kept.places kept.faults first) found i f e right))
+    within kept first f.schedule.items f.end (all_at (search.IsRight (leapt true) outcomes_at kept.places kept.faults first) found i f e right))
 
 -- ---- ends that are apart are listed differently
 same_ok : (r s : List (Option Outcome)) → (let x : Result (List (Option Outcome)) RunError = Ok r in x) ≡ Ok s → r ≡ s
@@ -110,10 +94,7 @@ module _ (k : Limits) (n : ℕ) (some : 0 < k.count) where
       ap (systems.reported stepped outcomes_at) h
       ∙ ap Ok (outcomes_stay k v) ∙ e ∙ ap Ok (sym (outcomes_stay k w))
   kept_at w (Err (run.Full b m)) y h e = absurd (cc)
-  kept_at w (Err run.NoMemory) y h e = absurd h
-  kept_at w (Err (run.Spent g)) y h e = absurd h
-  kept_at w (Err (run.Lost g)) y h e = absurd h
-  kept_at w (Err run.NoWorker) y h e = absurd h
+  kept_at w _ y h e = absurd h
 
 keeps : (k : Limits) (n : ℕ) (some : 0 < k.count) (w : World) → Lawful w → KeepsOutcomes k w → systems.IsSettled stepped outcomes_at (bare_place k n some w)
 keeps k n some w law h = λ s.
@@ -166,16 +147,18 @@ module _ (kept : Kept) (start : Place) (found : List Found) (answers : List Outc
 
 -- answers that cover the search cover all single entries
 every_entry : (kept : Kept) (start : Place) (found : List Found) →
-    ((t : List ℕ) → search.IsCovered leapt outcomes_at kept.places kept.faults found (systems.run leapt (Ok start) t)) →
+    ((t : List ℕ) → search.IsCovered (leapt true) outcomes_at kept.places kept.faults found (systems.run (leapt true) (Ok start) t)) →
     (s : List ℕ) → search.IsCovered stepped outcomes_at kept.places kept.faults found (systems.run stepped (Ok start) s)
 every_entry kept start found =
-    covers stepped IsFree (early stepped IsFree own_are_free) leapt leaps outcomes_at size outcomes_grow kept.places kept.faults found start
+    covers stepped (MayFree true) (early stepped (MayFree true) (may_are_free true)) (leapt true) (leaps true)
+    outcomes_at size outcomes_grow kept.places kept.faults found start
 
 -- the schedule of an answer, entry by entry
-each_entry : (kept : Kept) (start : Place) (s t : List ℕ) (l : Landing) → systems.run stepped (Ok start) s ≡ systems.run leapt (Ok start) t →
-    search.LeadsTo leapt outcomes_at kept.places kept.faults start t l → search.LeadsTo stepped outcomes_at kept.places kept.faults start s l
+each_entry : (kept : Kept) (start : Place) (s t : List ℕ) (l : Landing) → systems.run stepped (Ok start) s ≡ systems.run (leapt true) (Ok start) t →
+    search.LeadsTo (leapt true) outcomes_at kept.places kept.faults start t l → search.LeadsTo stepped outcomes_at kept.places kept.faults start s l
 each_entry kept start s t l =
-    leads_up stepped IsFree (early stepped IsFree own_are_free) leapt leaps outcomes_at size outcomes_grow kept.places kept.faults start s t l
+    leads_up stepped (MayFree true) (early stepped (MayFree true) (may_are_free true)) (leapt true) (leaps true)
+    outcomes_at size outcomes_grow kept.places kept.faults start s t l
 
 module _ (kept : Kept) (code : Tree) (k : Limits) (found : List Found) (answers : List OutcomeAnswer)
     (told : AreTold kept (first_place code k) found answers) where
@@ -190,7 +173,7 @@ module _ (kept : Kept) (code : Tree) (k : Limits) (found : List Found) (answers 
     Covers y = search.IsCovered stepped outcomes_at kept.places kept.faults found y
 
     abbrev AllCovered : Type 0
-    AllCovered = (t : List ℕ) → search.IsCovered leapt outcomes_at kept.places kept.faults found (systems.run leapt (Ok start) t)
+    AllCovered = (t : List ℕ) → search.IsCovered (leapt true) outcomes_at kept.places kept.faults found (systems.run (leapt true) (Ok start) t)
 
     -- outcomes that stay are listed
     listed_at : (n : ℕ) (w : World) (y : Result Place RunError) → y ≡ Ok (bare_place k n some w) → Covers y →
@@ -204,10 +187,7 @@ module _ (kept : Kept) (code : Tree) (k : Limits) (found : List Found) (answers 
         Covers y → IsCovered k answers x
     covered_at n (Ok w) y h law c = λ stays. listed_at n w y h c (keeps k n some w (law w refl) stays)
     covered_at n (Err (run.Full b m)) y h law c = tells (Err (run.Full b m)) (subst Covers h c)
-    covered_at n (Err run.NoMemory) y h law c = tt
-    covered_at n (Err (run.Spent g)) y h law c = tt
-    covered_at n (Err (run.Lost g)) y h law c = tt
-    covered_at n (Err run.NoWorker) y h law c = tt
+    covered_at n _ y h law c = tt
 
     pub covered : (n : ℕ) (s : List ℕ) → AllCovered → IsCovered k answers (core code (counted k n) s)
     covered n s c =
@@ -233,10 +213,7 @@ module _ (kept : Kept) (code : Tree) (k : Limits) (found : List Found) (answers 
         let here : h.0 ≡ run.Full b m = (let q : Err h.0 ≡ Err (run.Full b m) = sym h.2 ∙ f in cc) in
         let same : e.0 ≡ h.0 = same_Some e.0 h.0 (sym e.1 ∙ h.1) in
         ap Err (sym (same ∙ here)) ∙ sym e.2
-    leads_at n s l end h e (Err run.NoMemory) f = absurd f
-    leads_at n s l end h e (Err (run.Spent g)) f = absurd f
-    leads_at n s l end h e (Err (run.Lost g)) f = absurd f
-    leads_at n s l end h e (Err run.NoWorker) f = absurd f
+    leads_at n s l end h e _ f = absurd f
 
     -- further entries keep a fault
     fault_stays : (e : RunError) (t : List ℕ) → systems.run stepped (Err e) t ≡ Err e
@@ -264,17 +241,14 @@ module _ (kept : Kept) (code : Tree) (k : Limits) (found : List Found) (answers 
         let here : h.0 ≡ run.Full b m = (let q : Err h.0 ≡ Err (run.Full b m) = sym (on_fault s more h.0 h.2) ∙ f in cc) in
         let same : e.0 ≡ h.0 = same_Some e.0 h.0 (sym e.1 ∙ h.1) in
         ap Err (sym (same ∙ here)) ∙ sym e.2
-    stays_at n s more l end h e (Err run.NoMemory) f = tt
-    stays_at n s more l end h e (Err (run.Spent g)) f = tt
-    stays_at n s more l end h e (Err (run.Lost g)) f = tt
-    stays_at n s more l end h e (Err run.NoWorker) f = tt
+    stays_at n s more l end h e _ f = tt
 
-    pub reached : All (search.IsRight leapt outcomes_at kept.places kept.faults start) found → All (IsReached code k) answers
+    pub reached : All (search.IsRight (leapt true) outcomes_at kept.places kept.faults start) found → All (IsReached code k) answers
     reached right = all_from (IsReached code k) answers (λ i a e.
         let it = found_at kept start found answers told i a e in
         let s = a.schedule in
         let h = each_entry kept start s it.0.schedule.items it.0.end it.2.schedule.leads
-        (all_at (search.IsRight leapt outcomes_at kept.places kept.faults start) found i it.0 it.1 right) in
+        (all_at (search.IsRight (leapt true) outcomes_at kept.places kept.faults start) found i it.0 it.1 right) in
         record {
           leads = λ n l. leads_at n s it.0.end a.end h it.2.ends (core code (counted k n) s) (core_fully code k some first n s l);
           stays = λ n more. stays_at n s more it.0.end a.end h it.2.ends (core code (counted k n) (s ++ more)) (core_led code k some first n (s ++ more));
@@ -284,10 +258,7 @@ module _ (kept : Kept) (code : Tree) (k : Limits) (found : List Found) (answers 
 pub covered_under : (k : Limits) (n : ℕ) (answers : List OutcomeAnswer) (x : Result World RunError) → IsCovered (counted k n) answers x → IsCovered k answers x
 covered_under k n answers (Ok w) h = h
 covered_under k n answers (Err (run.Full b m)) h = h
-covered_under k n answers (Err run.NoMemory) h = tt
-covered_under k n answers (Err (run.Spent g)) h = tt
-covered_under k n answers (Err (run.Lost g)) h = tt
-covered_under k n answers (Err run.NoWorker) h = tt
+covered_under k n answers _ h = tt
 
 reached_under : (code : Tree) (k : Limits) (n : ℕ) (a : OutcomeAnswer) → IsReached code (counted k n) a → IsReached code k a
 reached_under code k n a h = record { leads = h.leads; stays = h.stays }

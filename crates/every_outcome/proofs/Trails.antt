@@ -1,14 +1,11 @@
 -- Trails that are extended.
-use Rattle.std.proofs.Common.{◌≡◌, ◌⊎◌, inl, inr, ℕ, ◌<◌, List, [], ◌∷◌, ◌++◌, Result, Ok, refl, sym, ap, ◌∙◌, subst, arith, append-nil, append_assoc}
+use Rattle.std.proofs.Common.{◌≡◌, ◌⊎◌, inl, inr, ℕ, ◌<◌, Bool, List, [], ◌∷◌, ◌++◌, Result, Ok, refl, sym, ap, ◌∙◌, subst, arith, append-nil, append_assoc}
 use Rattle.std.specs.List.{All}
 use Rattle.std.proofs.lemmas.List.Elements.{All-push}
 use Rattle.cell_registry.specs.declared.limits.RunError.{RunError}
 use Rattle.scheduled_core.proofs.Lists.{parted}
-use Rattle.world_search.specs.Systems.{run}
-use Rattle.world_search.proofs.Closed.{run-append}
-use Rattle.every_outcome.specs.Places.{Place, stepped}
-use Rattle.every_outcome.specs.Private.Reduced.{IsTrail, IsUnfolded, leapt}
-use Rattle.every_outcome.proofs.Told.{all_at, all_from}
+use Rattle.world_search.{specs.Systems.run, proofs.Closed.run-append}
+use Rattle.every_outcome.{specs.{Places.{Place, stepped}, Private.Reduced.{IsTrail, IsUnfolded, leapt}}, proofs.Told.{all_at, all_from}}
 
 abbrev AreFew : List ℕ → Type 0
 AreFew fs = All (λ f. f < 1000) fs
@@ -37,9 +34,9 @@ trail_more old mid new p q y a b = record {
 }
 
 -- the whole trail
-pub trail_whole : (first : Place) (schedule new : List ℕ) (y : Result Place RunError) → IsTrail [] new first y →
-    run leapt (Ok first) schedule ≡ y → IsUnfolded first schedule new
-trail_whole first schedule new y t e = subst (IsUnfolded first schedule) (sym t.is) (record { leads = t.leads ∙ sym e; few = t.few })
+pub trail_whole : (stores : Bool) (first : Place) (schedule new : List ℕ) (y : Result Place RunError) → IsTrail [] new first y →
+    run (leapt stores) (Ok first) schedule ≡ y → IsUnfolded stores first schedule new
+trail_whole stores first schedule new y t e = subst (IsUnfolded stores first schedule) (sym t.is) (record { leads = t.leads ∙ sym e; few = t.few })
 
 -- an error other than `e` is the fault
 pub refused_with : (d e : RunError) (P : Type 0) → (d ≡ e → ⊥) → (d ≡ e) ⊎ P → P

@@ -67,10 +67,8 @@ pub fn explore_outcomes<V: Watcher>(
 {
     // The count has no effect on the answers. The search uses the greatest one, which no fiber uses up.
     let explored = Limits {
-        fibers: limits.fibers,
-        refs: limits.refs,
-        deferreds: limits.deferreds,
         count: GREATEST_COUNT,
+        ..limits
     };
     let mut worlds = SeenWorlds::new(alloc, program, explored)?;
     let found = search(alloc, &mut worlds, bounds, watcher)?;
@@ -84,8 +82,8 @@ pub fn explore_outcomes<V: Watcher>(
     })
 }
 
-// The greatest count that limits can have.
-const GREATEST_COUNT: u64 = (1 << 40) - 1;
+/// The greatest count that limits can have.
+pub(crate) const GREATEST_COUNT: u64 = (1 << 40) - 1;
 
 // The answers of a search, each with its outcomes or fault.
 fn told(
@@ -135,7 +133,7 @@ fn answer(
     ensures memory { IfErr result (λ e. e ≡ RunError.NoMemory) }
 {
     let end = end(worlds, found.end)?;
-    let schedule = unfold(alloc, program, limits, found.schedule.as_slice())?;
+    let schedule = unfold(alloc, program, limits, found.schedule.as_slice(), true)?;
     Ok(OutcomeAnswer {
         schedule: Schedule::new(schedule),
         end,

@@ -6,7 +6,7 @@ ghost use Rattle.every_outcome.specs.Places.{unmarked_place};
 ghost use Rattle.every_outcome.specs.Private.Reduced.{IsTrail, after_own, leapt, pushed, pushed_once};
 
 use crate::core_world::CoreWorld;
-use crate::own_moves::has_own_move;
+use crate::own_moves::may_move;
 use cell_registry::RunError;
 use effect_term::facts_of;
 use std::alloc::AllocError;
@@ -14,16 +14,22 @@ use std::alloc::AllocError;
 // The greatest number of own moves of each fiber after an entry.
 const MOST: usize = 100;
 
-/// Makes the entry of a fiber, and then own moves of each fiber. Adds these entries to the trail, also one that ends in
-/// a fault. For a fiber that wasn't started, makes and adds nothing. After an error nothing is known of the world.
-pub(crate) fn leap(world: &mut CoreWorld, fiber: u16, trail: &mut Vec<u16>) -> Result<(), RunError>
+/// Makes the entry of a fiber, and then own moves of each fiber; without `stores`, none that sets or changes a ref.
+/// Adds these entries to the trail, also one that ends in a fault. For a fiber that wasn't started, makes and adds
+/// nothing. After an error nothing is known of the world.
+pub(crate) fn leap(
+    world: &mut CoreWorld,
+    fiber: u16,
+    stores: bool,
+    trail: &mut Vec<u16>,
+) -> Result<(), RunError>
     requires { AllFit world.old.world }
     ensures fits { OnOk result (AllFit world.new.world) }
-    ensures goes { OnOk result (leapt (unmarked_place world.old) fiber ≡ GoesWell (unmarked_place world.new)) }
+    ensures goes { OnOk result (leapt stores (unmarked_place world.old) fiber ≡ GoesWell (unmarked_place world.new)) }
     ensures trail { OnOk result (IsTrail trail.old.items trail.new.items (unmarked_place world.old)
         (GoesWell (unmarked_place world.new))) }
     ensures stops { IfErr result (λ e. (e ≡ RunError.NoMemory) ⊎
-        ((leapt (unmarked_place world.old) fiber ≡ Fails e) ×
+        ((leapt stores (unmarked_place world.old) fiber ≡ Fails e) ×
         IsTrail trail.old.items trail.new.items (unmarked_place world.old) (Fails e))) }
 {
     if usize::from(fiber) >= few_born(&*world) {
@@ -31,7 +37,7 @@ pub(crate) fn leap(world: &mut CoreWorld, fiber: u16, trail: &mut Vec<u16>) -> R
     }
     add(&mut *trail, fiber)?;
     world.enter(fiber)?;
-    push(world, trail)?;
+    push(world, stores, trail)?;
     Ok(())
 }
 
@@ -55,15 +61,15 @@ fn add(trail: &mut Vec<u16>, fiber: u16) -> Result<(), AllocError>
 }
 
 // Makes own moves of each fiber, until no fiber has one or the greatest number was made.
-fn push(world: &mut CoreWorld, trail: &mut Vec<u16>) -> Result<(), AllocError>
+fn push(world: &mut CoreWorld, stores: bool, trail: &mut Vec<u16>) -> Result<(), AllocError>
     requires { AllFit world.old.world }
     ensures fits { OnOk result (AllFit world.new.world) }
-    ensures goes { OnOk result (unmarked_place world.new ≡ pushed 100 (unmarked_place world.old)) }
+    ensures goes { OnOk result (unmarked_place world.new ≡ pushed stores 100 (unmarked_place world.old)) }
     ensures trail { OnOk result (IsTrail trail.old.items trail.new.items (unmarked_place world.old)
         (GoesWell (unmarked_place world.new))) }
 {
     for _move in 0..MOST {
-        let moved = push_once(&mut *world, &mut *trail)?;
+        let moved = push_once(&mut *world, stores, &mut *trail)?;
         if !moved {
             return Ok(());
         }
@@ -72,12 +78,12 @@ fn push(world: &mut CoreWorld, trail: &mut Vec<u16>) -> Result<(), AllocError>
 }
 
 // Makes one own move of each fiber that has one, the last fiber first. Returns whether any was made.
-fn push_once(world: &mut CoreWorld, trail: &mut Vec<u16>) -> Result<bool, AllocError>
+fn push_once(world: &mut CoreWorld, stores: bool, trail: &mut Vec<u16>) -> Result<bool, AllocError>
     requires { AllFit world.old.world }
     ensures fits { OnOk result (AllFit world.new.world) }
-    ensures goes { OnOk result (unmarked_place world.new ≡ pushed_once (unmarked_place world.old)) }
+    ensures goes { OnOk result (unmarked_place world.new ≡ pushed_once stores (unmarked_place world.old)) }
     ensures stays { IfOk result (λ it. it ≡ false →
-        pushed_once (unmarked_place world.new) ≡ unmarked_place world.new) }
+        pushed_once stores (unmarked_place world.new) ≡ unmarked_place world.new) }
     ensures trail { OnOk result (IsTrail trail.old.items trail.new.items (unmarked_place world.old)
         (GoesWell (unmarked_place world.new))) }
 {
@@ -85,7 +91,7 @@ fn push_once(world: &mut CoreWorld, trail: &mut Vec<u16>) -> Result<bool, AllocE
     let mut moved = false;
     for done in 0..born {
         let fiber = (born - 1 - done) as u16;
-        let made = push_fiber(&mut *world, fiber, &mut *trail)?;
+        let made = push_fiber(&mut *world, fiber, stores, &mut *trail)?;
         moved = either(moved, made);
     }
     Ok(moved)
@@ -98,17 +104,22 @@ fn either(one: bool, other: bool) -> bool
     one || other
 }
 
-// Makes the own move of this fiber, if it has one. Returns whether the move was made.
-fn push_fiber(world: &mut CoreWorld, fiber: u16, trail: &mut Vec<u16>) -> Result<bool, AllocError>
+// Makes the own move of this fiber, if it has one that is allowed. Returns whether the move was made.
+fn push_fiber(
+    world: &mut CoreWorld,
+    fiber: u16,
+    stores: bool,
+    trail: &mut Vec<u16>,
+) -> Result<bool, AllocError>
     requires few { fiber < 1000 }
     requires fits { AllFit world.old.world }
     ensures fits { OnOk result (AllFit world.new.world) }
-    ensures goes { OnOk result (unmarked_place world.new ≡ after_own (unmarked_place world.old) fiber) }
+    ensures goes { OnOk result (unmarked_place world.new ≡ after_own stores (unmarked_place world.old) fiber) }
     ensures stays { IfOk result (λ it. it ≡ false → unmarked_place world.new ≡ unmarked_place world.old) }
     ensures trail { OnOk result (IsTrail trail.old.items trail.new.items (unmarked_place world.old)
         (GoesWell (unmarked_place world.new))) }
 {
-    if !has_own_move(&*world, fiber) {
+    if !may_move(&*world, fiber, stores) {
         return Ok(false);
     }
     match world.enter(fiber) {

@@ -7,6 +7,9 @@
 //! influence. The crate promises that a complete search lists the outcomes of each settled world under every count of
 //! changes, and that the schedule of each answer leads to it.
 //!
+//! A search for claims checks claims on refs in each of these worlds. There no own move that sets or changes a ref is
+//! made at once. If the search is complete, no schedule leads to a world that meets a claim which it doesn't return.
+//!
 //! This explores a loop that enters a mask in each turn. Its one answer has no outcome, since fiber 0 never ends:
 //!
 //! ```
@@ -18,6 +21,8 @@
 //! ```
 #![tactic(auto)]
 
+mod claim_worlds;
+mod claimed;
 mod core_world;
 mod exploring;
 mod faults;
@@ -29,6 +34,8 @@ mod unfolding;
 mod world;
 mod worlds;
 
+pub use claimed::search_outcome_claims;
+pub use every_schedule::{Claim, ClaimWord, Comparison};
 pub use exploring::explore_outcomes;
-pub use outcomes::{OutcomeAnswer, OutcomeExploration, Outcomes, Schedule};
-pub use world_search::{Bounds, Unwatched, Watcher};
+pub use outcomes::{OutcomeAnswer, OutcomeExploration, Outcomes, Schedule, shortened};
+pub use world_search::{Bounds, Claimed, Met, Unwatched, Watcher};

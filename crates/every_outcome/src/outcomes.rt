@@ -1,5 +1,6 @@
 //! The result of an exploration of outcomes.
-ghost use Rattle.std.specs.Prelude.{◌≡◌};
+ghost use Rattle.std.specs.Prelude.{◌≡◌, ◌==◌, ◌&&◌, length, nat_le};
+ghost use Rattle.std.specs.List.{filter};
 
 use cell_registry::RunError;
 use effect_term::Outcome;
@@ -88,4 +89,33 @@ pub struct OutcomeExploration {
     pub complete: bool,
     /// Whether the watcher ended the search.
     pub halted: bool,
+}
+
+/// The same exploration, without the answers whose schedules have more than `entries` entries; it isn't complete if
+/// there were any.
+pub fn shortened(found: OutcomeExploration, entries: usize) -> OutcomeExploration
+    ensures answers { result.answers.items ≡ filter (λ a. nat_le (length a.schedule) entries) found.answers.items }
+    ensures complete { result.complete ≡
+        (found.complete && (length result.answers.items == length found.answers.items)) }
+    ensures halted { result.halted ≡ found.halted }
+    ensures worlds { result.worlds ≡ found.worlds }
+    ensures bytes { result.bytes ≡ found.bytes }
+{
+    let OutcomeExploration {
+        mut answers,
+        worlds,
+        bytes,
+        complete,
+        halted,
+    } = found;
+    let many = answers.len();
+    answers.retain(|answer| answer.schedule.as_slice().len() <= entries);
+    let whole = answers.len() == many;
+    OutcomeExploration {
+        answers,
+        worlds,
+        bytes,
+        complete: complete && whole,
+        halted,
+    }
 }

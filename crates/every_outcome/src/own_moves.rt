@@ -8,16 +8,38 @@ ghost use Rattle.every_schedule.specs.Reduced.{IsNamed, has_come_to_end as has_e
 ghost use Rattle.every_schedule.specs.Reduced.{is_completed as is_filled, is_kept as is_own_number};
 ghost use Rattle.every_schedule.specs.Reduced.{is_left_alone as has_no_other, is_own_call as is_so};
 ghost use Rattle.every_outcome.specs.Places.{unmarked_world};
-ghost use Rattle.every_outcome.specs.Private.Reduced.{owns_next};
+ghost use Rattle.every_outcome.specs.Private.Reduced.{may_next, owns_next};
+ghost use Rattle.every_schedule.specs.Claims.{stored_by as the_stored_by};
 
 use crate::core_world::CoreWorld;
 use cell_registry::Call;
 use effect_term::facts_of;
+use every_schedule::stored_in;
 use fiber_frames::{Config, Use};
 use scheduled_core::Wish;
 
-/// Whether the fiber of this number was started, and its next move is an own move.
-pub(crate) fn has_own_move(world: &CoreWorld, by: u16) -> bool
+/// Whether the fiber of this number was started, and its next move is an own move that is allowed at once. Without
+/// `stores`, no move that sets or changes a ref is allowed.
+pub(crate) fn may_move(world: &CoreWorld, by: u16, stores: bool) -> bool
+    requires { AllFit world.now.world }
+    ensures { result ≡ may_next stores (unmarked_world world.now.world) by }
+{
+    has_own_move(world, by) && (stores || stored_by(world, by).is_none())
+}
+
+/// The ref that the next move of a fiber sets or changes, if there is one.
+pub(crate) fn stored_by(world: &CoreWorld, by: u16) -> Option<u16>
+    requires { AllFit world.now.world }
+    ensures { result ≡ the_stored_by (slice_get (unmarked_world world.now.world).fibers by) }
+{
+    match world.fibers().get(usize::from(by)) {
+        None => None,
+        Some(it) => stored_in(Wish::of(it.ask())),
+    }
+}
+
+// Whether the fiber of this number was started, and its next move is an own move.
+fn has_own_move(world: &CoreWorld, by: u16) -> bool
     requires { AllFit world.now.world }
     ensures { result ≡ owns_next (unmarked_world world.now.world) by }
 {

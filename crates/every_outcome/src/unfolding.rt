@@ -12,22 +12,23 @@ use cell_registry::{Limits, RunError};
 use effect_term::Program;
 use std::alloc::Global;
 
-/// Lists all entries that a schedule of the search makes, with those of own moves.
+/// Lists all entries that a schedule of the search makes, with those of own moves; `stores` is that of [`leap`].
 pub(crate) fn unfold(
     alloc: Global,
     program: &Program,
     limits: Limits,
     schedule: &[u16],
+    stores: bool,
 ) -> Result<Vec<u16>, RunError>
     requires { AreLimits limits }
     ensures entries { IfOk result (λ it.
-        IsUnfolded (first_place (code_of (source_of program.now)) limits) schedule.now it.items) }
+        IsUnfolded stores (first_place (code_of (source_of program.now)) limits) schedule.now it.items) }
     ensures memory { IfErr result (λ e. e ≡ RunError.NoMemory) }
 {
     let mut world = CoreWorld::first(alloc, program, limits)?;
     let mut trail = Vec::new(alloc);
     for fiber in schedule {
-        match leap(&mut world, *fiber, &mut trail) {
+        match leap(&mut world, *fiber, stores, &mut trail) {
             Ok(()) => {}
             Err(fault) => {
                 if is_memory(fault) {

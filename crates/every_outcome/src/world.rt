@@ -1,8 +1,10 @@
 //! One world of the core, as a search of outcomes sees it.
-ghost use Rattle.std.specs.Prelude.{◌≡◌, ◌≢◌, ◌⊎◌, ◌≤◌, ℕ, map, IfOk, IfErr, true, false};
-ghost use Rattle.std.specs.Prelude.{Ok as GoesWell, Err as Fails};
+ghost use Rattle.std.specs.Prelude.{◌≡◌, ◌≢◌, ◌⊎◌, ◌≤◌, ℕ, Bool, map, IfOk, IfErr, true, false};
+ghost use Rattle.std.specs.Prelude.{Ok as GoesWell, Err as Fails, None as Nothing};
+ghost use Rattle.std.specs.List.{slice_get};
 ghost use Rattle.derived_ops.specs.Expansion.{code_of};
 ghost use Rattle.derived_ops.specs.Reading.{source_of};
+ghost use Rattle.every_schedule.specs.Claims.{is_met, stored_by as the_stored_by};
 ghost use Rattle.fiber_frames.specs.Fiber.{begins, outcome_of};
 ghost use Rattle.fiber_frames.specs.Reached.{Reached};
 ghost use Rattle.cell_registry.specs.Cells.{AreLimits};
@@ -12,9 +14,11 @@ ghost use Rattle.every_outcome.specs.Private.Reduced.{leapt};
 
 use crate::core_world::CoreWorld;
 use crate::leaping::leap;
+use crate::own_moves::stored_by;
 use crate::shape::WorldShape;
 use cell_registry::{Limits, RunError};
 use effect_term::{Outcome, Program, facts_of};
+use every_schedule::Claim;
 use fiber_frames::Config;
 use scheduled_core::outcome;
 use std::alloc::{AllocError, Global};
@@ -71,7 +75,8 @@ impl SeenWorld {
 
     /// The number of fibers that were started. An entry of another fiber changes nothing.
     pub(crate) fn born(&self) -> u16
-        ensures rests { (f : ℕ) → result ≤ f → leapt self.now f ≡ GoesWell self.now }
+        ensures rests { (stores : Bool) (f : ℕ) → result ≤ f → leapt stores self.now f ≡ GoesWell self.now }
+        ensures none { (f : ℕ) → result ≤ f → slice_get self.now.world.fibers f ≡ Nothing }
         ensures most { result ≤ 1000 }
     {
         // The registry is within its limits, and has given each fiber its number.
@@ -79,16 +84,42 @@ impl SeenWorld {
         self.core.fibers().len() as u16
     }
 
-    /// The world after the entry of a fiber and the own moves that follow. [`RunError::NoMemory`] where memory is
-    /// refused, or where a fiber has used up its count of changes, which is at most 2^40 - 1.
-    pub(crate) fn after(&self, alloc: Global, fiber: u16) -> Result<SeenWorld, RunError>
-        ensures goes { IfOk result (λ w. leapt self.now fiber ≡ GoesWell w) }
-        ensures stops { IfErr result (λ e. (e ≡ RunError.NoMemory) ⊎ (leapt self.now fiber ≡ Fails e)) }
+    /// The world after the entry of a fiber and the own moves that follow; `stores` is that of [`leap`].
+    /// [`RunError::NoMemory`] where memory is refused, or where a fiber has used up its count of changes, which is at
+    /// most 2^40 - 1.
+    pub(crate) fn after(
+        &self,
+        alloc: Global,
+        fiber: u16,
+        stores: bool,
+    ) -> Result<SeenWorld, RunError>
+        ensures goes { IfOk result (λ w. leapt stores self.now fiber ≡ GoesWell w) }
+        ensures stops { IfErr result (λ e. (e ≡ RunError.NoMemory) ⊎ (leapt stores self.now fiber ≡ Fails e)) }
     {
         let mut next = self.core.copy(alloc)?;
         let mut trail = Vec::new(alloc);
-        leap(&mut next, fiber, &mut trail)?;
+        leap(&mut next, fiber, stores, &mut trail)?;
         Ok(SeenWorld::new(alloc, next)?)
+    }
+
+    /// The ref that the next move of a fiber sets or changes, if there is one.
+    pub(crate) fn stored_by(&self, fiber: u16) -> Option<u16>
+        ensures { result ≡ the_stored_by (slice_get self.now.world.fibers fiber) }
+    {
+        stored_by(&self.core, fiber)
+    }
+
+    /// Whether the world meets a claim, if these refs were set before.
+    pub(crate) fn meets(
+        &self,
+        alloc: Global,
+        seen: &[u16],
+        claim: &Claim,
+    ) -> Result<bool, AllocError>
+        ensures { IfOk result (λ it. it ≡ is_met record { place = self.now; seen = seen.now } claim.now) }
+    {
+        let registry = self.core.registry().copy(alloc)?;
+        claim.is_met(alloc, registry, seen)
     }
 
     /// Whether two worlds are equal: `true` means that they are. The result can be `false` for equal worlds.

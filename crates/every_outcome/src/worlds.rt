@@ -152,6 +152,7 @@ impl Worlds for SeenWorlds {
 
     type Report = Outcomes;
 
+    ghost use Rattle.std.specs.Prelude.{true};
     ghost use Rattle.every_outcome.specs.Places.{outcomes_at as the_outcomes};
     ghost use Rattle.every_outcome.specs.Private.Reduced.{leapt};
 
@@ -159,7 +160,7 @@ impl Worlds for SeenWorlds {
 
     ghost faults = { λ s. s.faults };
 
-    ghost step = { leapt };
+    ghost step = { leapt true };
 
     ghost report = { the_outcomes };
 
@@ -172,7 +173,7 @@ impl Worlds for SeenWorlds {
     }
 
     fn enter(&mut self, world: usize, fiber: u16, most: usize) -> Result<Entered, AllocError> {
-        match self.worlds[world].after(self.alloc, fiber) {
+        match self.worlds[world].after(self.alloc, fiber, true) {
             Ok(next) => self.keep(next, most),
             Err(RunError::Full(band, limit)) => {
                 let number = self.faults.note(RunError::Full(band, limit))?;

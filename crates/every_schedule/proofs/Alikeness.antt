@@ -1,15 +1,9 @@
 -- The reports of worlds, by the numbers of their states.
-use Rattle.std.proofs.Common.{◌≡◌, ◌≢◌, inl, inr, ℕ, suc, List, [], ◌∷◌, length, map, Some, refl, sym, ap, ◌∙◌, arith}
-use Rattle.std.specs.List.{slice_get}
-use Rattle.std.proofs.lemmas.List.{length-map}
-use Rattle.std.proofs.lemmas.Option.{same_Some}
+use Rattle.std.proofs.{Common.{◌≡◌, ◌≢◌, inl, inr, ℕ, suc, List, [], ◌∷◌, length, map, Some, refl, sym, ap, ◌∙◌, arith}, lemmas.List.length-map}
+use Rattle.std.{proofs.lemmas.Option.same_Some, specs.List.slice_get}
 use Rattle.fiber_frames.specs.Fiber.{Fiber}
-use Rattle.scheduled_core.specs.Core.{fiber_report}
-use Rattle.scheduled_core.specs.declared.report.FiberReport.{FiberReport}
-use Rattle.scheduled_core.specs.declared.report.Report.{Report}
-use Rattle.every_schedule.specs.Private.Numbered.{AreAt}
-use Rattle.every_schedule.specs.Private.Reporting.{AreAlike, AreOther}
-use Rattle.every_schedule.proofs.Numbered.{map_get}
+use Rattle.scheduled_core.specs.{Core.fiber_report, declared.report.{FiberReport.FiberReport, Report.Report}}
+use Rattle.every_schedule.{specs.Private.{Numbered.AreAt, Reporting.{AreAlike, AreOther}}, proofs.Numbered.map_get}
 
 module _ (fs : List Fiber) where
   pub alike_reports : (ms ns : List ℕ) (gs hs : List Fiber) → AreAt fs ms gs → AreAt fs ns hs → AreAlike fs ms ns → map fiber_report gs ≡ map fiber_report hs

@@ -1,21 +1,11 @@
 -- The check, fiber after fiber, that no fiber but one can still use a number in this way.
-use Rattle.std.proofs.Common.{◌≡◌, ◌≢◌, ℕ, zero, suc, ◌+◌, ◌<◌, ◌≤◌, nat_eq, Bool, true, false, not, ◌&&◌, ◌||◌, List, [], ◌∷◌, drop, length, Some, refl, sym, ap, ◌∙◌, subst, arith}
-use Rattle.std.specs.List.{slice_get}
-use Rattle.std.proofs.lemmas.Bool.{eqb-true, eq-eqb, lt-ltb}
-use Rattle.fiber_frames.specs.declared.ask.Ask.{Ask}
-use Rattle.fiber_frames.specs.declared.uses.Use.{Use}
-use Rattle.fiber_frames.specs.declared.uses.Use.TheVariants.{Cancels}
-use Rattle.fiber_frames.specs.Fiber.{Fiber}
-use Rattle.fiber_frames.specs.Naming.{AskNamed}
-use Rattle.fiber_frames.specs.Uses.{is_some, used_place, uses_in}
-use Rattle.cell_registry.specs.declared.call.Call.{Call}
-use Rattle.cell_registry.specs.declared.call.Call.TheVariants.{Get, Set, Modify, Complete, Read}
-use Rattle.cell_registry.specs.Cells.{Cells}
-use Rattle.scheduled_core.specs.declared.wish.Wish.TheVariants.{Shared}
-use Rattle.scheduled_core.specs.Core.{World, wish_of}
-use Rattle.scheduled_core.specs.Fitting.{AllFit, given_by}
-use Rattle.every_schedule.specs.Reduced.{IsNamed, is_another, is_kept, is_left_alone, keeps, next_of, others}
-use Rattle.every_schedule.proofs.OwnKept.{and_true, ask_for, asked_so, same_not}
+use Rattle.std.proofs.Common.{◌≡◌, ◌≢◌, ℕ, zero, suc, ◌+◌, ◌<◌, ◌≤◌, nat_eq, Bool, true, false, not, ◌&&◌, ◌||◌, List, [], ◌∷◌, drop, length, Some, refl, sym}
+use Rattle.std.{proofs.{Common.{ap, ◌∙◌, subst, arith}, lemmas.Bool.{eqb-true, eq-eqb, lt-ltb}}, specs.List.slice_get}
+use Rattle.fiber_frames.specs.{declared.{ask.Ask.Ask, uses.Use.{Use, TheVariants.Cancels}}, Fiber.Fiber, Naming.AskNamed, Uses.{is_some, used_place, uses_in}}
+use Rattle.cell_registry.specs.{declared.call.Call.{Call, TheVariants.{Get, Set, Modify, Complete, Read}}, Cells.Cells}
+use Rattle.scheduled_core.specs.{declared.wish.Wish.TheVariants.Shared, Core.{World, wish_of}, Fitting.{AllFit, given_by}}
+use Rattle.every_schedule.{specs.Reduced.{IsNamed, is_another, is_kept, is_left_alone, keeps, next_of, others}, proofs.OwnKept.{and_true, ask_for, asked_so}}
+use Rattle.every_schedule.proofs.OwnKept.{same_not}
 
 drop_suc : (gs : List Fiber) (i : ℕ) (b : Fiber) → slice_get gs i ≡ Some b → drop i gs ≡ b ∷ drop (suc i) gs
 drop_suc [] i b e = absurd (cc)

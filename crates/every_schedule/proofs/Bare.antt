@@ -1,30 +1,20 @@
 -- Worlds without the notes of joins: an entry at such a world leads where it leads with the notes.
-use Rattle.std.proofs.Common.{◌≡◌, inl, inr, ℕ, ◌<◌, Bool, true, false, not, ◌&&◌, ◌||◌, nat_lt, List, ◌++◌, set, Some, None, Option, Result, Ok, Err, refl, sym, ap, ap₂, ◌∙◌, subst}
-use Rattle.std.specs.List.{slice_get}
+use Rattle.std.proofs.Common.{◌≡◌, inl, inr, ℕ, ◌<◌, Bool, true, false, not, ◌&&◌, ◌||◌, nat_lt, List, ◌++◌, set, Some, None, Option, Result, Ok, Err, refl}
+use Rattle.std.{proofs.Common.{sym, ap, ap₂, ◌∙◌, subst}, specs.List.slice_get}
 use Rattle.effect_term.specs.declared.reply.Reply.{Reply}
-use Rattle.fiber_frames.specs.Fiber.{Fiber, ask_of, move, silent_move}
-use Rattle.cell_registry.specs.declared.cell.Cell.{Cell}
-use Rattle.cell_registry.specs.declared.limits.Limits.{Limits}
-use Rattle.cell_registry.specs.declared.limits.CellError.{CellError}
-use Rattle.cell_registry.specs.declared.limits.RunError.{RunError}
-use Rattle.cell_registry.specs.declared.call.Call.{Call}
-use Rattle.cell_registry.specs.declared.call.Call.TheVariants as call
-use Rattle.cell_registry.specs.Cells.{Cells, owned, refusal, without_waits}
-use Rattle.cell_registry.specs.Words.{has_ended}
-use Rattle.cell_registry.proofs.Forgetting.{same_after, same_refusal, same_reply, unawaited_cell, without_waits_twice}
-use Rattle.scheduled_core.specs.declared.wish.Wish.{Wish}
-use Rattle.scheduled_core.specs.declared.wish.Wish.TheVariants.{Shared, Alone, Nothing}
-use Rattle.scheduled_core.specs.Core.{World, answered, born, turned, wish_of, wished}
+use Rattle.fiber_frames.specs.{Fiber.{Fiber, ask_of, move, silent_move}, declared.uses.Use.{Use, TheVariants.{Awaits, Cancels, Completes, Gets, Joins, Stores}}}
+use Rattle.fiber_frames.specs.Uses.{used_place}
+use Rattle.cell_registry.specs.{declared.{cell.Cell.Cell, limits.{Limits.Limits, CellError.CellError, RunError.RunError}, call.Call.Call}, Cells.{Cells, owned}}
+use Rattle.cell_registry.{specs.{Cells.{refusal, without_waits}, Words.has_ended}, proofs.Forgetting.{same_after, same_refusal, same_reply, unawaited_cell}}
+use Rattle.cell_registry.proofs.Forgetting.{without_waits_twice}
+use Rattle.scheduled_core.specs.{declared.wish.Wish.{Wish, TheVariants.{Shared, Alone, Nothing}}, Core.{World, answered, born, turned, wish_of, wished}}
 use Rattle.scheduled_core.specs.Fitting.{AllFit, Fits, Registered, cell_registered, given_by}
 use Rattle.world_search.specs.Free.{AreFree, AreGrowing, Commutes}
-use Rattle.every_schedule.specs.Places.{Place, bare, bared, entering, moves_at, placed, report_at, stepped, stepped_if, unnoted, wants}
+use Rattle.every_schedule.specs.{Places.{Place, bare, bared, entering, moves_at, placed, report_at, stepped, stepped_if, unnoted, wants}, Reduced.IsOwn}
+use Rattle.every_schedule.specs.Reduced.{has_come_to_end, has_own, is_another, is_completed, is_kept, is_left_alone, is_own, is_own_call, keeps, next_of}
+use Rattle.every_schedule.{specs.Reduced.{others, rests}, proofs.{Commuting.own_enter, Growing.{reports_enter, size}}}
+use Rattle.cell_registry.specs.declared.call.Call.TheVariants as call
 use Rattle.derived_ops.specs.Naming as naming
-use Rattle.fiber_frames.specs.declared.uses.Use.{Use}
-use Rattle.fiber_frames.specs.declared.uses.Use.TheVariants.{Awaits, Cancels, Completes, Gets, Joins, Stores}
-use Rattle.fiber_frames.specs.Uses.{used_place}
-use Rattle.every_schedule.specs.Reduced.{IsOwn, has_come_to_end, has_own, is_another, is_completed, is_kept, is_left_alone, is_own, is_own_call, keeps, next_of, others, rests}
-use Rattle.every_schedule.proofs.Commuting.{own_enter}
-use Rattle.every_schedule.proofs.Growing.{reports_enter, size}
 
 -- ---- an entry at a world without notes
 module _ (k : Limits) (w : World) (f : ℕ) where

@@ -3,23 +3,13 @@ use Rattle.std.proofs.Common.{◌≡◌, ◌≢◌, ℕ, zero, suc, true, List, 
 use Rattle.std.specs.List.{slice_get}
 use Rattle.effect_term.specs.declared.reply.Reply.{Reply}
 use Rattle.fiber_frames.specs.Fiber.{Fiber, ask_of, move, silent_move}
-use Rattle.cell_registry.specs.declared.limits.Limits.{Limits}
-use Rattle.cell_registry.specs.declared.limits.CellError.{CellError}
-use Rattle.cell_registry.specs.declared.limits.RunError.{RunError}
-use Rattle.cell_registry.specs.declared.call.Call.{Call}
-use Rattle.cell_registry.specs.declared.call.Call.TheVariants.{Start}
-use Rattle.cell_registry.specs.Cells.{after, refusal, reply_of}
-use Rattle.scheduled_core.specs.declared.wish.Wish.{Wish}
-use Rattle.scheduled_core.specs.declared.wish.Wish.TheVariants.{Shared, Alone, Nothing}
-use Rattle.scheduled_core.specs.Core.{World, answered, born, called, turned, wish_of, wished}
-use Rattle.scheduled_core.specs.Finals.{reply_to}
-use Rattle.scheduled_core.proofs.Lists.{slice_get-set_other}
-use Rattle.scheduled_core.proofs.Standing.Lists.{get_early}
+use Rattle.cell_registry.specs.{declared.{limits.{Limits.Limits, CellError.CellError, RunError.RunError}, call.Call.{Call, TheVariants.Start}}, Cells.after}
+use Rattle.cell_registry.specs.Cells.{refusal, reply_of}
+use Rattle.scheduled_core.specs.{declared.wish.Wish.{Wish, TheVariants.{Shared, Alone, Nothing}}, Core.{World, answered, born, called, turned, wish_of, wished}}
+use Rattle.scheduled_core.{specs.Finals.reply_to, proofs.{Lists.slice_get-set_other, Standing.Lists.get_early}}
 use Rattle.world_search.specs.Free.{AreFree, Commutes}
-use Rattle.every_schedule.specs.Places.{Place, placed, entering as stepped}
-use Rattle.every_schedule.specs.Reduced.{IsOwn, has_own, is_own}
-use Rattle.every_schedule.proofs.OwnCalls.{IsAdmitted, left_by, other_refusal, other_reply, own_reply, room_stays, swaps}
-use Rattle.every_schedule.proofs.OwnKept.{calm_called, kept_called, kept_silent}
+use Rattle.every_schedule.{specs.{Places.{Place, placed, entering as stepped}, Reduced.{IsOwn, has_own, is_own}}, proofs.OwnCalls.{IsAdmitted, left_by}}
+use Rattle.every_schedule.proofs.{OwnCalls.{other_refusal, other_reply, own_reply, room_stays, swaps}, OwnKept.{calm_called, kept_called, kept_silent}}
 
 -- ---- lists
 -- changes of elements, and further elements at the end, in either order

@@ -1,25 +1,14 @@
 -- If all fibers have ended in each answer, each fiber can end after each schedule.
 use Rattle.std.proofs.Common.{◌≡◌, ℕ, ◌≤◌, List, [], ◌∷◌, ◌++◌, length, set, Option, Some, None, Result, Ok, Err, refl, sym, ap, ◌∙◌, subst, arith}
-use Rattle.std.proofs.Common.{length-append, length-set}
-use Rattle.std.specs.List.{All, fold, slice_get}
-use Rattle.std.specs.Option.{option_map}
-use Rattle.std.proofs.lemmas.List.Sums.{fold-append}
-use Rattle.std.proofs.lemmas.Option.{slice_get-map, slice_get_within}
+use Rattle.std.{proofs.{Common.{length-append, length-set}, lemmas.{List.Sums.fold-append, Option.{slice_get-map, slice_get_within}}}, specs.List.{All, fold}}
+use Rattle.std.specs.{List.slice_get, Option.option_map}
 use Rattle.derived_ops.specs.Tree.{Tree}
-use Rattle.cell_registry.specs.declared.limits.Limits.{Limits}
-use Rattle.cell_registry.specs.declared.limits.RunError.{RunError}
-use Rattle.cell_registry.specs.declared.limits.CellError.{CellError}
-use Rattle.cell_registry.specs.declared.call.Call.{Call}
-use Rattle.cell_registry.specs.Cells.{refusal, reply_of}
+use Rattle.cell_registry.specs.{declared.{limits.{Limits.Limits, RunError.RunError, CellError.CellError}, call.Call.Call}, Cells.{refusal, reply_of}}
 use Rattle.fiber_frames.specs.Fiber.{Fiber, ask_of, move, silent_move}
-use Rattle.scheduled_core.specs.declared.wish.Wish.{Wish}
-use Rattle.scheduled_core.specs.declared.wish.Wish.TheVariants.{Shared, Alone, Nothing}
-use Rattle.scheduled_core.specs.declared.report.Report.{Report}
-use Rattle.scheduled_core.specs.Core.{World, answered, born, core, entered, fiber_report, first_world, reported, turned, wish_of, wished}
-use Rattle.scheduled_core.specs.Finals.{HasEnded}
-use Rattle.every_schedule.specs.declared.exploration.Answer.{Answer}
-use Rattle.every_schedule.specs.Explored.{AllHaveEnded, IsAnswered, IsListed, NeverEnds}
-use Rattle.every_schedule.proofs.Told.{all_at, at_within}
+use Rattle.scheduled_core.specs.{declared.{wish.Wish.{Wish, TheVariants.{Shared, Alone, Nothing}}, report.Report.Report}, Core.{World, answered, born, core}}
+use Rattle.scheduled_core.specs.{Core.{entered, fiber_report, first_world, reported, turned, wish_of, wished}, Finals.HasEnded}
+use Rattle.every_schedule.{specs.{declared.exploration.Answer.Answer, Explored.{AllHaveEnded, IsAnswered, IsListed, NeverEnds}}, proofs.Told.all_at}
+use Rattle.every_schedule.proofs.Told.{at_within}
 
 module _ (k : Limits) where
   -- ---- no entry takes a fiber away

@@ -1,31 +1,17 @@
 -- How an entry changes the kept worlds.
-use Rattle.std.proofs.Common.{◌≡◌, ◌≢◌, ℕ, zero, suc, ◌≤◌, List, [], ◌∷◌, length, map, Option, Some, None, Ok, Err, Result, refl, sym, ap, ◌∙◌, subst, arith}
-use Rattle.std.specs.Prelude.{IfOk, max}
-use Rattle.std.specs.List.{slice_get}
-use Rattle.std.proofs.lemmas.List.{length-map}
-use Rattle.std.proofs.lemmas.Option.{same_Some, slice_get_past}
-use Rattle.cell_registry.specs.declared.limits.Limits.{Limits}
-use Rattle.cell_registry.specs.declared.limits.RunError.{RunError}
-use Rattle.cell_registry.specs.Plain.{IsPlain, PlainView}
+use Rattle.std.proofs.Common.{◌≡◌, ◌≢◌, ℕ, zero, suc, ◌≤◌, Bool, List, [], ◌∷◌, length, map, Option, Some, None, Ok, Err, Result, refl, sym, ap, ◌∙◌, subst}
+use Rattle.std.{proofs.{Common.arith, lemmas.{List.length-map, Option.{same_Some, slice_get_past}}}, specs.{Prelude.{IfOk, max}, List.slice_get}}
+use Rattle.cell_registry.specs.{declared.limits.{Limits.Limits, RunError.RunError}, Plain.{IsPlain, PlainView}}
 use Rattle.fiber_frames.specs.Fiber.{Fiber}
-use Rattle.scheduled_core.specs.Core.{World, entered}
-use Rattle.scheduled_core.specs.Fitting.{AllFit}
-use Rattle.scheduled_core.specs.declared.report.Report.{Report}
+use Rattle.scheduled_core.specs.{Core.{World, entered}, Fitting.AllFit, declared.report.Report.Report}
+use Rattle.world_search.{specs.{declared.landings.Entered.Entered, Landings.{EntersAt, IsNext}, Lists.IsMore}, proofs.Lists.more_same}
+use Rattle.every_schedule.specs.{declared.leaping.AtOnce.AtOnce, Places.{Place, placed, report_at, stepped}, Reduced.{after_own, behind, leapt, leapt_by}}
+use Rattle.every_schedule.specs.{Reduced.{or_stays, own_of, pushed, pushed_once, swept}, Private.{Keeping.IsKept, Numbered.{AreAt, AreWorlds, IsWorld}}}
+use Rattle.every_schedule.{specs.Private.{Numbered.{IsWorldOf, MayAdd, Numbers, picked, place_of}, Reporting.{AreAlike, AreOther}}, proofs.Bare.step_limits}
+use Rattle.every_schedule.proofs.{Bare.unborn_stays, Alikeness.{alike_reports, other_reports, same_lists}, Numbered.{is_place, map_get, one_world, picked_is}}
+use Rattle.every_schedule.proofs.Numbered.{places_added, places_more, rows_added, world_is, worlds_more}
 use Rattle.world_search.specs.declared.landings.Landing.TheVariants as to
-use Rattle.world_search.specs.declared.landings.Entered.{Entered}
 use Rattle.world_search.specs.declared.landings.Entered.TheVariants as came
-use Rattle.world_search.specs.Landings.{EntersAt, IsNext}
-use Rattle.world_search.specs.Lists.{IsMore}
-use Rattle.world_search.proofs.Lists.{more_same}
-use Rattle.every_schedule.specs.declared.leaping.AtOnce.{AtOnce}
-use Rattle.every_schedule.specs.Places.{Place, placed, report_at, stepped}
-use Rattle.every_schedule.specs.Reduced.{after_own, behind, leapt, leapt_by, or_stays, own_of, pushed, pushed_once, swept}
-use Rattle.every_schedule.specs.Private.Keeping.{IsKept}
-use Rattle.every_schedule.specs.Private.Numbered.{AreAt, AreWorlds, IsWorld, IsWorldOf, MayAdd, Numbers, picked, place_of}
-use Rattle.every_schedule.specs.Private.Reporting.{AreAlike, AreOther}
-use Rattle.every_schedule.proofs.Bare.{step_limits, unborn_stays}
-use Rattle.every_schedule.proofs.Alikeness.{alike_reports, other_reports, same_lists}
-use Rattle.every_schedule.proofs.Numbered.{is_place, map_get, one_world, picked_is, places_added, places_more, rows_added, world_is, worlds_more}
 
 -- an entry keeps the limits of its place
 limits_kept : (k : Limits) (x : Result World RunError) (q : Place) → placed k x ≡ Ok q → q.limits ≡ k

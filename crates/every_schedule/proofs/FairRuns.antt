@@ -1,24 +1,15 @@
 -- Fair schedules of a search, restated for the core.
-use Rattle.std.proofs.Common.{◌≡◌, ◌++◌, ℕ, zero, suc, Bool, true, false, List, [], ◌∷◌, Result, Ok, Err, refl, sym, ap, ◌∙◌, subst}
+use Rattle.std.{proofs.Common.{◌≡◌, ◌++◌, ℕ, zero, suc, Bool, true, false, List, [], ◌∷◌, Result, Ok, Err, refl, sym, ap, ◌∙◌, subst}, specs.List.slice_get}
 use mathlib.Core.Logic.{◌⊎◌, inl, inr}
 use Rattle.derived_ops.specs.Tree.{Tree}
-use Rattle.cell_registry.specs.declared.limits.Limits.{Limits}
-use Rattle.cell_registry.specs.declared.limits.RunError.{RunError}
-use Rattle.scheduled_core.specs.Core.{World, core, entered}
-use Rattle.std.specs.List.{slice_get}
-use Rattle.scheduled_core.specs.Finals.{IsFinal}
-use Rattle.scheduled_core.proofs.Finality.{final_stays}
-use Rattle.world_search.specs.Lists.{IsIn}
-use Rattle.world_search.specs.Systems as search
-use Rattle.world_search.proofs.Closed.{run-append}
+use Rattle.cell_registry.specs.declared.limits.{Limits.Limits, RunError.RunError}
+use Rattle.scheduled_core.{specs.{Core.{World, core, entered}, Finals.IsFinal}, proofs.Finality.final_stays}
+use Rattle.world_search.{specs.Lists.IsIn, proofs.Closed.run-append}
 use Rattle.fair_ends.specs.Fair.{AreRight, EndsUnder, IsEnd, IsFairCycle, first_of}
-use Rattle.every_schedule.specs.Fairness.{Ends, IsForever, IsOver, repeated}
-use Rattle.every_schedule.specs.Places.{Place, bare, bared, first_place, moves_at, placed, stepped, unnoted}
-use Rattle.every_schedule.specs.Reduced.{IsMade, hundred_own}
-use Rattle.every_schedule.proofs.Bare.{bare_step, idle_stays, moves_step}
-use Rattle.every_schedule.proofs.Placed.{core_run}
-use Rattle.every_schedule.proofs.EarlyMoves.{own_free}
+use Rattle.every_schedule.specs.{Fairness.{Ends, IsForever, IsOver, repeated}, Places.{Place, bare, bared, first_place, moves_at, placed, stepped, unnoted}}
+use Rattle.every_schedule.{specs.Reduced.{IsMade, hundred_own}, proofs.{Bare.{bare_step, idle_stays, moves_step}, Placed.core_run, EarlyMoves.own_free}}
 use Rattle.every_schedule.proofs.Unrest.{final_bare, final_noted}
+use Rattle.world_search.specs.Systems as search
 
 -- in this place no fiber can go on
 abbrev pub Rests : Place → Type 0

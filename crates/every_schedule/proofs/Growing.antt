@@ -1,30 +1,17 @@
 -- Reports grow: each entry leaves the report as it is, or makes it larger.
-use Rattle.std.proofs.Common.{◌≡◌, ◌⊎◌, inl, inr, ℕ, zero, suc, ◌+◌, ◌<◌, List, [], ◌∷◌, ◌++◌, length, map, set, Some}
-use Rattle.std.proofs.Common.{None, Option, Ok, refl, sym, ap, ◌∙◌, subst, arith, append-nil, length-append}
-use Rattle.std.specs.List.{slice_get}
-use Rattle.effect_term.specs.declared.reply.Outcome.{Outcome}
-use Rattle.effect_term.specs.declared.reply.Reply.{Reply}
-use Rattle.effect_term.specs.declared.reply.Reply.TheVariants.{Done}
+use Rattle.std.proofs.Common.{◌≡◌, ◌⊎◌, inl, inr, ℕ, zero, suc, ◌+◌, ◌<◌, List, [], ◌∷◌, ◌++◌, length, map, set, Some, None, Option, Ok, refl, sym, ap, ◌∙◌}
+use Rattle.std.{proofs.Common.{subst, arith, append-nil, length-append}, specs.List.slice_get}
+use Rattle.effect_term.specs.declared.reply.{Outcome.Outcome, Reply.{Reply, TheVariants.Done}}
 use Rattle.derived_ops.specs.Tree.{Mask}
-use Rattle.fiber_frames.specs.declared.ask.Look.{Look}
-use Rattle.fiber_frames.specs.declared.mark.Mark.{Mark}
-use Rattle.fiber_frames.specs.declared.mark.Mark.TheVariants as mark
-use Rattle.fiber_frames.specs.Path.{Running, Runs, Final, Over, Broken}
-use Rattle.fiber_frames.specs.Rows.{Row}
-use Rattle.fiber_frames.specs.Fiber.{Fiber, Move_case, Looks, Cuts, Reduces, Rests, active_of, ask_of, case_in, move}
-use Rattle.fiber_frames.specs.Fiber.{move_case, move_in, outcome_in, outcome_of, reduced, row_of, silent_move}
-use Rattle.cell_registry.specs.declared.limits.Limits.{Limits}
-use Rattle.cell_registry.specs.declared.limits.CellError.{CellError}
-use Rattle.cell_registry.specs.declared.call.Call.{Call}
-use Rattle.cell_registry.specs.Cells.{refusal, reply_of}
-use Rattle.scheduled_core.specs.declared.wish.Wish.{Wish}
-use Rattle.scheduled_core.specs.declared.wish.Wish.TheVariants.{Shared, Alone, Nothing}
-use Rattle.scheduled_core.specs.declared.report.FiberReport.{FiberReport}
-use Rattle.scheduled_core.specs.declared.report.Report.{Report}
-use Rattle.scheduled_core.specs.Core.{World, answered, born, fiber_report, turned, wish_of, wished}
-use Rattle.scheduled_core.proofs.SameReports.{reports_alike}
+use Rattle.fiber_frames.specs.{declared.{ask.Look.Look, mark.Mark.Mark}, Path.{Running, Runs, Final, Over, Broken}, Rows.Row, Fiber.{Fiber, Move_case, Looks}}
+use Rattle.fiber_frames.specs.Fiber.{Cuts, Reduces, Rests, active_of, ask_of, case_in, move, move_case, move_in, outcome_in, outcome_of, reduced, row_of}
+use Rattle.fiber_frames.specs.Fiber.{silent_move}
+use Rattle.cell_registry.specs.{declared.{limits.{Limits.Limits, CellError.CellError}, call.Call.Call}, Cells.{refusal, reply_of}}
+use Rattle.scheduled_core.specs.{declared.{wish.Wish.{Wish, TheVariants.{Shared, Alone, Nothing}}, report.{FiberReport.FiberReport, Report.Report}}, Core.World}
+use Rattle.scheduled_core.{specs.Core.{answered, born, fiber_report, turned, wish_of, wished}, proofs.SameReports.reports_alike}
 use Rattle.world_search.specs.Free.{AreGrowing}
 use Rattle.every_schedule.specs.Places.{Place, placed, report_at, entering as stepped}
+use Rattle.fiber_frames.specs.declared.mark.Mark.TheVariants as mark
 
 -- ---- one fiber
 abbrev ended : Option Outcome → ℕ

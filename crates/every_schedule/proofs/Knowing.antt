@@ -1,8 +1,6 @@
 -- What is known of states, as more becomes known.
 use Rattle.std.proofs.Common.{◌≡◌, ℕ, zero, suc, ◌<◌, refl, lit<, Bool, List, [], ◌∷◌, ◌++◌, length, set, inl, inr, sym, ap, ◌∙◌, subst, arith}
-use Rattle.std.specs.Prelude.{Option, Some, None}
-use Rattle.std.specs.List.{slice_get}
-use Rattle.std.proofs.lemmas.Option.{same_Some}
+use Rattle.std.{proofs.lemmas.Option.same_Some, specs.{Prelude.{Option, Some, None}, List.slice_get}}
 use mathlib.Core.Logic.{dite}
 use native.Mathlib.Decide.{ℕ_discrete}
 use Rattle.derived_ops.specs.Naming.{Given}
@@ -11,10 +9,8 @@ use Rattle.fiber_frames.specs.declared.uses.Use.TheVariants.{Awaits, Cancels, Co
 use Rattle.fiber_frames.specs.Fiber.{Fiber}
 use Rattle.fiber_frames.specs.Naming.{NamedRun}
 use Rattle.fiber_frames.specs.Uses.{is_some, uses_in}
-use Rattle.world_search.specs.Lists.{IsMore}
-use Rattle.world_search.proofs.Lists.{get_end, more_get, set_other, set_same}
-use Rattle.every_schedule.specs.declared.known.Known.{Known}
-use Rattle.every_schedule.specs.Private.Knowing.{AreKnownOf, IsKnown, TellUses, use_code, use_place}
+use Rattle.world_search.{specs.Lists.IsMore, proofs.Lists.{get_end, more_get, set_other, set_same}}
+use Rattle.every_schedule.specs.{declared.known.Known.Known, Private.Knowing.{AreKnownOf, IsKnown, TellUses, use_code, use_place}}
 
 -- each use has a number of its own
 use_of : ℕ → Use

@@ -1,13 +1,8 @@
 -- What follows from a complete exploration.
-use Rattle.std.proofs.Common.{◌≡◌, ℕ, List, Result, Ok, Err, sym, ◌∙◌, subst}
-use Rattle.std.specs.List.{All}
-use Rattle.cell_registry.specs.declared.limits.Limits.{Limits}
-use Rattle.cell_registry.specs.declared.limits.RunError.{RunError}
-use Rattle.scheduled_core.specs.declared.report.Report.{Report}
-use Rattle.scheduled_core.specs.Core.{World, reported}
-use Rattle.scheduled_core.specs.Finals.{IsSettled}
-use Rattle.every_schedule.specs.declared.exploration.Answer.{Answer}
-use Rattle.every_schedule.specs.Explored.{EndAlike, HasNoFault, HasOutcome, IsAnswered, IsCovered, IsListed}
+use Rattle.std.{proofs.Common.{◌≡◌, ℕ, List, Result, Ok, Err, sym, ◌∙◌, subst}, specs.List.All}
+use Rattle.cell_registry.specs.declared.limits.{Limits.Limits, RunError.RunError}
+use Rattle.scheduled_core.specs.{declared.report.Report.Report, Core.{World, reported}, Finals.IsSettled}
+use Rattle.every_schedule.specs.{declared.exploration.Answer.Answer, Explored.{EndAlike, HasNoFault, HasOutcome, IsAnswered, IsCovered, IsListed}}
 use Rattle.every_schedule.proofs.Told.{all_at}
 
 module _ (k : Limits) (answers : List Answer) where

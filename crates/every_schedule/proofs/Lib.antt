@@ -29,3 +29,4 @@ pub mod SeenRows
 pub mod SeenLeaps
 pub mod RefValues
 pub mod Prefixes
+pub mod Certified

@@ -1,15 +1,9 @@
 -- Answers that get their ends one by one.
-use Rattle.std.proofs.Common.{◌≡◌, inl, inr, ℕ, zero, suc, ◌+◌, List, [], ◌∷◌, ◌++◌, length, refl, sym, ap, ◌∙◌, subst}
-use Rattle.std.proofs.Common.{arith, append_assoc, append-nil, length-append}
-use Rattle.std.specs.Prelude.{Some}
-use Rattle.std.specs.List.{All, slice_get}
-use Rattle.std.proofs.lemmas.Option.{same_Some, slice_get_within}
+use Rattle.std.proofs.Common.{◌≡◌, inl, inr, ℕ, zero, suc, ◌+◌, List, [], ◌∷◌, ◌++◌, length, refl, sym, ap, ◌∙◌, subst, arith, append_assoc, append-nil}
+use Rattle.std.{proofs.{Common.length-append, lemmas.Option.{same_Some, slice_get_within}}, specs.{Prelude.Some, List.{All, slice_get}}}
 use Rattle.scheduled_core.proofs.Lists.{parted}
 use Rattle.world_search.specs.declared.answers.Answer.{Answer as Found}
-use Rattle.every_schedule.specs.declared.exploration.Answer.{Answer}
-use Rattle.every_schedule.specs.Places.{Kept}
-use Rattle.every_schedule.specs.Private.Telling.{AreTold, IsTold, IsWithin}
-use Rattle.every_schedule.proofs.Told.{all_at}
+use Rattle.every_schedule.{specs.{declared.exploration.Answer.Answer, Places.Kept, Private.Telling.{AreTold, IsTold, IsWithin}}, proofs.Told.all_at}
 
 -- the answers before the rest have their ends
 pub record SoFar (kept : Kept) (all rest : List Found) (answers : List Answer) : Type 0 where
@@ -26,9 +20,6 @@ in_middle [] x ys = refl
 in_middle (y ∷ xs) x ys = in_middle xs x ys
 
 module _ (kept : Kept) where
-  pub none_told : (all : List Found) → SoFar kept all all []
-  none_told all = record { before = []; is = refl; told = record { many = refl; each = λ i f a e d. absurd (cc) } }
-
   told_more : (fs : List Found) (bs : List Answer) (f : Found) (a : Answer) → AreTold kept fs bs → IsTold kept f a → AreTold kept (fs ++ f ∷ []) (bs ++ a ∷ [])
   told_more fs bs f a told it = record {
     many = length-append bs (a ∷ []) ∙ ap (λ n. n + 1) told.many ∙ sym (length-append fs (f ∷ []));

@@ -1,18 +1,11 @@
 -- Worlds by the numbers of their states, as states are added.
-use Rattle.std.proofs.Common.{◌≡◌, inl, inr, ℕ, zero, suc, ◌<◌, List, [], ◌∷◌, ◌++◌, length, map, take, Some, refl, sym, ap, ◌∙◌, subst, arith}
-use Rattle.std.specs.List.{All, slice_get}
-use Rattle.std.specs.Option.{option_to_list}
-use Rattle.std.proofs.lemmas.List.{length-map}
-use Rattle.std.proofs.lemmas.Option.{same_Some, slice_get_within}
-use Rattle.cell_registry.specs.declared.limits.Limits.{Limits}
-use Rattle.cell_registry.specs.Cells.{Cells}
-use Rattle.cell_registry.specs.Plain.{PlainView}
+use Rattle.std.proofs.Common.{◌≡◌, inl, inr, ℕ, zero, suc, ◌<◌, List, [], ◌∷◌, ◌++◌, length, map, Some, refl, sym, ap, ◌∙◌, subst, arith}
+use Rattle.std.{proofs.lemmas.{List.length-map, Option.{same_Some, slice_get_within}}, specs.{List.{All, slice_get}, Option.option_to_list}}
+use Rattle.cell_registry.specs.{declared.limits.Limits.Limits, Cells.Cells, Plain.PlainView}
 use Rattle.fiber_frames.specs.Fiber.{Fiber}
 use Rattle.scheduled_core.specs.Fitting.{AllFit, world_of}
-use Rattle.world_search.specs.Lists.{IsMore}
-use Rattle.world_search.proofs.Lists.{all_from, get_end, get_low, more_by, more_get, more_same}
-use Rattle.every_schedule.specs.Places.{Place}
-use Rattle.every_schedule.specs.Private.Numbered.{AreAt, AreWorlds, IsWorld, IsWorldOf, MayAdd, Numbers, cells_in, picked, place_of}
+use Rattle.world_search.{specs.Lists.IsMore, proofs.Lists.{all_from, get_end, get_low, more_by, more_get, more_same}}
+use Rattle.every_schedule.specs.{Places.Place, Private.Numbered.{AreAt, AreWorlds, IsWorld, IsWorldOf, MayAdd, Numbers, cells_in, picked, place_of}}
 
 pub picked_is : (fs : List Fiber) (ns : List ℕ) (gs : List Fiber) → AreAt fs ns gs → picked fs ns ≡ gs
 picked_is fs [] [] h = refl
@@ -78,12 +71,6 @@ one_world k fs rs n p q h l g =
     let limits : q.limits ≡ k = sym (ap (λ (r : PlainView). r.limits) registries) ∙ l in
     sym (world_is k fs rs n q g limits) ∙ world_is k fs rs n p h l
 
--- a world that is made again from its numbers is the same
-pub one_rebuilt : (fs fs' : List Fiber) (rs rs' : List PlainView) → IsMore fs fs' → IsMore rs rs' → (n m r : Numbers) (p q : Place) →
-    IsWorldOf fs rs n p → m ≡ n → r ≡ m → IsWorldOf fs' rs' r q → q ≡ p
-one_rebuilt fs fs' rs rs' mf mr n m r p q h e d g =
-    one_world p.limits fs' rs' n p q (of_more fs fs' rs rs' mf mr n p h) refl (subst (λ (x : Numbers). IsWorldOf fs' rs' x q) (d ∙ e) g)
-
 pub fits_so : (k : Limits) (fs : List Fiber) (rs : List PlainView) (n : Numbers) (q : Place) → IsWorld k fs rs n → IsWorldOf fs rs n q → AllFit q.world
 fits_so k fs rs n q h g = subst (λ (p : Place). AllFit p.world) (sym (one_world k fs rs n h.place q h.is h.limits g)) h.fits
 
@@ -118,12 +105,6 @@ row_at f rows i low =
     let many = length-map rows f in
     let at = get_low rows i (omega arith) in
     (at.0, at.1, map_get f rows i at.0 at.1)
-
-pub take_get : {A : Type 0} (m : ℕ) (xs : List A) (j : ℕ) → j < m → slice_get (take m xs) j ≡ slice_get xs j
-take_get zero xs j h = absurd (omega arith)
-take_get (suc m) [] j h = refl
-take_get (suc m) (x ∷ xs) zero h = refl
-take_get (suc m) (x ∷ xs) (suc j) h = take_get m xs j (omega arith)
 
 -- fibers and a registry of these numbers
 pub is_at : (fs : List Fiber) (rs : List PlainView) (n : Numbers) (gs : List Fiber) (r : PlainView) → AreAt fs n.fibers gs →

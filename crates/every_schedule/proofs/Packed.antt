@@ -1,12 +1,8 @@
 -- Rows of numbers, as one more row is added.
 use Rattle.std.proofs.Common.{◌≡◌, ℕ, suc, ◌+◌, ◌-◌, ◌≤◌, List, [], ◌∷◌, ◌++◌, length, map, take, drop, inl, inr, refl, sym, ap, ◌∙◌, subst, arith}
-use Rattle.std.specs.Prelude.{Result, Ok, Err, OnErr}
-use Rattle.std.proofs.lemmas.List.{drop-append-le, drop_at, length-drop, take-append-le, take_all}
+use Rattle.std.{proofs.lemmas.List.{drop-append-le, drop_at, length-drop, take-append-le, take_all}, specs.Prelude.{Result, Ok, Err, OnErr}}
 use Rattle.world_search.proofs.Lists.{get_end}
-use Rattle.every_schedule.specs.declared.rows.Head.{Head}
-use Rattle.every_schedule.specs.Private.Numbered.{Numbers}
-use Rattle.every_schedule.specs.Private.Packed.{AreWithin, IsWithin, row_of}
-use Rattle.every_schedule.proofs.Numbered.{map_append}
+use Rattle.every_schedule.{specs.{declared.rows.Head.Head, Private.{Numbered.Numbers, Packed.{AreWithin, IsWithin, row_of}}}, proofs.Numbered.map_append}
 
 part_more : (ns more : List ℕ) (a b : ℕ) → a ≤ b → b ≤ length ns → take (b - a) (drop a (ns ++ more)) ≡ take (b - a) (drop a ns)
 part_more ns more a b up low =

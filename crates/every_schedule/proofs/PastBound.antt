@@ -1,26 +1,16 @@
 -- An answer that is left out for its length leads to an end that isn't listed: it is added to the others, and ends stay apart.
-use Rattle.std.proofs.Common.{◌≡◌, ◌≢◌, ℕ, zero, suc, ◌+◌, List, ◌∷◌, length, Result, Ok, Err, refl, sym, ap, ◌∙◌, subst, arith}
-use Rattle.std.specs.Prelude.{Some}
-use Rattle.std.specs.List.{All, slice_get}
-use Rattle.std.proofs.lemmas.Option.{same_Some}
+use Rattle.std.proofs.{Common.{◌≡◌, ◌≢◌, ℕ, zero, suc, ◌+◌, List, ◌∷◌, length, Result, Ok, Err, refl, sym, ap, ◌∙◌, subst, arith}, lemmas.Option.same_Some}
+use Rattle.std.specs.{Prelude.Some, List.{All, slice_get}}
 use Rattle.derived_ops.specs.Tree.{Tree}
-use Rattle.cell_registry.specs.declared.limits.Limits.{Limits}
-use Rattle.cell_registry.specs.declared.limits.RunError.{RunError}
+use Rattle.cell_registry.specs.declared.limits.{Limits.Limits, RunError.RunError}
 use Rattle.scheduled_core.specs.declared.report.Report.{Report}
-use Rattle.world_search.specs.declared.answers.Answer.{Answer as Found}
-use Rattle.world_search.specs.declared.landings.Landing.{Landing}
+use Rattle.world_search.specs.declared.{answers.Answer.Answer as Found, landings.Landing.Landing}
+use Rattle.every_schedule.specs.{declared.{exploration.Answer.Answer, leaping.AtOnce.AtOnce}, Explored.{IsPastBound, IsReached, ListOnce}, Places.{Kept, Place}}
+use Rattle.every_schedule.specs.{Places.{first_place, report_at, stepped}, Reduced.leapt, Private.{Keeping.AreSingle, Telling.{AreTold, IsEnd, IsTold}}}
+use Rattle.every_schedule.{specs.Private.Trails.{AreUnfolded, EndApart, EndsAlone, IsLeftOut, IsUnfoldedOf}, proofs.Told.{all_at, first_moves, once, reached}}
+use Rattle.every_schedule.proofs.Trails.{right, unfolded_once}
 use Rattle.world_search.specs.declared.landings.Landing.TheVariants as to
 use Rattle.world_search.specs.Answers as search
-use Rattle.every_schedule.specs.declared.exploration.Answer.{Answer}
-use Rattle.every_schedule.specs.Explored.{IsPastBound, IsReached, ListOnce}
-use Rattle.every_schedule.specs.Places.{Kept, Place, first_place, report_at, stepped}
-use Rattle.every_schedule.specs.declared.leaping.AtOnce.{AtOnce}
-use Rattle.every_schedule.specs.Reduced.{leapt}
-use Rattle.every_schedule.specs.Private.Keeping.{AreSingle}
-use Rattle.every_schedule.specs.Private.Telling.{AreTold, IsEnd, IsTold}
-use Rattle.every_schedule.specs.Private.Trails.{AreUnfolded, EndApart, EndsAlone, IsLeftOut, IsUnfoldedOf}
-use Rattle.every_schedule.proofs.Told.{all_at, first_moves, once, reached}
-use Rattle.every_schedule.proofs.Trails.{right, unfolded_once}
 
 -- the report or fault to which a schedule leads
 end_of : (kept : Kept) (first : Place) (s : List ℕ) (l : Landing) → search.LeadsTo stepped report_at kept.places kept.faults first s l →

@@ -1,16 +1,10 @@
 -- The core under a schedule, as a search over places sees it.
-use Rattle.std.proofs.Common.{◌≡◌, ℕ, List, [], ◌∷◌, Result, Ok, Err, refl, sym, ap, ◌∙◌}
-use Rattle.std.specs.List.{fold}
+use Rattle.std.{proofs.Common.{◌≡◌, ℕ, List, [], ◌∷◌, Result, Ok, Err, refl, sym, ap, ◌∙◌}, specs.List.fold}
 use Rattle.derived_ops.specs.Tree.{Tree}
-use Rattle.cell_registry.specs.declared.limits.Limits.{Limits}
-use Rattle.cell_registry.specs.declared.limits.RunError.{RunError}
-use Rattle.cell_registry.specs.Cells.{Cells}
-use Rattle.cell_registry.proofs.Forgetting.{opening_unawaited}
-use Rattle.scheduled_core.specs.Core.{World, core, entered, first_world, reported}
-use Rattle.scheduled_core.specs.Finals.{IsSettled}
+use Rattle.cell_registry.{specs.{declared.limits.{Limits.Limits, RunError.RunError}, Cells.Cells}, proofs.Forgetting.opening_unawaited}
+use Rattle.scheduled_core.specs.{Core.{World, core, entered, first_world, reported}, Finals.IsSettled}
+use Rattle.every_schedule.{specs.Places.{Place, bare, bared, first_place, placed, report_at, stepped, unnoted}, proofs.Bare.bare_step}
 use Rattle.world_search.specs.Systems as search
-use Rattle.every_schedule.specs.Places.{Place, bare, bared, first_place, placed, report_at, stepped, unnoted}
-use Rattle.every_schedule.proofs.Bare.{bare_step}
 
 -- a schedule leads in the search to the place of the core's world, without the notes of joins
 pub placed_run : (k : Limits) (x : Result World RunError) (s : List ℕ) →

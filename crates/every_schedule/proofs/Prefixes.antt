@@ -1,11 +1,7 @@
 -- What holds of the first elements of a list, and of one more.
 use Rattle.std.proofs.Common.{◌≡◌, ℕ, zero, suc, ◌+◌, ◌&&◌, Bool, true, false, List, [], ◌∷◌, take, Some, refl, ap, ◌∙◌, subst, arith}
-use Rattle.std.specs.List.{list_all}
-use Rattle.std.specs.List.{fold, slice_get}
-use Rattle.std.proofs.lemmas.List.Sums.{fold_more}
-use Rattle.std.proofs.lemmas.Option.{get_or_from_slice_get, same_Some, slice_get_within}
-use Rattle.every_schedule.proofs.OwnKept.{and_true}
-use Rattle.every_schedule.proofs.Still.{two_true}
+use Rattle.std.{proofs.lemmas.{List.Sums.fold_more, Option.{get_or_from_slice_get, same_Some, slice_get_within}}, specs.List.{list_all, fold, slice_get}}
+use Rattle.every_schedule.proofs.{OwnKept.and_true, Still.two_true}
 
 pub fold_next : {X Y : Type 0} (f : Y → X → Y) (a : Y) (xs : List X) (i : ℕ) (x : X) → slice_get xs i ≡ Some x →
     fold f a (take (i + 1) xs) ≡ f (fold f a (take i xs)) x

@@ -1,10 +1,7 @@
 -- The value of a ref, read from a registry.
-use Rattle.std.proofs.Common.{◌≡◌, ℕ, zero, suc, ◌<◌, ◌≤◌, List, [], ◌∷◌, length, refl, arith}
-use Rattle.std.specs.Prelude.{ℤ, pos, slice_index_or}
+use Rattle.std.{proofs.Common.{◌≡◌, ℕ, zero, suc, ◌<◌, ◌≤◌, List, [], ◌∷◌, length, refl, arith}, specs.Prelude.{ℤ, pos, slice_index_or}}
+use Rattle.cell_registry.specs.{declared.call.Call.TheVariants.Get, Cells.{IsAllowed, after, ref_of, reply_of}, Plain.{IsMade, IsPlain, MayCall, PlainView}}
 use Rattle.effect_term.specs.declared.reply.Reply.TheVariants as reply
-use Rattle.cell_registry.specs.declared.call.Call.TheVariants.{Get}
-use Rattle.cell_registry.specs.Cells.{IsAllowed, after, ref_of, reply_of}
-use Rattle.cell_registry.specs.Plain.{IsMade, IsPlain, MayCall, PlainView}
 
 pub may_get : (r : PlainView) (n : ℕ) → IsPlain r → n < r.limits.refs → MayCall r 0 (Get n)
 unfolding IsAllowed

@@ -1,26 +1,16 @@
 -- Which schedules of the core lead to worlds that meet a claim, by the views of a search.
-use Rattle.std.proofs.Common.{◌≡◌, ◌⊎◌, inl, inr, ℕ, zero, suc, nat_eq, Bool, true, false, cond, ◌&&◌, ◌||◌, List, [], ◌∷◌, ◌++◌, Option, Some, None}
-use Rattle.std.proofs.Common.{Result, Ok, Err, refl, sym, ap, ◌∙◌, subst}
-use Rattle.std.specs.List.{list_all}
-use Rattle.std.specs.List.{fold, slice_get}
-use Rattle.std.proofs.lemmas.Bool.{eqb-true, eq-eqb}
+use Rattle.std.proofs.Common.{◌≡◌, ◌⊎◌, inl, inr, ℕ, zero, suc, nat_eq, Bool, true, false, cond, ◌&&◌, ◌||◌, List, [], ◌∷◌, ◌++◌, Option, Some, None, Result}
+use Rattle.std.{proofs.{Common.{Ok, Err, refl, sym, ap, ◌∙◌, subst}, lemmas.Bool.{eqb-true, eq-eqb}}, specs.List.{list_all, fold, slice_get}}
 use Rattle.derived_ops.specs.Tree.{Tree}
-use Rattle.cell_registry.specs.Cells.{Cells, without_waits}
-use Rattle.cell_registry.specs.declared.limits.Limits.{Limits}
-use Rattle.cell_registry.specs.declared.limits.RunError.{RunError}
+use Rattle.cell_registry.specs.{Cells.{Cells, without_waits}, declared.limits.{Limits.Limits, RunError.RunError}}
 use Rattle.scheduled_core.specs.Core.{World, core, entered, first_world}
-use Rattle.world_search.specs.Systems.{run}
-use Rattle.world_search.proofs.Free.{run_fault}
-use Rattle.every_schedule.specs.declared.claims.ClaimWord.{ClaimWord}
-use Rattle.every_schedule.specs.declared.claims.ClaimWord.TheVariants.{Compare, Not, And, Or}
-use Rattle.every_schedule.specs.Claims.{Compares, Meets, View, WasSet, are_seen, first_view, has, holds, is_met, is_seen, last_of, noted, seeing, stored_by, viewed, worded}
-use Rattle.every_schedule.specs.Places.{Place, bared, first_place, placed, stepped, unnoted}
-use Rattle.every_schedule.proofs.Bare.{bare_step}
-use Rattle.every_schedule.proofs.Placed.{first_bare}
-use Rattle.every_schedule.proofs.OwnKept.{and_true, or_second}
+use Rattle.world_search.{specs.Systems.run, proofs.Free.run_fault}
+use Rattle.every_schedule.specs.{declared.claims.ClaimWord.{ClaimWord, TheVariants.{Compare, Not, And, Or}}, Claims.{Compares, Meets, View, WasSet, are_seen}}
+use Rattle.every_schedule.specs.{Claims.{first_view, has, holds, is_met, is_seen, last_of, noted, seeing, stored_by, viewed, worded}, Places.{Place, bared}}
+use Rattle.every_schedule.{specs.Places.{first_place, placed, stepped, unnoted}, proofs.{Bare.bare_step, Placed.first_bare, OwnKept.{and_true, or_second}}}
 
 -- ---- truth values
-two_true : (a b : Bool) → a && b ≡ true → (a ≡ true) × (b ≡ true)
+pub two_true : (a b : Bool) → a && b ≡ true → (a ≡ true) × (b ≡ true)
 two_true true b e = (refl, e)
 two_true false b e = absurd (cc)
 
@@ -46,7 +36,7 @@ all_if p (y ∷ ys) h = and_true (p y) (list_all p ys) (h 0 y refl) (all_if p ys
 seen_refs : (seen : List ℕ) (words : List ClaimWord) → are_seen seen words ≡ true → (r : ℕ) → Compares words r → has r seen ≡ true
 seen_refs seen words h r c = all_of (is_seen seen) words h c.0 (Compare r c.1 c.2) c.3
 
-refs_seen : (seen : List ℕ) (words : List ClaimWord) → ((r : ℕ) → Compares words r → has r seen ≡ true) → are_seen seen words ≡ true
+pub refs_seen : (seen : List ℕ) (words : List ClaimWord) → ((r : ℕ) → Compares words r → has r seen ≡ true) → are_seen seen words ≡ true
 refs_seen seen words h = all_if (is_seen seen) words by
   where
     by : (i : ℕ) (word : ClaimWord) → slice_get words i ≡ Some word → is_seen seen word ≡ true
@@ -80,7 +70,7 @@ has_back r n (m ∷ seen) h = elim (one_true (nat_eq m r) (has r (seen ++ n ∷ 
   ]
 ]
 
-noted_keeps : (r : ℕ) (seen : List ℕ) (o : Option ℕ) → has r seen ≡ true → has r (noted seen o) ≡ true
+pub noted_keeps : (r : ℕ) (seen : List ℕ) (o : Option ℕ) → has r seen ≡ true → has r (noted seen o) ≡ true
 noted_keeps r seen None h = h
 noted_keeps r seen (Some n) h = by (has n seen)
   where
@@ -88,7 +78,7 @@ noted_keeps r seen (Some n) h = by (has n seen)
     by true = h
     by false = has_more r n seen h
 
-noted_has : (r : ℕ) (seen : List ℕ) (o : Option ℕ) → o ≡ Some r → has r (noted seen o) ≡ true
+pub noted_has : (r : ℕ) (seen : List ℕ) (o : Option ℕ) → o ≡ Some r → has r (noted seen o) ≡ true
 noted_has r seen o is = subst (λ (x : Option ℕ). has r (noted seen x) ≡ true) (sym is) (by (has r seen) refl)
   where
     by : (b : Bool) → has r seen ≡ b → has r (cond b seen (seen ++ r ∷ [])) ≡ true

@@ -57,7 +57,7 @@ module _ (k : Limits) (w : World) (f : ℕ) where
       let same : record { limits = k; world = w } ≡ x = cc in
       subst (λ (y : Place). y.world.cells.refs ≡ w.cells.refs) same refl
 
-  refs_turned : (o : Option Fiber) → stored_by o ≡ None → (x : Place) → placed k (turned k w f o) ≡ Ok x → x.world.cells.refs ≡ w.cells.refs
+  pub refs_turned : (o : Option Fiber) → stored_by o ≡ None → (x : Place) → placed k (turned k w f o) ≡ Ok x → x.world.cells.refs ≡ w.cells.refs
   refs_turned None still x e =
       let same : record { limits = k; world = w } ≡ x = cc in
       subst (λ (y : Place). y.world.cells.refs ≡ w.cells.refs) same refl
@@ -82,11 +82,11 @@ words_refs s t same [] stack = refl
 words_refs s t same (word ∷ words) stack =
     ap (λ l. fold (worded s) l words) (worded_refs s t same stack word) ∙ words_refs s t same words (worded t stack word)
 
-holds_refs : (s t : Cells) → s.refs ≡ t.refs → (words : List ClaimWord) → holds s words ≡ holds t words
+pub holds_refs : (s t : Cells) → s.refs ≡ t.refs → (words : List ClaimWord) → holds s words ≡ holds t words
 holds_refs s t same words = ap last_of (words_refs s t same words [])
 
 -- ---- views
-no_store : (o : Option Fiber) → may_be false o ≡ true → stored_by o ≡ None
+pub no_store : (o : Option Fiber) → may_be false o ≡ true → stored_by o ≡ None
 no_store o e = by (stored_by o) e
   where
     by : (x : Option ℕ) → is_none x ≡ true → x ≡ None
@@ -132,7 +132,7 @@ still v f h = ap (noted v.seen) (free_stores v.place f h)
 free_step : (v : View) (f : ℕ) → IsFree v f → viewed stepped v f ≡ seeing v.seen (stepped v.place f)
 free_step v f h = ap (λ s. seeing s (stepped v.place f)) (still v f h)
 
-seeing_is : (seen : List ℕ) (y : Result Place RunError) (x : View) → seeing seen y ≡ Ok x → (y ≡ Ok x.place) × (x.seen ≡ seen)
+pub seeing_is : (seen : List ℕ) (y : Result Place RunError) (x : View) → seeing seen y ≡ Ok x → (y ≡ Ok x.place) × (x.seen ≡ seen)
 seeing_is seen (Ok q) x e =
     let same : record { place = q; seen = seen } ≡ x = cc in
     (ap (λ (v : View). Ok v.place) same, ap (λ (v : View). v.seen) (sym same))

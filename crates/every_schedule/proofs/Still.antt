@@ -1,22 +1,12 @@
 -- Own moves that are allowed at once when those that set or change a ref aren't: they are free, and keep the values of refs.
-use Rattle.std.proofs.Common.{◌≡◌, ◌≢◌, ℕ, Bool, true, false, ◌&&◌, set, Some, None, Option, Result, Ok, Err, refl, sym, ap, ◌∙◌, subst}
-use Rattle.std.specs.List.{slice_get}
+use Rattle.std.{proofs.Common.{◌≡◌, ◌≢◌, ℕ, Bool, true, false, ◌&&◌, set, Some, None, Option, Result, Ok, Err, refl, sym, ap, ◌∙◌, subst}, specs.List.slice_get}
 use Rattle.fiber_frames.specs.Fiber.{Fiber, ask_of, move, silent_move}
-use Rattle.cell_registry.specs.declared.limits.Limits.{Limits}
-use Rattle.cell_registry.specs.declared.limits.CellError.{CellError}
-use Rattle.cell_registry.specs.declared.limits.RunError.{RunError}
-use Rattle.cell_registry.specs.declared.call.Call.{Call}
-use Rattle.cell_registry.specs.Cells.{refusal, reply_of}
-use Rattle.scheduled_core.specs.declared.wish.Wish.{Wish}
-use Rattle.scheduled_core.specs.declared.wish.Wish.TheVariants.{Shared, Alone, Nothing}
-use Rattle.scheduled_core.specs.Core.{World, answered, born, called, turned, wish_of, wished}
-use Rattle.scheduled_core.proofs.Lists.{slice_get-set_other}
-use Rattle.scheduled_core.proofs.Standing.Lists.{get_early}
+use Rattle.cell_registry.specs.{declared.{limits.{Limits.Limits, CellError.CellError, RunError.RunError}, call.Call.Call}, Cells.{refusal, reply_of}}
+use Rattle.scheduled_core.specs.{declared.wish.Wish.{Wish, TheVariants.{Shared, Alone, Nothing}}, Core.{World, answered, born, called, turned, wish_of, wished}}
+use Rattle.scheduled_core.proofs.{Lists.slice_get-set_other, Standing.Lists.get_early}
 use Rattle.world_search.specs.Free.{AreFree, Commutes}
-use Rattle.every_schedule.specs.Places.{Place, placed, stepped}
-use Rattle.every_schedule.specs.Reduced.{IsOwn, MayOwn, has_own, may_be}
-use Rattle.every_schedule.proofs.Bare.{enters, own_are_free}
-use Rattle.every_schedule.proofs.Bare.Enters.{Stays, Goes}
+use Rattle.every_schedule.{specs.{Places.{Place, placed, stepped}, Reduced.{IsOwn, MayOwn, has_own, may_be}}, proofs.Bare.{enters, own_are_free, Enters.Stays}}
+use Rattle.every_schedule.proofs.Bare.Enters.{Goes}
 
 pub two_true : (a b : Bool) → a && b ≡ true → (a ≡ true) × (b ≡ true)
 two_true true b e = (refl, e)

@@ -1,28 +1,18 @@
 -- What a search promises of its answers, for the answers with their reports and faults.
 use Rattle.std.proofs.Common.{◌≡◌, ◌≢◌, inl, inr, ℕ, ◌+◌, ◌<◌, ◌≤◌, List, [], ◌∷◌, length, refl, Result, Ok, Err, sym, ap, ◌∙◌, subst, arith, get_or}
-use Rattle.std.specs.Prelude.{Some, IfOk}
-use Rattle.std.specs.List.{All, slice_get}
-use Rattle.std.proofs.lemmas.Option.{get_or_from_slice_get, same_Some, slice_get-get_or, slice_get_cases, slice_get_within}
-use Rattle.std.proofs.lemmas.List.Elements.{All-get_or}
+use Rattle.std.proofs.lemmas.{Option.{get_or_from_slice_get, same_Some, slice_get-get_or, slice_get_cases, slice_get_within}, List.Elements.All-get_or}
+use Rattle.std.specs.{Prelude.{Some, IfOk}, List.{All, slice_get}}
 use Rattle.derived_ops.specs.Tree.{Tree}
-use Rattle.cell_registry.specs.declared.limits.Limits.{Limits}
-use Rattle.cell_registry.specs.declared.limits.RunError.{RunError}
-use Rattle.scheduled_core.specs.declared.report.Report.{Report}
-use Rattle.scheduled_core.specs.Core.{World, core, first_world, reported}
-use Rattle.scheduled_core.specs.Finals.{IsSettled}
-use Rattle.world_search.specs.declared.answers.Answer.{Answer as Found}
-use Rattle.world_search.specs.declared.landings.Landing.{Landing}
+use Rattle.cell_registry.specs.declared.limits.{Limits.Limits, RunError.RunError}
+use Rattle.scheduled_core.specs.{declared.report.Report.Report, Core.{World, core, first_world, reported}, Finals.IsSettled}
+use Rattle.world_search.specs.declared.{answers.Answer.Answer as Found, landings.Landing.Landing}
+use Rattle.every_schedule.specs.{declared.exploration.Answer.Answer, Explored.{AreInOrder, AreMoves, IsAnswered, IsCovered, IsListed, IsReached, ListOnce}}
+use Rattle.every_schedule.specs.{Explored.MayPrecede, Places.{Kept, Place, bared, first_place, placed, report_at, stepped, unnoted}, Private.Keeping.AreSingle}
+use Rattle.every_schedule.{specs.Private.{Telling.{AreTold, IsEnd, IsTold, IsWithin}, Trails.{AreMade, AreSorted, rank_of}}, proofs.Bare.bare_step}
+use Rattle.every_schedule.proofs.Placed.{core_run, first_bare, settles, settles_place}
 use Rattle.world_search.specs.declared.landings.Landing.TheVariants as to
 use Rattle.world_search.specs.Answers as search
 use Rattle.world_search.specs.Systems as systems
-use Rattle.every_schedule.specs.declared.exploration.Answer.{Answer}
-use Rattle.every_schedule.specs.Explored.{AreInOrder, AreMoves, IsAnswered, IsCovered, IsListed, IsReached, ListOnce, MayPrecede}
-use Rattle.every_schedule.specs.Places.{Kept, Place, bared, first_place, placed, report_at, stepped, unnoted}
-use Rattle.every_schedule.specs.Private.Keeping.{AreSingle}
-use Rattle.every_schedule.specs.Private.Telling.{AreTold, IsEnd, IsTold, IsWithin}
-use Rattle.every_schedule.specs.Private.Trails.{AreMade, AreSorted, rank_of}
-use Rattle.every_schedule.proofs.Bare.{bare_step}
-use Rattle.every_schedule.proofs.Placed.{core_run, first_bare, settles, settles_place}
 
 pub all_at : {A : Type 0} (P : A → Type 0) (xs : List A) (i : ℕ) (x : A) → slice_get xs i ≡ Some x → All P xs → P x
 all_at P xs i x e h = subst P (get_or_from_slice_get xs i x x e) (All-get_or P xs i x (slice_get_within xs i x e) h)

@@ -1,39 +1,22 @@
 -- Trails that get longer, and the unfolded answers of the reduced search.
-use Rattle.std.proofs.Common.{◌≡◌, ◌≢◌, ◌⊎◌, inl, inr, ℕ, suc, ◌+◌, ◌<◌, ◌≤◌, List, [], ◌∷◌, ◌++◌, length, Some, Result, Ok, Err, refl, sym}
-use Rattle.std.proofs.Common.{ap, ◌∙◌, subst, arith, append-nil, append_assoc, get_or}
-use Rattle.std.specs.List.{All, slice_get, swap}
+use Rattle.std.proofs.Common.{◌≡◌, ◌≢◌, ◌⊎◌, inl, inr, ℕ, suc, ◌+◌, ◌<◌, ◌≤◌, List, [], ◌∷◌, ◌++◌, length, Some, Result, Ok, Err, refl, sym, ap, ◌∙◌, subst}
+use Rattle.std.proofs.{Common.{arith, append-nil, append_assoc, get_or}, lemmas.List.{Elements.All-push, Edits.{length-swap, swapped_from_swap}}}
+use Rattle.std.proofs.lemmas.{List.Sorted.{All-permutation, IsPermutation-keeps, IsPermutation-sym}, Bool.cases_order, Option.get_or_from_slice_get}
+use Rattle.std.{proofs.lemmas.Option.{same_Some, slice_get-get_or, slice_get_past, slice_get_within}, specs.List.{All, slice_get, swap}}
 use Rattle.std.specs.List.Sorted.{IsNonDecreasingBy, IsPermutation}
-use Rattle.std.proofs.lemmas.List.Elements.{All-push}
-use Rattle.std.proofs.lemmas.Bool.{cases_order}
-use Rattle.std.proofs.lemmas.List.Edits.{length-swap, swapped_from_swap}
-use Rattle.std.proofs.lemmas.List.Sorted.{All-permutation, IsPermutation-keeps, IsPermutation-sym}
-use Rattle.std.proofs.lemmas.Option.{get_or_from_slice_get, same_Some, slice_get-get_or, slice_get_past, slice_get_within}
 use mathlib.Core.Logic.{dite}
 use native.Mathlib.Decide.{ℕ_discrete}
 use Rattle.cell_registry.specs.declared.limits.RunError.{RunError}
 use Rattle.scheduled_core.proofs.Lists.{parted}
-use Rattle.world_search.specs.declared.answers.Answer.{Answer as Found}
-use Rattle.world_search.specs.declared.landings.Landing.{Landing}
+use Rattle.world_search.{specs.{declared.{answers.Answer.Answer as Found, landings.Landing.Landing}, Lists.IsIn, Systems.run}, proofs.Closed.run-append}
+use Rattle.world_search.proofs.{Lists.{get_end, get_last, more_by, more_in}, Free.{covers, goes_onward, leads_up}}
+use Rattle.every_schedule.specs.{Places.{Kept, Place, report_at, stepped}, declared.leaping.AtOnce.AtOnce, Reduced.{IsMade, leapt}, Explored.HasMove}
+use Rattle.every_schedule.specs.Private.Trails.{AreMade, AreSorted, AreUnfolded, EndApart, EndsAlone, IsFirstOf, IsKeptIn, IsLeapTrail, IsOwnTrail, IsTrail}
+use Rattle.every_schedule.{specs.Private.Trails.{IsUnfolded, IsUnfoldedOf, MakesAtOnce, rank_of}, proofs.Bare.{reports_grow, unborn_stays}}
+use Rattle.every_schedule.proofs.{EarlyMoves.made_early, Growing.size, Leaps.{leaps, leapt_rests}, Told.{all_at, all_from}}
+use Rattle.fair_ends.{specs.Fair.IsBehind, proofs.Ahead.{led_append, led_run}}
 use Rattle.world_search.specs.declared.landings.Landing.TheVariants as to
 use Rattle.world_search.specs.Answers as search
-use Rattle.world_search.specs.Lists.{IsIn}
-use Rattle.world_search.specs.Systems.{run}
-use Rattle.world_search.proofs.Closed.{run-append}
-use Rattle.world_search.proofs.Lists.{get_end, get_last, more_by, more_in}
-use Rattle.world_search.proofs.Free.{covers, goes_onward, leads_up}
-use Rattle.every_schedule.specs.Places.{Kept, Place, report_at, stepped}
-use Rattle.every_schedule.specs.declared.leaping.AtOnce.{AtOnce}
-use Rattle.every_schedule.specs.Reduced.{IsMade, leapt}
-use Rattle.every_schedule.specs.Explored.{HasMove}
-use Rattle.fair_ends.specs.Fair.{IsBehind}
-use Rattle.fair_ends.proofs.Ahead.{led_append, led_run}
-use Rattle.every_schedule.specs.Private.Trails.{AreMade, AreSorted, AreUnfolded, EndApart, EndsAlone, IsFirstOf, IsKeptIn}
-use Rattle.every_schedule.specs.Private.Trails.{IsLeapTrail, IsOwnTrail, IsTrail, IsUnfolded, IsUnfoldedOf, MakesAtOnce, rank_of}
-use Rattle.every_schedule.proofs.Bare.{reports_grow, unborn_stays}
-use Rattle.every_schedule.proofs.EarlyMoves.{made_early}
-use Rattle.every_schedule.proofs.Growing.{size}
-use Rattle.every_schedule.proofs.Leaps.{leaps, leapt_rests}
-use Rattle.every_schedule.proofs.Told.{all_at, all_from}
 
 -- ---- numbers
 abbrev AreFew : List ℕ → Type 0

@@ -1,14 +1,10 @@
 -- Moves by the numbers of states, as states are added.
-use Rattle.std.proofs.Common.{◌≡◌, ℕ, List, [], ◌∷◌, ◌++◌, inl, inr, subst}
-use Rattle.std.specs.Prelude.{Option, Some, None}
+use Rattle.std.{proofs.Common.{◌≡◌, ℕ, List, [], ◌∷◌, ◌++◌, inl, inr, subst}, specs.Prelude.{Option, Some, None}}
 use Rattle.effect_term.specs.declared.reply.Reply.{Reply}
 use Rattle.fiber_frames.specs.Fiber.{Fiber}
-use Rattle.world_search.specs.Lists.{IsMore}
-use Rattle.world_search.proofs.Lists.{get_end, more_get}
-use Rattle.every_schedule.specs.declared.turns.Said.{Said}
-use Rattle.every_schedule.specs.declared.turns.Turn.{Turn}
-use Rattle.every_schedule.specs.declared.turns.Turned.{Turned}
-use Rattle.every_schedule.specs.Private.Turning.{AreTurned, IsAmong, IsChild, IsMoved, IsTurned, reply_of}
+use Rattle.world_search.{specs.Lists.IsMore, proofs.Lists.{get_end, more_get}}
+use Rattle.every_schedule.specs.{declared.turns.{Said.Said, Turn.Turn, Turned.Turned}, Private.Turning.{AreTurned, IsAmong, IsChild, IsMoved, IsTurned}}
+use Rattle.every_schedule.specs.Private.Turning.{reply_of}
 
 pub child_more : (fs fs' : List Fiber) (o : Option ℕ) (gs : List Fiber) → IsMore fs fs' → IsChild fs o gs → IsChild fs' o gs
 child_more fs fs' None gs more h = h

@@ -1,26 +1,20 @@
 -- Fibers that can go on, and final worlds with and without the notes of joins.
 use Rattle.std.proofs.Common.{◌≡◌, ◌≢◌, ◌⊎◌, inl, inr, ℕ, ℤ, Bool, true, false, List, [], ◌∷◌, Option, Some, None, refl, sym, ap, ◌∙◌, subst, ◌&&◌}
 use Rattle.std.specs.Prelude.{is_none}
-use Rattle.effect_term.specs.declared.reply.Outcome.{Outcome}
-use Rattle.effect_term.specs.declared.reply.Reply.{Reply}
-use Rattle.effect_term.specs.declared.reply.Reply.TheVariants as reply
+use Rattle.effect_term.specs.declared.reply.{Outcome.Outcome, Reply.Reply}
 use Rattle.derived_ops.specs.Tree.{Action, Never, Ending, Await, Operand, Pure, Raise, Act, Join, Mask, Tree, Make, New_ref, New_deferred}
-use Rattle.fiber_frames.specs.declared.ask.Ask.{Ask}
-use Rattle.fiber_frames.specs.declared.ask.Ask.TheVariants as ask
-use Rattle.fiber_frames.specs.Path.{Running, Runs, Final, Over, Broken, PathStep, In_let, In_seq, In_handle, In_guarded}
-use Rattle.fiber_frames.specs.Path.{In_masked, In_polled, Root, At_term, At_final, active, leaf, path, focus}
-use Rattle.fiber_frames.specs.Rows.{RowKind, Waited, wait, outcome_in, read_in, action_row, word_row, value_row, error_row, row, row_at}
-use Rattle.fiber_frames.specs.Fiber.{Fiber, active_of, is_silent, is_waited, outcome_of, row_of, waits_alone}
-use Rattle.cell_registry.specs.declared.cell.Stage.{Stage}
-use Rattle.cell_registry.specs.declared.cell.Stage.TheVariants as at
-use Rattle.cell_registry.specs.Cells.{Cells, cell_of, deferred_of, join_reply, reply_of, without_waits}
-use Rattle.cell_registry.specs.Words.{has_ended}
+use Rattle.fiber_frames.specs.{declared.ask.Ask.Ask, Path.{Running, Runs, Final, Over, Broken, PathStep, In_let}}
+use Rattle.fiber_frames.specs.{Path.{Root, At_term, At_final, active, leaf, path, focus}, Rows.{RowKind, Waited, wait, outcome_in, read_in}}
+use Rattle.fiber_frames.specs.{Rows.{action_row, word_row, value_row, error_row, row, row_at}, Fiber.{Fiber, active_of, is_silent, is_waited, outcome_of}}
+use Rattle.fiber_frames.specs.Fiber.{row_of, waits_alone}
+use Rattle.cell_registry.specs.{declared.cell.Stage.Stage, Cells.{Cells, cell_of, deferred_of, join_reply, reply_of, without_waits}, Words.has_ended}
 use Rattle.cell_registry.proofs.Forgetting.{request_stays, same_reply}
-use Rattle.scheduled_core.specs.declared.wish.Wish.{Wish}
-use Rattle.scheduled_core.specs.declared.wish.Wish.TheVariants.{Shared, Alone, Nothing}
-use Rattle.scheduled_core.specs.Core.{World, wish_of}
-use Rattle.scheduled_core.specs.Finals.{HasEnded, IsAtRest, IsFinal, IsUnasked, reply_to, word_wish}
+use Rattle.scheduled_core.specs.{declared.wish.Wish.{Wish, TheVariants.{Shared, Alone, Nothing}}, Core.{World, wish_of}, Finals.{HasEnded, IsAtRest, IsFinal}}
+use Rattle.scheduled_core.specs.Finals.{IsUnasked, reply_to, word_wish}
 use Rattle.every_schedule.specs.Places.{unnoted}
+use Rattle.effect_term.specs.declared.reply.Reply.TheVariants as reply
+use Rattle.fiber_frames.specs.declared.ask.Ask.TheVariants as ask
+use Rattle.cell_registry.specs.declared.cell.Stage.TheVariants as at
 
 -- ---- a word that waits gets nothing from the reply
 -- the word, of this kind, waits without a call, or for an end or a value that the reply doesn't have
@@ -55,21 +49,13 @@ module _ (i n m : ℕ) (r s : Reply) where
   value_goes At_term v [] e = cc
   value_goes (At_final k gs) v [] e = cc
   value_goes b v (In_let x k ∷ p) e = cc
-  value_goes b v (In_seq w k ∷ p) e = cc
-  value_goes b v (In_handle x h ∷ p) e = cc
-  value_goes b v (In_guarded fin ∷ p) e = cc
-  value_goes b v (In_masked k ∷ p) e = cc
-  value_goes b v (In_polled q ∷ p) e = cc
+  value_goes b v _ e = cc
 
   error_goes : (b : Root) (v : Operand) (p : List PathStep) → (error_row i n b v p).kind ≡ Waited → ⊥
   error_goes At_term v [] e = cc
   error_goes (At_final k gs) v [] e = cc
   error_goes b v (In_let x k ∷ p) e = cc
-  error_goes b v (In_seq w k ∷ p) e = cc
-  error_goes b v (In_handle x h ∷ p) e = cc
-  error_goes b v (In_guarded fin ∷ p) e = cc
-  error_goes b v (In_masked k ∷ p) e = cc
-  error_goes b v (In_polled q ∷ p) e = cc
+  error_goes b v _ e = cc
 
   row_waits : (b : Root) (p : List PathStep) (t : Tree) → (row i n r b p t).kind ≡ Waited → IsUnserved (row i m s b p t).kind (row i m s b p t).call r
   row_waits b p (Pure v) e = absurd (value_goes b v p e)

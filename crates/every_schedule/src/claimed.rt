@@ -1,17 +1,18 @@
 //! Searches every schedule for worlds that meet claims.
-ghost use Rattle.std.specs.Prelude.{◌≡◌, ◌++◌, ◌<◌, ◌≤◌, ℕ, List, [], ◌∷◌, max, IfErr, IfOk, OnOk, Some, true, false};
+ghost use Rattle.std.specs.Prelude.{◌≡◌, ◌++◌, ◌<◌, ◌≤◌, ℕ, List, [], ◌∷◌, max, take, true, false};
+ghost use Rattle.std.specs.Prelude.{IfErr, IfOk, OnOk, Some};
 ghost use Rattle.std.specs.List.{All, slice_get};
 ghost use Rattle.derived_ops.specs.Expansion.{code_of};
 ghost use Rattle.derived_ops.specs.Reading.{source_of};
 ghost use Rattle.cell_registry.specs.Cells.{AreLimits};
 ghost use Rattle.world_search.specs.declared.claims.Met.{Met as TheMet};
 ghost use Rattle.world_search.specs.Claims.{IsFew, IsFound};
+ghost use Rattle.world_search.specs.Lists.{IsMore};
 ghost use Rattle.every_schedule.specs.declared.claims.ClaimWord.{ClaimWord as TheClaimWord};
 ghost use Rattle.every_schedule.specs.Claims.{IsMetIn, Meets};
 
 use crate::claims::{Claim, SeenWorld};
 use crate::core_world::CoreWorld;
-use crate::explored::are_both;
 use crate::leaping::is_memory;
 use crate::own_moves::stored_by;
 use crate::seen_worlds::{STILL, SeenWorlds, note_ref};
@@ -61,77 +62,38 @@ pub fn search_claims<V: Watcher>(
 {
     let mut worlds = SeenWorlds::new(alloc, program, limits)?;
     let found = world_search::search_claims(alloc, &mut worlds, claims, bounds, watcher)?;
-    let certified = certify_all(alloc, program, limits, claims, found.met.as_slice())?;
-    let complete = are_both(found.complete, certified.whole);
-    Ok(Claimed {
-        met: certified.met,
-        complete,
+    let met = unfold_met(alloc, program, limits, found.met.as_slice())?;
+    let unfolded = Claimed {
+        met,
+        complete: found.complete,
         halted: found.halted,
         worlds: found.worlds,
         bytes: found.bytes,
-    })
+    };
+    let certified = certify(alloc, program, limits, claims, unfolded)?;
+    Ok(certified)
 }
 
-// Claims that are met, each with a schedule in which each entry is one move.
-#[derive(Drop)]
-struct Certified {
-    met: Vec<Met>,
-    // No claim was left out.
-    whole: bool,
-}
-
-// Returns the claims that the reduced search met, each with a schedule of the core. Stops at the first claim that the
-// core doesn't meet.
-fn certify_all(
+// Returns the claims that a reduced search met, with schedules in which each entry is one move.
+fn unfold_met(
     alloc: Global,
     program: &Program,
     limits: Limits,
-    claims: &[Claim],
     found: &[Met],
-) -> Result<Certified, RunError>
+) -> Result<Vec<Met>, RunError>
     requires { AreLimits limits }
-    ensures met { IfOk result (λ it. All (IsMetIn (code_of (source_of program.now)) limits claims.now) it.met.items) }
-    ensures numbers { IfOk result (λ it. All (IsFew 1000) it.met.items) }
-    ensures whole { IfOk result (λ it. it.whole ≡ true → (k : ℕ) (m : TheMet) → slice_get found.now k ≡ Some m →
-        IsFound m.claim it.met.items) }
+    ensures all { IfOk result (λ it. (k : ℕ) (m : TheMet) → slice_get found.now k ≡ Some m →
+        IsFound m.claim it.items) }
+    ensures numbers { IfOk result (λ it. All (IsFew 1000) it.items) }
     ensures memory { IfErr result (λ e. e ≡ RunError.NoMemory) }
 {
     let mut met = Vec::new(alloc);
     for i in 0..found.len() {
-        let added = certify(alloc, program, limits, claims, &found[i], &mut met)?;
-        if !added {
-            return Ok(Certified { met, whole: false });
-        }
+        let one = &found[i];
+        let schedule = unfold(alloc, program, limits, one.schedule.as_slice(), STILL)?;
+        add(&mut met, one.claim, schedule)?;
     }
-    Ok(Certified { met, whole: true })
-}
-
-// Adds a claim, if the core meets it under its schedule. Returns whether it was added.
-fn certify(
-    alloc: Global,
-    program: &Program,
-    limits: Limits,
-    claims: &[Claim],
-    found: &Met,
-    met: &mut Vec<Met>,
-) -> Result<bool, RunError>
-    requires { AreLimits limits }
-    ensures added { IfOk result (λ it. it ≡ true → (m : TheMet) × (met.new.items ≡ met.old.items ++ m ∷ []) ×
-        (m.claim ≡ found.now.claim) × IsMetIn (code_of (source_of program.now)) limits claims.now m × IsFew 1000 m) }
-    ensures same { IfOk result (λ it. it ≡ false → met.new.items ≡ met.old.items) }
-    ensures memory { IfErr result (λ e. e ≡ RunError.NoMemory) }
-{
-    if found.claim >= claims.len() {
-        return Ok(false);
-    }
-    let schedule = unfold(alloc, program, limits, found.schedule.as_slice(), STILL)?;
-    let claim = &claims[found.claim];
-    let met_here = leads(alloc, program, limits, schedule.as_slice(), claim)?;
-    if !met_here {
-        return Ok(false);
-    }
-    add(met, found.claim, schedule)?;
-    Ok(true)
+    Ok(met)
 }
 
 // Adds a claim, with its schedule.
@@ -140,6 +102,97 @@ fn add(met: &mut Vec<Met>, claim: usize, schedule: Vec<u16>) -> Result<(), Alloc
 {
     met.push(Met { claim, schedule })?;
     Ok(())
+}
+
+/// Replays the schedules that a search found, in which each entry is one move. Keeps the claims up to the first that
+/// the core doesn't meet under its schedule; if there is such a claim, the result isn't complete.
+///
+/// The limits are in their ranges ([`Limits`]). [`RunError::NoMemory`] is the only error.
+pub fn certify(
+    alloc: Global,
+    program: &Program,
+    limits: Limits,
+    claims: &[Claim],
+    found: Claimed,
+) -> Result<Claimed, RunError>
+    requires limits { AreLimits limits }
+    ensures met { IfOk result (λ it. All (IsMetIn (code_of (source_of program.now)) limits claims.now) it.met.items) }
+    ensures kept { IfOk result (λ it. IsMore it.met.items found.met.items) }
+    ensures whole { IfOk result (λ it. it.complete ≡ true → it.met.items ≡ found.met.items) }
+    ensures complete { IfOk result (λ it. it.complete ≡ true → found.complete ≡ true) }
+    ensures halted { IfOk result (λ it. it.halted ≡ found.halted) }
+    ensures worlds { IfOk result (λ it. it.worlds ≡ found.worlds) }
+    ensures bytes { IfOk result (λ it. it.bytes ≡ found.bytes) }
+    ensures memory { IfErr result (λ e. e ≡ RunError.NoMemory) }
+{
+    let many = many_met(alloc, program, limits, claims, found.met.as_slice())?;
+    let Claimed {
+        mut met,
+        complete,
+        halted,
+        worlds,
+        bytes,
+    } = found;
+    if many < met.len() {
+        met.truncate(many);
+        return Ok(Claimed {
+            met,
+            complete: false,
+            halted,
+            worlds,
+            bytes,
+        });
+    }
+    Ok(Claimed {
+        met,
+        complete,
+        halted,
+        worlds,
+        bytes,
+    })
+}
+
+// The number of these claims before the first that the core doesn't meet under its schedule.
+fn many_met(
+    alloc: Global,
+    program: &Program,
+    limits: Limits,
+    claims: &[Claim],
+    found: &[Met],
+) -> Result<usize, RunError>
+    requires { AreLimits limits }
+    ensures met { IfOk result (λ it.
+        All (IsMetIn (code_of (source_of program.now)) limits claims.now) (take it found.now)) }
+    ensures memory { IfErr result (λ e. e ≡ RunError.NoMemory) }
+{
+    for i in 0..found.len() {
+        let met = is_met(alloc, program, limits, claims, &found[i])?;
+        if !met {
+            return Ok(i);
+        }
+    }
+    Ok(found.len())
+}
+
+// Whether the core meets a claim under its schedule.
+fn is_met(
+    alloc: Global,
+    program: &Program,
+    limits: Limits,
+    claims: &[Claim],
+    found: &Met,
+) -> Result<bool, RunError>
+    requires { AreLimits limits }
+    ensures met { IfOk result (λ it. it ≡ true →
+        IsMetIn (code_of (source_of program.now)) limits claims.now found.now) }
+    ensures memory { IfErr result (λ e. e ≡ RunError.NoMemory) }
+{
+    if found.claim >= claims.len() {
+        return Ok(false);
+    }
+    let claim = &claims[found.claim];
+    let met = leads(alloc, program, limits, found.schedule.as_slice(), claim)?;
+    Ok(met)
 }
 
 // Whether a schedule of the core leads to a world that meets the claim.

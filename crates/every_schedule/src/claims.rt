@@ -1,5 +1,5 @@
 //! Claims of worlds, and whether a world meets one.
-ghost use Rattle.std.specs.Prelude.{◌≡◌, IfOk, OnOk, ◌++◌, [], ◌∷◌};
+ghost use Rattle.std.specs.Prelude.{◌≡◌, ◌&&◌, IfOk, OnOk, ◌++◌, [], ◌∷◌};
 ghost use Rattle.cell_registry.specs.Cells.{ref_of};
 ghost use Rattle.every_schedule.specs.Claims.{are_seen, compares, holds as the_truth, is_met as is_met_at, is_seen};
 ghost use Rattle.every_schedule.specs.Claims.{last_of, without_last, worded};
@@ -74,6 +74,22 @@ impl Claim {
     {
         self.words.as_slice()
     }
+
+    /// Whether a world with this registry meets the claim, if these refs were set before. `AllocError` where memory is
+    /// refused.
+    pub fn is_met(
+        &self,
+        alloc: Global,
+        registry: PlainRegistry,
+        seen: &[u16],
+    ) -> Result<bool, AllocError>
+        ensures { IfOk result (λ it. it ≡ (are_seen seen.now self.now && the_truth registry.state self.now)) }
+    {
+        if !have_seen(self.words(), seen) {
+            return Ok(false);
+        }
+        holds(alloc, registry, self.words())
+    }
 }
 
 /// A world, and the refs that were set before, in the order of their first sets.
@@ -110,11 +126,8 @@ impl SeenWorld {
         ensures { IfOk result (λ it. it ≡ is_met_at self claim.now) }
     {
         let SeenWorld { world, seen } = self;
-        if !have_seen(claim.words(), seen.as_slice()) {
-            return Ok(false);
-        }
         let (_fibers, registry) = world.into_parts();
-        holds(alloc, registry, claim.words())
+        claim.is_met(alloc, registry, seen.as_slice())
     }
 }
 

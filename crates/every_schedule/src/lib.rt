@@ -45,10 +45,12 @@ mod table;
 mod turns;
 mod unfolding;
 
-pub use claimed::search_claims;
+pub use claimed::{certify, search_claims};
 pub use claims::{Claim, ClaimWord, Comparison};
 pub use exploration::{Answer, Answers, Exploration, Schedule};
 pub use explored::{explore, explore_full, explore_watched};
 pub use fair_endings::explore_ends;
 pub use fair_ends::{Cycle, Ending};
+pub use own_moves::stored_in;
+pub use seen_worlds::seen_after;
 pub use world_search::{Bounds, Claimed, Met, TimeLimit, Unwatched, Watcher};

@@ -69,7 +69,7 @@ pub(crate) fn stored_by(world: &CoreWorld, by: u16) -> Option<u16>
 }
 
 /// The ref that a move with this wish sets or changes, if there is one.
-pub(crate) fn stored_in(wish: Wish) -> Option<u16>
+pub fn stored_in(wish: Wish) -> Option<u16>
     ensures { result ≡ the_stored wish }
 {
     match wish {

@@ -87,8 +87,9 @@ impl SeenWorlds {
     }
 }
 
-// Returns the refs that were set before, with the one that the next move sets, if there is one.
-fn seen_after(alloc: Global, seen: &[u16], stored: Option<u16>) -> Result<Vec<u16>, AllocError>
+/// Returns the refs that were set before (`seen`), in the order of their first sets, with the one that the next move
+/// sets (`stored`), if there is one.
+pub fn seen_after(alloc: Global, seen: &[u16], stored: Option<u16>) -> Result<Vec<u16>, AllocError>
     ensures { IfOk result (λ it. it.items ≡ noted seen.now stored) }
 {
     let mut after = Vec::from_slice(alloc, seen)?;

@@ -13,8 +13,6 @@ mod answers;
 #[cfg(test)]
 mod claims;
 #[cfg(test)]
-mod endings;
-#[cfg(test)]
 mod families;
 #[cfg(test)]
 mod first_findings;

@@ -1,6 +1,5 @@
 -- Schedules of explorations that can be spelled.
-use Rattle.std.proofs.Common.{◌≤◌, ◌<◌, ℕ, List, length, arith}
-use Rattle.std.specs.List.{All}
+use Rattle.std.{proofs.Common.{◌≤◌, ◌<◌, ℕ, List, length, arith}, specs.List.All}
 use Rattle.every_schedule.specs.declared.exploration.Answer.{Answer as Found}
 use Rattle.exploration_text.specs.ExplorationText.{IsSpellable}
 

@@ -1,27 +1,15 @@
 -- The first finding of a program.
 use Rattle.std.proofs.Common.{◌≡◌, ◌≤◌, ◌<◌, ◌⊎◌, inl, inr, ℕ, Bool, true, false, List, Result, Ok, Err, IfOk, length, ap, arith, refl, sym, ◌∙◌, subst}
-use Rattle.std.specs.Prelude.{Some, max, min}
-use Rattle.std.specs.List.{All, slice_get}
-use Rattle.cell_registry.specs.declared.limits.Limits.{Limits}
-use Rattle.cell_registry.specs.declared.limits.RunError.{RunError}
+use Rattle.std.specs.{Prelude.{Some, max, min}, List.{All, slice_get}}
+use Rattle.cell_registry.specs.declared.limits.{Limits.Limits, RunError.RunError}
 use Rattle.derived_ops.specs.Tree.{Tree}
-use Rattle.effect_term.specs.declared.term.Term.{Term}
-use Rattle.outcome_trace.specs.declared.text_order.Answer.{Answer as Answered}
-use Rattle.scheduled_core.specs.Core.{World, core, reported}
-use Rattle.scheduled_core.specs.Finals.{IsSettled}
-use Rattle.every_schedule.specs.declared.exploration.Answer.{Answer}
-use Rattle.every_schedule.specs.declared.exploration.Exploration.{Exploration}
-use Rattle.every_schedule.specs.Explored.{IsReached}
-use Rattle.every_schedule.proofs.Told.{all_at}
+use Rattle.scheduled_core.specs.{Core.{World, core, reported}, Finals.IsSettled}
+use Rattle.every_schedule.{specs.{declared.exploration.{Answer.Answer, Exploration.Exploration}, Explored.IsReached}, proofs.Told.all_at}
 use Rattle.sampled_schedules.specs.declared.comings.Coming.{Coming}
 use Rattle.world_search.specs.declared.answers.Bounds.{Bounds}
-use Rattle.exploration_text.specs.declared.findings.Finding.{Finding}
-use Rattle.exploration_text.specs.declared.findings.First.{First}
-use Rattle.exploration_text.specs.declared.findings.First.TheVariants.{Explored, Found}
-use Rattle.exploration_text.specs.declared.wants.Want.{Want}
-use Rattle.exploration_text.specs.ExplorationText.{IsSpellable}
-use Rattle.exploration_text.specs.Findings.{HasEndedFirst, IsDecided, IsFinding, IsFirst, IsLast, IsOfMore, Shows, bounds_within, ended, final}
-use Rattle.exploration_text.specs.Wants.{is_failure}
+use Rattle.exploration_text.specs.declared.{findings.First.{First, TheVariants.{Explored, Found}}, wants.Want.Want}
+use Rattle.exploration_text.specs.{ExplorationText.IsSpellable, Findings.{HasEndedFirst, IsDecided, IsFinding, IsFirst, IsLast, IsOfMore, Shows, bounds_within}}
+use Rattle.exploration_text.specs.{Findings.{ended, final}, Wants.is_failure}
 
 faulted : (k : Limits) (x : Result World RunError) (e : RunError) → reported x ≡ Err e → IfOk x (IsSettled k)
 faulted k (Ok w) e h = absurd cc
@@ -75,14 +63,6 @@ drawn_found code k wants most i comings c a false there (ended unwanted has) eac
     let is = all_at (λ (c : Coming). reported (core code k c.answer.schedule) ≡ c.answer.end) comings i c there each in
     again code k wants c.answer a false true same ends is unwanted (λ h. absurd cc) (λ h. has)
     (all_at (λ (c : Coming). IsSpellable c.answer) comings i c there spelled)
-
--- an answer of an exploration
-pub searched_found : (code : Tree) (k : Limits) (wants : List Want) (i : ℕ) (answers : List Answer) (b a : Answer) →
-    slice_get answers i ≡ Some b → is_failure wants b.end ≡ true → All (IsReached code k) answers → All IsSpellable answers →
-    a.schedule ≡ b.schedule → reported (core code k b.schedule) ≡ a.end → IsFinding code k wants record { answer = a; last = true; drawn = false }
-searched_found code k wants i answers b a there unwanted each spelled same ends =
-    let is = all_at (IsReached code k) answers i b there each in
-    again code k wants b a true false same ends is.reached unwanted (λ h. is) (λ h. absurd cc) (all_at IsSpellable answers i b there spelled)
 
 -- an exploration that is marked as ended
 ended_so : (code : Tree) (k : Limits) (bounds : Bounds) (timed : Bool) (wants : List Want) (e : Exploration) → timed ≡ true →

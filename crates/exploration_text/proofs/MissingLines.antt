@@ -1,10 +1,7 @@
 -- The lines of wanted outcomes that no answer has, one at a time.
-use Rattle.std.proofs.Common.{◌≡◌, ◌+◌, ◌<◌, ◌≤◌, ℕ, Bool, true, false, if◌then◌else◌, List, [], ◌∷◌, ◌++◌, length, drop, get_or, refl, sym, ap, ◌∙◌}
-use Rattle.std.proofs.Common.{append_assoc, append-nil}
-use Rattle.std.proofs.lemmas.List.{drop_all}
-use Rattle.exploration_text.specs.declared.wants.Want.{Want}
-use Rattle.exploration_text.specs.Missing.{missing_line, missing_lines}
-use Rattle.exploration_text.proofs.Parts.{from_here}
+use Rattle.std.proofs.Common.{◌≡◌, ◌+◌, ◌<◌, ◌≤◌, ℕ, Bool, true, false, if◌then◌else◌, List, [], ◌∷◌, ◌++◌, length, drop, get_or, sym, ap, ◌∙◌}
+use Rattle.std.proofs.Common.{append_assoc}
+use Rattle.exploration_text.{specs.{declared.wants.Want.Want, Missing.{missing_line, missing_lines}}, proofs.Parts.from_here}
 
 -- followed by the lines of the wants that are left, the text so far is that of all wants
 abbrev pub IsFront : Bool → (Want → Bool) → List Want → ℕ → List ℕ → Type 0
@@ -25,8 +22,3 @@ named all comes wants i w text new low at so is front =
     let here : missing_lines all comes (drop i wants) ≡ missing_line all w ++ rest =
     ap (missing_lines all comes) (from_here wants i w low at) ∙ ap (λ b. if b then rest else missing_line all w ++ rest) so in
     ap (λ t. t ++ rest) is ∙ append_assoc text (missing_line all w) rest ∙ ap (λ t. text ++ t) (sym here) ∙ front
-
-pub all_named : (all : Bool) (comes : Want → Bool) (wants : List Want) (i : ℕ) (text : List ℕ) → length wants ≤ i → IsFront all comes wants i text →
-    text ≡ missing_lines all comes wants
-all_named all comes wants i text past front =
-    sym (append-nil text) ∙ sym (ap (λ ws. text ++ missing_lines all comes ws) (drop_all i wants past)) ∙ front

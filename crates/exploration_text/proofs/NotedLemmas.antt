@@ -1,12 +1,9 @@
 -- Answers to texts, with their notes.
 use Rattle.std.proofs.Common.{◌≡◌, ℕ, List, Result, Ok, Err, IfOk}
-use Rattle.effect_term.specs.declared.term.Term.{Term}
-use Rattle.effect_term.specs.Programs.{IsProgram}
-use Rattle.exploration_text.specs.declared.noted.NotedAnswer.{NotedAnswer}
-use Rattle.exploration_text.specs.Noting.{IsNotedAnswer}
+use Rattle.effect_term.specs.{declared.term.Term.Term, Programs.IsProgram}
+use Rattle.exploration_text.specs.{declared.noted.NotedAnswer.NotedAnswer, Noting.IsNotedAnswer}
 use Rattle.outcome_trace.specs.Answers.{runs}
-use Rattle.term_parse.specs.Atoms.{atoms_of}
-use Rattle.term_parse.specs.Reading.{reading}
+use Rattle.term_parse.specs.{Atoms.atoms_of, Reading.reading}
 use Rattle.text_io.specs.declared.status.Status.{Status}
 
 -- an answer to the program that a text spells, with its note

@@ -1,11 +1,8 @@
 -- The text of some answers, one answer at a time.
-use Rattle.std.proofs.Common.{◌≡◌, ◌+◌, ◌<◌, ◌≤◌, ℕ, List, [], ◌∷◌, ◌++◌, length, drop, get_or, refl, sym, ap, ◌∙◌}
-use Rattle.std.proofs.Common.{subst, append_assoc, append-nil, add-one, suc}
-use Rattle.std.proofs.Math.Seq.{drop-cons}
-use Rattle.std.proofs.lemmas.List.{drop_all}
+use Rattle.std.proofs.Common.{◌≡◌, ◌+◌, ◌<◌, ◌≤◌, ℕ, List, [], ◌∷◌, ◌++◌, length, drop, get_or, refl, sym, ap, ◌∙◌, subst, append_assoc, append-nil, add-one}
+use Rattle.std.proofs.{Common.suc, Math.Seq.drop-cons, lemmas.List.drop_all}
 use Rattle.sampled_schedules.specs.declared.comings.Coming.{Coming}
-use Rattle.exploration_text.specs.declared.wants.Want.{Want}
-use Rattle.exploration_text.specs.SampleText.{AreComingsText, IsComingText}
+use Rattle.exploration_text.specs.{declared.wants.Want.Want, SampleText.{AreComingsText, IsComingText}}
 
 -- followed by the text of the answers from number i on, the text is that of all answers
 abbrev pub IsFront : List Want → List Coming → ℕ → List ℕ → Type 0

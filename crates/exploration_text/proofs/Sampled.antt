@@ -1,17 +1,11 @@
 -- Answers to texts whose programs' schedules are sampled.
-use Rattle.std.proofs.Common.{◌≡◌, ◌≤◌, ◌<◌, ℕ, List, Result, Ok, Err, IfOk, length, arith}
-use Rattle.std.specs.List.{All}
+use Rattle.std.{proofs.Common.{◌≡◌, ◌≤◌, ◌<◌, ℕ, List, Result, Ok, Err, IfOk, length, arith}, specs.List.All}
 use Rattle.cell_registry.specs.declared.limits.Limits.{Limits}
-use Rattle.effect_term.specs.declared.term.Term.{Term}
-use Rattle.effect_term.specs.Programs.{IsProgram}
-use Rattle.term_parse.specs.Atoms.{atoms_of}
-use Rattle.term_parse.specs.Reading.{reading}
-use Rattle.outcome_trace.specs.declared.text_order.Answer.{Answer}
-use Rattle.outcome_trace.specs.Answers.{IsRefusalAnswer}
-use Rattle.exploration_text.specs.ExplorationText.{IsSpellable}
+use Rattle.effect_term.specs.{declared.term.Term.Term, Programs.IsProgram}
+use Rattle.term_parse.specs.{Atoms.atoms_of, Reading.reading}
+use Rattle.outcome_trace.specs.{declared.text_order.Answer.Answer, Answers.IsRefusalAnswer}
+use Rattle.exploration_text.specs.{ExplorationText.IsSpellable, declared.wants.Want.Want, SampleAnswers.{IsSampleAnswer, IsSampledAnswer, samples, unsampled}}
 use Rattle.sampled_schedules.specs.declared.comings.Coming.{Coming}
-use Rattle.exploration_text.specs.declared.wants.Want.{Want}
-use Rattle.exploration_text.specs.SampleAnswers.{IsSampleAnswer, IsSampledAnswer, samples, unsampled}
 
 -- the schedules of a sample can be spelled
 pub spellable : (comings : List Coming) (most : ℕ) → most ≤ 1000000 → All (λ c. All (λ f. f < 1000) c.answer.schedule) comings →

@@ -1,10 +1,6 @@
 -- Texts of numbers, read back.
 use Rattle.std.proofs.Common.{◌≡◌, ℤ, pos, negsuc, List, ℕ, Option, Some, None, IfNone, Result, Ok, FitsSigned, to_z, of_z, sym, subst, arith}
-use Rattle.std.specs.Fmt.{signed_decimal}
-use Rattle.std.specs.Int.{w64}
-use Rattle.std.specs.Str.Parse.{ParsesSigned}
-use Rattle.std.proofs.lemmas.Fmt.{parse-signed_decimal}
-use Rattle.std.proofs.lemmas.Int.{fits_signed_from_abs, to_z-of_z}
+use Rattle.std.{proofs.lemmas.{Fmt.parse-signed_decimal, Int.{fits_signed_from_abs, to_z-of_z}}, specs.{Fmt.signed_decimal, Int.w64, Str.Parse.ParsesSigned}}
 use Rattle.effect_term.specs.Values.{IsValue}
 
 fits : (v : ℤ) → IsValue v → FitsSigned w64 v

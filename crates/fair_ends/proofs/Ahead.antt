@@ -1,14 +1,9 @@
 -- Free moves made ahead, which lead from one world to another: each further entry is one of them, or leads on from the other world as well.
-use Rattle.std.proofs.Common.{◌≡◌, ◌≢◌, ℕ, zero, suc, ◌+◌, ◌<◌, ◌≤◌, Bool, true, false, List, [], ◌∷◌, ◌++◌, length, Some, Result, Ok, Err, refl, sym, ap, ◌∙◌, subst, arith}
-use Rattle.std.specs.Prelude.{nat_eq}
-use Rattle.std.specs.List.{slice_get}
-use Rattle.std.proofs.lemmas.Bool.{eqb-true, eq-eqb}
-use Rattle.std.proofs.lemmas.Option.{same_Some}
+use Rattle.std.proofs.Common.{◌≡◌, ◌≢◌, ℕ, zero, suc, ◌+◌, ◌<◌, ◌≤◌, Bool, true, false, List, [], ◌∷◌, ◌++◌, length, Some, Result, Ok, Err, refl, sym, ap, ◌∙◌}
+use Rattle.std.{proofs.{Common.{subst, arith}, lemmas.Bool.{eqb-true, eq-eqb}}, specs.Prelude.nat_eq}
 use mathlib.Core.Logic.{dite}
 use native.Mathlib.Decide.{ℕ_discrete}
-use Rattle.world_search.specs.Free.{AreFree, Commutes}
-use Rattle.world_search.specs.Lists.{IsIn}
-use Rattle.world_search.specs.Systems.{run}
+use Rattle.world_search.specs.{Free.{AreFree, Commutes}, Lists.IsIn, Systems.run}
 use Rattle.fair_ends.specs.Fair.{LeadBy}
 
 -- ---- how often a fiber is in a list
@@ -42,11 +37,6 @@ many_in g [] some = absurd (omega arith)
 many_in g (f ∷ fs) some = dite (ℕ_discrete f g)
     (λ is. (0, ap Some is))
     (λ isnt. let none = one_apart f g isnt in let later = many_in g fs (omega arith) in (suc later.0, later.1))
-
-in_many : (g i : ℕ) (fs : List ℕ) → slice_get fs i ≡ Some g → 0 < many g fs
-in_many g i [] at = absurd (cc)
-in_many g zero (f ∷ fs) at = let one = one_same f g (same_Some f g at) in omega arith
-in_many g (suc i) (f ∷ fs) at = let later = in_many g i fs at in omega arith
 
 pub none_many : (g : ℕ) (fs : List ℕ) → (IsIn g fs → ⊥) → many g fs ≡ 0
 none_many g fs none = by (many g fs) refl

@@ -1,17 +1,11 @@
 -- If worlds have ranks, each fair schedule ends. From each world to which it leads, some free moves lead to a world with a rank.
-use Rattle.std.proofs.Common.{◌≡◌, ◌≢◌, ℕ, zero, suc, ◌+◌, ◌-◌, ◌<◌, ◌≤◌, Bool, true, false, List, [], ◌∷◌, ◌++◌, length, Some, Result}
-use Rattle.std.proofs.Common.{Ok, Err, refl, sym, ap, ◌∙◌, subst, arith}
-use Rattle.std.specs.List.{slice_get}
+use Rattle.std.proofs.Common.{◌≡◌, ◌≢◌, ℕ, zero, suc, ◌+◌, ◌-◌, ◌<◌, ◌≤◌, Bool, true, false, List, [], ◌∷◌, ◌++◌, length, Some, Result, Ok, Err, refl, sym, ap}
+use Rattle.std.{proofs.Common.{◌∙◌, subst, arith}, specs.List.slice_get}
 use mathlib.Core.Logic.{inl, inr, dite}
 use native.Mathlib.Decide.{ℕ_discrete}
-use Rattle.world_search.specs.Lists.{IsIn}
-use Rattle.world_search.specs.Systems.{run}
-use Rattle.world_search.proofs.Closed.{run-append}
-use Rattle.world_search.proofs.Lists.{get_low}
-use Rattle.fair_ends.specs.declared.rank.Rank.{Rank}
-use Rattle.fair_ends.specs.Fair.{AreRight, EndsUnder, IsBehind, IsEnd, IsFair, LeadBy, Makes, first_of}
-use Rattle.fair_ends.specs.Private.Ranks.{AreRanked, Leads}
-use Rattle.fair_ends.proofs.Ahead.{Passed, led_append, many, many_append, many_first, many_in, none_many, passed, taken}
+use Rattle.world_search.{specs.{Lists.IsIn, Systems.run}, proofs.{Closed.run-append, Lists.get_low}}
+use Rattle.fair_ends.specs.{declared.rank.Rank.Rank, Fair.{AreRight, EndsUnder, IsBehind, IsEnd, IsFair, LeadBy, Makes, first_of}, Private.Ranks.AreRanked}
+use Rattle.fair_ends.{specs.Private.Ranks.Leads, proofs.Ahead.{Passed, led_append, many, many_append, many_first, many_in, none_many, passed, taken}}
 
 module _ {W E : Type 0} (entry : W → ℕ → Result W E) (Free : W → ℕ → Type 0) (step : W → ℕ → Result W E) (Rests : W → Type 0) (most : ℕ)
     (ws : List W) (ranks : List Rank) (ranked : AreRanked entry Free step Rests most ws ranks) (right : AreRight entry Free Rests)

@@ -1,6 +1,5 @@
 -- What holds of a value that was found.
-use Rattle.std.proofs.Common.{◌≡◌, Option, Some, Result, Ok, Err, subst}
-use Rattle.std.specs.Prelude.{IfOk, IfSome}
+use Rattle.std.{proofs.Common.{◌≡◌, Option, Some, Result, Ok, Err, subst}, specs.Prelude.{IfOk, IfSome}}
 
 pub if_some : {A : Type 0} (P : A → Type 0) (o : Option A) (a : A) → o ≡ Some a → IfSome o P → P a
 if_some P o a is h = subst (λ x. IfSome x P) is h

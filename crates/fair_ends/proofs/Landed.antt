@@ -1,17 +1,9 @@
 -- Where schedules lead, by the numbers of a table.
 use Rattle.std.proofs.Common.{◌≡◌, ◌≢◌, ℕ, ◌+◌, ◌<◌, ◌≤◌, List, [], ◌++◌, length, get_or, take, Some, Result, Ok, Err, refl, sym, ap, ◌∙◌, subst, arith}
-use Rattle.std.specs.List.{slice_get}
-use Rattle.std.proofs.lemmas.Bool.{cases_order}
-use Rattle.std.proofs.lemmas.List.Sums.{fold_more}
-use Rattle.std.proofs.lemmas.Option.{same_Some}
+use Rattle.std.{proofs.lemmas.{Bool.cases_order, List.Sums.fold_more, Option.same_Some}, specs.List.slice_get}
 use mathlib.Core.Logic.{◌⊎◌, inl, inr}
-use Rattle.world_search.specs.Lists.{IsIn}
-use Rattle.world_search.specs.Systems.{entered, run}
-use Rattle.world_search.proofs.Closed.{run-append}
-use Rattle.world_search.proofs.Lists.{get_low}
-use Rattle.fair_ends.specs.declared.table.Edge.{Edge}
-use Rattle.fair_ends.specs.declared.table.Row.{Row}
-use Rattle.fair_ends.specs.Private.Tables.{fault, IsEdge, IsRow, IsStill, LandsOn, LeadsToWorld}
+use Rattle.world_search.{specs.{Lists.IsIn, Systems.{entered, run}}, proofs.{Closed.run-append, Lists.get_low}}
+use Rattle.fair_ends.specs.{declared.table.{Edge.Edge, Row.Row}, Private.Tables.{fault, IsEdge, IsRow, IsStill, LandsOn, LeadsToWorld}}
 
 module _ {W E : Type 0} (entry : W → ℕ → Result W E) (Free : W → ℕ → Type 0) (step : W → ℕ → Result W E) (most : ℕ) (ws : List W) where
   -- a result at the number of a world is that world

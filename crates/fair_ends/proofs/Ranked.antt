@@ -1,13 +1,9 @@
 -- Ranks of worlds, from the rows of a table.
-use Rattle.std.proofs.Common.{◌≡◌, ◌≢◌, ℕ, ◌<◌, ◌≤◌, List, [], length, Some, Result, Ok, Err, refl, subst, arith}
+use Rattle.std.proofs.{Common.{◌≡◌, ◌≢◌, ℕ, ◌<◌, ◌≤◌, List, [], length, Some, Result, Ok, Err, refl, subst, arith}, lemmas.Bool.cases_order}
 use Rattle.std.specs.List.{slice_get}
-use Rattle.std.proofs.lemmas.Bool.{cases_order}
 use mathlib.Core.Logic.{◌⊎◌, inl, inr}
 use Rattle.world_search.specs.Lists.{IsIn}
-use Rattle.fair_ends.specs.declared.rank.Rank.{Rank}
-use Rattle.fair_ends.specs.declared.table.Row.{Row}
-use Rattle.fair_ends.specs.Private.Ranks.{Falls, Leads, LeadsOn}
-use Rattle.fair_ends.specs.Private.Tables.{fault, IsRow, LandsOn}
+use Rattle.fair_ends.specs.{declared.{rank.Rank.Rank, table.Row.Row}, Private.{Ranks.{Falls, Leads, LeadsOn}, Tables.{fault, IsRow, LandsOn}}}
 
 module _ {W E : Type 0} (entry : W → ℕ → Result W E) (Free : W → ℕ → Type 0) (step : W → ℕ → Result W E) (Rests : W → Type 0) (most : ℕ)
     (ws : List W) (ranks : List Rank) where

@@ -1,18 +1,11 @@
 -- Rows of a table, as worlds are added.
 use Rattle.std.proofs.Common.{◌≡◌, ℕ, ◌+◌, ◌<◌, ◌≤◌, List, [], ◌∷◌, ◌++◌, length, Some, Result, Ok, Err, sym, ◌∙◌, subst, arith, length-append}
-use Rattle.std.specs.List.{slice_get}
+use Rattle.std.{proofs.lemmas.Option.slice_get_within, specs.List.slice_get}
 use mathlib.Core.Logic.{inl, inr}
-use Rattle.world_search.specs.Landings.{EntersAt}
+use Rattle.world_search.{specs.{Landings.EntersAt, declared.landings.Entered.Entered, Lists.IsMore}, proofs.Lists.{get_end, more_back, more_get}}
+use Rattle.fair_ends.specs.{declared.table.{Edge.Edge, Row.Row}, Fair.Makes, Private.Tables.{IsTarget, LandsOn, AreEdges, IsEdge, IsRow, AreRows}}
 use Rattle.world_search.specs.declared.landings.Landing.TheVariants as to
-use Rattle.world_search.specs.declared.landings.Entered.{Entered}
 use Rattle.world_search.specs.declared.landings.Entered.TheVariants as came
-use Rattle.world_search.specs.Lists.{IsMore}
-use Rattle.std.proofs.lemmas.Option.{slice_get_within}
-use Rattle.world_search.proofs.Lists.{get_end, more_back, more_get}
-use Rattle.fair_ends.specs.declared.table.Edge.{Edge}
-use Rattle.fair_ends.specs.declared.table.Row.{Row}
-use Rattle.fair_ends.specs.Fair.{Makes}
-use Rattle.fair_ends.specs.Private.Tables.{IsTarget, LandsOn, AreEdges, IsEdge, IsRow, AreRows}
 
 module _ {W E : Type 0} (entry : W → ℕ → Result W E) (Free : W → ℕ → Type 0) (step : W → ℕ → Result W E) (most : ℕ) where
   pub lands_on : (ws : List W) (es : List E) (it : Entered) (t : ℕ) (y : Result W E) → IsTarget it t → EntersAt ws es it y → LandsOn ws t y

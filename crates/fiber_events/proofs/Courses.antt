@@ -1,22 +1,14 @@
 -- The way of a schedule, entry by entry.
 use Rattle.std.proofs.Common.{append-nil, ◌≡◌, ◌≢◌, ℕ, ◌+◌, ◌<◌, List, [], ◌++◌, length, get_or, take, Ok, Err, refl, sym, ap, ◌∙◌, subst, arith}
-use Rattle.std.specs.Prelude.{Option, Some, None, Result, IfOk, OnOk, drop}
-use Rattle.std.proofs.lemmas.List.{length-take-le, take-append-drop, take_more}
-use Rattle.std.proofs.lemmas.List.Folds.{fold_stuck}
-use Rattle.std.proofs.lemmas.List.Sums.{fold_more}
+use Rattle.std.{proofs.lemmas.List.{length-take-le, take-append-drop, take_more, Folds.fold_stuck, Sums.fold_more}, specs.Prelude.{Option, Some, None, Result}}
+use Rattle.std.specs.Prelude.{IfOk, OnOk, drop}
 use Rattle.derived_ops.specs.Tree.{Tree}
 use Rattle.fiber_frames.specs.Fiber.{Fiber}
-use Rattle.cell_registry.specs.declared.limits.Limits.{Limits}
-use Rattle.cell_registry.specs.declared.limits.RunError.{RunError}
+use Rattle.cell_registry.specs.{declared.limits.{Limits.Limits, RunError.RunError}, Cells.Cells}
+use Rattle.scheduled_core.specs.{Core.{World, core, entered, first_world, reported}, Fitting.world_of}
+use Rattle.fiber_events.specs.{declared.{event.Event.Event, telling.Course.Course}, Events.{IsEntry, refused, AreEvents, one_more, AreMade, some, led}}
+use Rattle.fiber_events.{specs.Private.Telling.{IsCourse, end_of, ended}, proofs.Foreseen.stuck}
 use Rattle.cell_registry.specs.declared.limits.RunError.TheVariants as run
-use Rattle.cell_registry.specs.Cells.{Cells}
-use Rattle.scheduled_core.specs.Core.{World, core, entered, first_world, reported}
-use Rattle.scheduled_core.specs.Fitting.{world_of}
-use Rattle.fiber_events.specs.declared.event.Event.{Event}
-use Rattle.fiber_events.specs.declared.telling.Course.{Course}
-use Rattle.fiber_events.specs.Events.{IsEntry, refused, AreEvents, one_more, AreMade, some, led}
-use Rattle.fiber_events.specs.Private.Telling.{IsCourse, end_of, ended}
-use Rattle.fiber_events.proofs.Foreseen.{stuck}
 
 module _ (k : Limits) (w : World) (s : List ℕ) (i : ℕ) (within : i < length s) where
   pub led_more : led k w (take (i + 1) s) ≡ entered k (led k w (take i s)) (get_or s i 0)

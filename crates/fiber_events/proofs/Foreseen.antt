@@ -1,26 +1,14 @@
 -- Where an entry leads, by the move that was foreseen.
 use Rattle.std.proofs.Common.{◌≡◌, ℕ, zero, suc, ◌+◌, List, [], ◌∷◌, ◌++◌, length, set, Ok, Err, refl, sym, ap, ◌∙◌, subst, append-nil, append_assoc}
-use Rattle.std.specs.Prelude.{Option, Some, None, Result}
-use Rattle.std.specs.List.{slice_get}
-use Rattle.std.proofs.lemmas.List.Sums.{fold_push}
+use Rattle.std.{proofs.lemmas.List.Sums.fold_push, specs.{Prelude.{Option, Some, None, Result}, List.slice_get}}
 use Rattle.effect_term.specs.declared.reply.Reply.{Reply}
-use Rattle.fiber_frames.specs.declared.mark.Mark.{Mark}
-use Rattle.fiber_frames.specs.Fiber.{Fiber, ask_of, move, silent_move}
-use Rattle.cell_registry.specs.declared.limits.Limits.{Limits}
-use Rattle.cell_registry.specs.declared.limits.RunError.{RunError}
-use Rattle.cell_registry.specs.declared.call.Call.{Call}
-use Rattle.cell_registry.specs.Cells.{refusal, reply_of}
-use Rattle.cell_registry.specs.Plain.{PlainView}
-use Rattle.scheduled_core.specs.declared.wish.Wish.{Wish}
-use Rattle.scheduled_core.specs.declared.wish.Wish.TheVariants.{Alone, Nothing, Shared}
-use Rattle.scheduled_core.specs.Core.{World, answered, born, called as the_call, entered, turned, wish_of, wished}
-use Rattle.scheduled_core.specs.Fitting.{world_of}
-use Rattle.scheduled_core.specs.Private.Moving.{Refuses}
-use Rattle.fiber_events.specs.declared.event.Deed.{Deed}
-use Rattle.fiber_events.specs.declared.event.Deed.TheVariants as deed
-use Rattle.fiber_events.specs.declared.event.Event.{Event}
-use Rattle.fiber_events.specs.Events.{IsDeed, calls, alone, rests, IsEntry, moves, behind, AreEvents, one_more, led}
+use Rattle.fiber_frames.specs.{declared.mark.Mark.Mark, Fiber.{Fiber, ask_of, move, silent_move}}
+use Rattle.cell_registry.specs.{declared.{limits.{Limits.Limits, RunError.RunError}, call.Call.Call}, Cells.{refusal, reply_of}, Plain.PlainView}
+use Rattle.scheduled_core.specs.{declared.wish.Wish.{Wish, TheVariants.{Alone, Nothing, Shared}}, Core.{World, answered, born, called as the_call, entered}}
+use Rattle.scheduled_core.specs.{Core.{turned, wish_of, wished}, Fitting.world_of, Private.Moving.Refuses}
+use Rattle.fiber_events.specs.{declared.event.{Deed.Deed, Event.Event}, Events.{IsDeed, calls, alone, rests, IsEntry, moves, behind, AreEvents, one_more, led}}
 use Rattle.fiber_events.specs.Private.Telling.{IsForeseen}
+use Rattle.fiber_events.specs.declared.event.Deed.TheVariants as deed
 
 -- an element that was set, with more at the end
 pub get_put : {A : Type 0} (xs ys : List A) (f : ℕ) (a b : A) → slice_get xs f ≡ Some a → slice_get (set xs f b ++ ys) f ≡ Some b

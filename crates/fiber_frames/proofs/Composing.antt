@@ -1,10 +1,7 @@
 -- Numbers of masks that are changed twice, and the masks on the path of what came of it.
-use Rattle.std.proofs.Common.{◌≡◌, ℕ, List, [], ◌∷◌, map, refl, ap, ap₂, ◌∙◌}
-use Rattle.std.proofs.Math.Path.{fun_ext}
-use Rattle.derived_ops.specs.Tree.{Act, Cancel, Guarded, Handled, If0, Join, Let, Loop, Make, Mask, Masked, Named}
-use Rattle.derived_ops.specs.Tree.{Note, On_cancel, Pair, Poll, Polled, Pure, Raise, Seq, Start, Tree, Uncancelable}
-use Rattle.fiber_frames.specs.Path.{Broken, Final, Over, Running, Runs}
-use Rattle.fiber_frames.specs.Unmarked.{all_renumbered, mask_to, masks_first, masks_of, masks_on, number_to, renumbered, run_renumbered}
+use Rattle.fiber_frames.proofs.Prelude.{◌≡◌, ℕ, List, [], ◌∷◌, map, refl, ap, ap₂, ◌∙◌, fun_ext, Guarded, Handled, If0, Join, Let, Loop, Make, Mask, Masked}
+use Rattle.fiber_frames.proofs.Prelude.{Named, Note, On_cancel, Pair, Poll, Polled, Seq, Start, Tree, Uncancelable, Final, Running, Runs, all_renumbered}
+use Rattle.fiber_frames.proofs.Prelude.{mask_to, masks_first, masks_of, masks_on, number_to, renumbered, run_renumbered}
 
 -- first those of fiber i, and then, where it is all in fiber c
 module _ (i c : ℕ) (one two : ℕ → ℕ → Mask) where
@@ -17,11 +14,7 @@ module _ (i c : ℕ) (one two : ℕ → ℕ → Mask) where
     mask_twice (Pair g m) = refl
 
     pub twice : (t : Tree) → renumbered c two (renumbered i one t) ≡ renumbered c both t
-    twice (Pure v) = refl
-    twice (Raise v) = refl
-    twice (Act a) = refl
     twice (Note h q) = ap (Note h) (mask_twice q)
-    twice (Cancel f) = refl
     twice (Let e x k) = ap₂ (λ a b. Let a x b) (twice e) (twice k)
     twice (Seq w e k) = ap₂ (λ a b. Seq w a b) (twice e) (twice k)
     twice (Handled e x h) = ap₂ (λ a b. Handled a x b) (twice e) (twice h)
@@ -38,6 +31,7 @@ module _ (i c : ℕ) (one two : ℕ → ℕ → Mask) where
     twice (Masked m e) = ap₂ (λ a b. Masked a b) (numbers m) (twice e)
     twice (Polled q e) = ap₂ (λ a b. Polled a b) (mask_twice q) (twice e)
     twice (Guarded e fin) = ap₂ (λ a b. Guarded a b) (twice e) (twice fin)
+    twice _ = refl
 
     all_twice : (gs : List Tree) → all_renumbered c two (all_renumbered i one gs) ≡ all_renumbered c both gs
     all_twice [] = refl
@@ -46,8 +40,7 @@ module _ (i c : ℕ) (one two : ℕ → ℕ → Mask) where
     pub run_twice : (w : Running) → run_renumbered c two (run_renumbered i one w) ≡ run_renumbered c both w
     run_twice (Runs t) = ap Runs (twice t)
     run_twice (Final m gs) = ap₂ (λ (n : ℕ) (l : List Tree). Final n l) (numbers m) (all_twice gs)
-    run_twice (Over o) = refl
-    run_twice Broken = refl
+    run_twice _ = refl
 
 -- only what becomes of each mask counts
 pub same_to : (one two : ℕ → ℕ → Mask) → ((g m : ℕ) → one g m ≡ two g m) → one ≡ two
@@ -70,5 +63,4 @@ module _ (i : ℕ) (to : ℕ → ℕ → Mask) where
   pub masks_of_to : (w : Running) → masks_of (run_renumbered i to w) ≡ map (number_to i to) (masks_of w)
   masks_of_to (Runs t) = masks_on_to t
   masks_of_to (Final m gs) = ap (λ (l : List ℕ). number_to i to m ∷ l) (masks_first_to gs)
-  masks_of_to (Over o) = refl
-  masks_of_to Broken = refl
+  masks_of_to _ = refl

@@ -1,20 +1,11 @@
 -- What a fiber runs names no mask that isn't entered yet: neither its own next one, nor one of a fiber that it may start.
-use Rattle.std.proofs.Common.{◌≡◌, ◌≢◌, inl, inr, ◌<◌, ◌≤◌, ℕ, ◌+◌, Bool, true, false, if◌then◌else◌, nat_eq, nat_lt, List, [], ◌∷◌, map, suc, refl, sym, ap, ap₂, ◌∙◌, subst, arith}
-use Rattle.std.specs.Prelude.{◌&&◌}
-use Rattle.std.proofs.lemmas.Bool.{eq-eqb, eqb-false, eqb-true, ltb-false, ltb-true, ne_eqb, lt-ltb}
-use Rattle.derived_ops.specs.Codes.{IsCode}
-use Rattle.derived_ops.specs.Reading.{source_of}
+use Rattle.fiber_frames.proofs.Prelude.{◌≡◌, ◌≢◌, inl, inr, ◌<◌, ◌≤◌, ℕ, ◌+◌, Bool, true, false, if◌then◌else◌, nat_eq, nat_lt, List, [], ◌∷◌, map, suc, refl}
+use Rattle.fiber_frames.proofs.Prelude.{sym, ap, ap₂, ◌∙◌, subst, arith, ◌&&◌, eq-eqb, eqb-false, eqb-true, ltb-false, ltb-true, ne_eqb, lt-ltb, IsCode}
+use Rattle.fiber_frames.proofs.Prelude.{source_of, Put, mask_at, Guarded, Handled, If0, Join, Let, Loop, Make, Mask, Masked, Named, Note, On_cancel, Pair, Poll}
+use Rattle.fiber_frames.proofs.Prelude.{Polled, Seq, Start, Tree, Uncancelable, Reply, Running, Runs, Born, RowKind, Fiber, Looks, Move_case, child, move}
+use Rattle.fiber_frames.proofs.Prelude.{move_case, move_in, term_born, Reached, born, broken, moved, root, mask_to, masks_of, renumbered, run_renumbered}
 use Rattle.derived_ops.proofs.ReadBack.{expansion_has, has_words}
-use Rattle.derived_ops.specs.Put.{Put, mask_at}
-use Rattle.derived_ops.specs.Tree.{Act, Cancel, Guarded, Handled, If0, Join, Let, Loop, Make, Mask, Masked, Named}
-use Rattle.derived_ops.specs.Tree.{Note, On_cancel, Pair, Poll, Polled, Pure, Raise, Seq, Start, Tree, Uncancelable}
-use Rattle.effect_term.specs.declared.reply.Reply.{Reply}
-use Rattle.effect_term.specs.declared.reply.Reply.TheVariants as reply
-use Rattle.fiber_frames.specs.Path.{Running, Runs}
-use Rattle.fiber_frames.specs.Rows.{Born, Ceded, Ended, Plain, RowKind, Waited}
-use Rattle.fiber_frames.specs.Fiber.{Cuts, Fiber, Looks, Move_case, Reduces, Rests, begins, child, kind_of, lost, move, move_case, move_in, term_born}
-use Rattle.fiber_frames.specs.Reached.{Reached, born, broken, moved, root}
-use Rattle.fiber_frames.specs.Unmarked.{mask_to, masks_of, renumbered, run_renumbered}
+use Rattle.fiber_frames.specs.Fiber.{kind_of}
 use Rattle.fiber_frames.proofs.Marks.Cutting.{Static}
 use Rattle.fiber_frames.proofs.Marks.Runs.{LiveRun, live_run}
 use Rattle.fiber_frames.proofs.Reaching.{reached_kept}
@@ -49,12 +40,7 @@ of_second false b h = absurd (cc)
 
 module _ (i : ℕ) (to : ℕ → ℕ → Mask) where
   pub words_stay : (t : Tree) → has_words t ≡ true → renumbered i to t ≡ t
-  words_stay (Pure v) h = refl
-  words_stay (Raise v) h = refl
-  words_stay (Act a) h = refl
-  words_stay (Note e (Named s)) h = refl
   words_stay (Note e (Pair g m)) h = absurd (cc)
-  words_stay (Cancel f) h = refl
   words_stay (Let e x k) h = ap₂ (λ a b. Let a x b) (words_stay e (of_first _ _ h)) (words_stay k (of_second (has_words e) _ h))
   words_stay (Seq w e k) h = ap₂ (λ a b. Seq w a b) (words_stay e (of_first _ _ h)) (words_stay k (of_second (has_words e) _ h))
   words_stay (Handled e x k) h = ap₂ (λ a b. Handled a x b) (words_stay e (of_first _ _ h)) (words_stay k (of_second (has_words e) _ h))
@@ -74,6 +60,7 @@ module _ (i : ℕ) (to : ℕ → ℕ → Mask) where
   words_stay (Masked m e) h = absurd (cc)
   words_stay (Polled q e) h = absurd (cc)
   words_stay (Guarded e fin) h = absurd (cc)
+  words_stay _ h = refl
 
 code_fresh : (t : Tree) → IsCode t → Fresh 0 0 (Runs t)
 unfolding IsCode
@@ -87,11 +74,7 @@ module _ (i c : ℕ) (to : ℕ → ℕ → Mask) where
   same_mask_to (Pair g m) = refl
 
   static_own : (t : Tree) → Static t → renumbered c to t ≡ renumbered i to t
-  static_own (Pure v) h = refl
-  static_own (Raise v) h = refl
-  static_own (Act a) h = refl
   static_own (Note e q) h = ap (Note e) (same_mask_to q)
-  static_own (Cancel f) h = refl
   static_own (Let e x k) h = ap₂ (λ a b. Let a x b) (static_own e h.0) (static_own k h.1)
   static_own (Seq w e k) h = ap₂ (λ a b. Seq w a b) (static_own e h.0) (static_own k h.1)
   static_own (Handled e x k) h = ap₂ (λ a b. Handled a x b) (static_own e h.0) (static_own k h.1)
@@ -108,6 +91,7 @@ module _ (i c : ℕ) (to : ℕ → ℕ → Mask) where
   static_own (Masked m e) h = absurd h
   static_own (Polled q e) h = absurd h
   static_own (Guarded e fin) h = absurd h
+  static_own _ h = refl
 
 -- ---- moves
 module _ (number : ℕ → ℕ → ℕ) (apart : Apart number) where
@@ -138,18 +122,14 @@ module _ (number : ℕ → ℕ → ℕ) (apart : Apart number) where
       where
         go : (c : Move_case) → (move_in (bare f.running) r c).running ≡ (move_in f r c).running
         go Looks = refl
-        go Cuts = refl
-        go Reduces = refl
-        go Rests = refl
+        go _ = refl
 
     unmarks_kind : (r : Reply) → kind_of (bare f.running) r ≡ kind_of f r
     unmarks_kind r = go (move_case f)
       where
         go : (c : Move_case) → Rattle.fiber_frames.specs.Fiber.kind_in (bare f.running) r c ≡ Rattle.fiber_frames.specs.Fiber.kind_in f r c
         go Looks = refl
-        go Cuts = refl
-        go Reduces = refl
-        go Rests = refl
+        go _ = refl
 
     move_stays : (r : Reply) → ((move f r).next ≡ f.next + 1 → number f.number f.next ≡ f.next) →
         run_renumbered f.number to (move f r).running ≡ (move f r).running
@@ -159,17 +139,14 @@ module _ (number : ℕ → ℕ → ℕ) (apart : Apart number) where
 
     term_stays : (k : RowKind) → term_born (kind_renumbered (renumbered f.number to) k) ≡ renumbered f.number to (term_born k)
     term_stays (Born e) = refl
-    term_stays Plain = refl
-    term_stays Waited = refl
-    term_stays Ceded = refl
-    term_stays (Ended o) = refl
+    term_stays _ = refl
 
     child_stays : (n : ℕ) → number f.number f.next ≡ f.next →
-        renumbered f.number to (term_born (kind_of f (reply.Number n))) ≡ term_born (kind_of f (reply.Number n))
+        renumbered f.number to (term_born (kind_of f (Reply.Number n))) ≡ term_born (kind_of f (Reply.Number n))
     child_stays n fits =
-        let kind = same_kind f to f.next closed (λ m. refl) (kept_all f.number (masks_of f.running)) (ap (Pair f.number) fits) (reply.Number n) in
-        sym (term_stays (kind_of f (reply.Number n)))
-        ∙ ap term_born (sym kind ∙ ap (λ (w : Running). kind_of (bare w) (reply.Number n)) same ∙ unmarks_kind (reply.Number n))
+        let kind = same_kind f to f.next closed (λ m. refl) (kept_all f.number (masks_of f.running)) (ap (Pair f.number) fits) (Reply.Number n) in
+        sym (term_stays (kind_of f (Reply.Number n)))
+        ∙ ap term_born (sym kind ∙ ap (λ (w : Running). kind_of (bare w) (Reply.Number n)) same ∙ unmarks_kind (Reply.Number n))
 
 pub fresh_move : (f : Fiber) (r : Reply) → LiveRun f.running → Fresh f.number f.next f.running → Fresh (move f r).number (move f r).next (move f r).running
 fresh_move f r live h number apart stays =
@@ -182,13 +159,11 @@ fresh_move f r live h number apart stays =
   where
     same_number : (c : Move_case) → (move_in f r c).number ≡ f.number
     same_number Looks = refl
-    same_number Cuts = refl
-    same_number Reduces = refl
-    same_number Rests = refl
+    same_number _ = refl
 
 pub fresh_child : (f : Fiber) (n : ℕ) → LiveRun f.running → f.number < n → Fresh f.number f.next f.running → Fresh n 0 (child f n).running
 fresh_child f n live l h number apart stays =
-    let e = term_born (kind_of f (reply.Number n)) in
+    let e = term_born (kind_of f (Reply.Number n)) in
     let below : (g m : ℕ) → g < n → number g m ≡ m = λ g m low. stays g m (omega arith) (λ q. omega (arith, q)) in
     let before : Stays f.number f.next number = λ g m low k. below g m (omega arith) in
     ap Runs (static_own f.number n (each_own number) e (child_static f n live) ∙

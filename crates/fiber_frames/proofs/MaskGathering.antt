@@ -1,19 +1,10 @@
 -- The masks of frames, gathered one frame after another.
-use Rattle.std.proofs.Common.{◌≡◌, ◌<◌, ℕ, zero, suc, ◌+◌, List, [], ◌∷◌, ◌++◌, get_or, length, take, refl, sym, ap, ◌∙◌, arith, append_assoc}
-use Rattle.fiber_frames.specs.declared.frame.Frame.{Frame}
-use Rattle.fiber_frames.specs.declared.frame.Frame.TheVariants as frame
-use Rattle.fiber_frames.specs.Shapes.{numbers_in}
+use Rattle.fiber_frames.proofs.Prelude.{◌≡◌, ◌<◌, ℕ, zero, suc, ◌+◌, List, [], ◌∷◌, ◌++◌, get_or, length, take, refl, sym, ap, ◌∙◌, arith, append_assoc, Frame}
+use Rattle.fiber_frames.proofs.Prelude.{numbers_in}
 
 before : (f : Frame) (xs : List Frame) → numbers_in (f ∷ xs) ≡ numbers_in (f ∷ []) ++ numbers_in xs
-before (frame.Let k n) xs = refl
-before (frame.Seq w k n) xs = refl
-before (frame.Again k z n) xs = refl
-before (frame.Forever k n) xs = refl
-before (frame.Handle k n) xs = refl
-before (frame.Guarded k n) xs = refl
-before (frame.Masked m) xs = refl
-before (frame.Polled m) xs = refl
-before (frame.Idle q) xs = refl
+before (Frame.Let k n) xs = refl
+before _ xs = refl
 
 taken : (fs : List Frame) (i : ℕ) (d : Frame) → i < length fs → numbers_in (take (suc i) fs) ≡ numbers_in (take i fs) ++ numbers_in (get_or fs i d ∷ [])
 taken [] i d l = absurd (omega arith)

@@ -1,27 +1,20 @@
 -- What a fiber names, over its moves.
-use Rattle.std.proofs.Common.{◌≡◌, ℕ, ◌+◌, ◌≤◌, List, [], ◌∷◌, ◌++◌, refl, sym, ap, ◌∙◌, subst, arith, replicate, length}
-use Rattle.derived_ops.specs.Tree.{Act, Action, Add, Await, Cancel, Canceled, Cede, Complete, Ending, Get}
-use Rattle.derived_ops.specs.Tree.{Guarded, Handle, Handled, If0, Join, Known, Let, Loop, Make, Mask, Masked}
-use Rattle.derived_ops.specs.Tree.{Modify, Never, Note, On_cancel, Open_slot, Pair, Poll, Polled, Pure, Raise}
-use Rattle.derived_ops.specs.Tree.{Request, Say, Seq, Set, Start, Tree, Uncancelable}
-use Rattle.effect_term.specs.declared.reply.Reply.{Reply}
-use Rattle.effect_term.specs.declared.reply.Reply.TheVariants as reply
-use Rattle.fiber_frames.specs.Path.{At_final, At_term, Broken, Final, Over, Running, Runs, focus}
-use Rattle.fiber_frames.specs.Rows.{Born, Ceded, Ended, RowKind, Plain, Row, Waited, row_at}
-use Rattle.fiber_frames.specs.Fiber.{Cuts, Fiber, Looks, Move_case, Reduces, Rests, ask_in, ask_of, begins}
-use Rattle.fiber_frames.specs.Fiber.{child, cut, kind_in, kind_of, move, move_case, move_in, row_of, term_born}
+use Rattle.fiber_frames.proofs.Prelude.{◌≡◌, ℕ, ◌+◌, ◌≤◌, List, [], ◌∷◌, ◌++◌, refl, sym, ap, ◌∙◌, subst, arith, replicate, length, Act, Action, Await, Cancel}
+use Rattle.fiber_frames.proofs.Prelude.{Complete, Ending, Get, Guarded, Handle, Handled, If0, Join, Known, Let, Loop, Make, Mask, Masked, Modify, On_cancel}
+use Rattle.fiber_frames.proofs.Prelude.{Open_slot, Pair, Poll, Polled, Request, Seq, Set, Start, Tree, Uncancelable, Reply, At_final, At_term, Final, Running}
+use Rattle.fiber_frames.proofs.Prelude.{Runs, focus, Born, RowKind, Row, row_at, Cuts, Fiber, Move_case, Reduces, Rests, ask_in, ask_of, begins, child, cut}
+use Rattle.fiber_frames.proofs.Prelude.{kind_in, move, move_case, move_in, row_of, term_born, Reached, IsCode, ActionFits, AllClosed, A_deferred, A_fiber}
+use Rattle.fiber_frames.proofs.Prelude.{A_ref, Closed, Given, HandleFits, IsMore, No_handle, Place, given_of, made_by, AskNamed, NamedBeginning, NamedLive}
+use Rattle.fiber_frames.proofs.Prelude.{NamedRun, NumberGiven}
+use Rattle.fiber_frames.specs.Fiber.{kind_of}
 use Rattle.fiber_frames.proofs.CallBeforeReply.{call_same}
-use Rattle.fiber_frames.proofs.Walk.{End, Gives, Throws, Works, active_root, end_of, finalizers_below, masks_below, root_row, row_root, walk}
+use Rattle.fiber_frames.proofs.Walk.{End, Works, active_root, end_of, finalizers_below, masks_below, root_row, row_root, walk}
 use Rattle.fiber_frames.proofs.Marks.Actions.{If_born}
 use Rattle.fiber_frames.proofs.Marks.Kept.{Kept, cut_once}
 use Rattle.fiber_frames.proofs.Marks.Moves.{cut_run, noted}
 use Rattle.fiber_frames.proofs.Reaching.{reached_kept}
-use Rattle.fiber_frames.specs.Reached.{Reached}
-use Rattle.derived_ops.specs.Codes.{IsCode}
 use Rattle.derived_ops.proofs.Coded.{named_code}
-use Rattle.derived_ops.specs.Naming.{ActionFits, AllClosed, A_deferred, A_fiber, A_ref, Closed, Given}
-use Rattle.derived_ops.specs.Naming.{HandleFits, IsMore, Named, No_handle, Place, given_of, made_by}
-use Rattle.fiber_frames.specs.Naming.{AskNamed, NamedBeginning, NamedLive, NamedRun, NumberGiven}
+use Rattle.derived_ops.specs.Naming.{Named}
 use Rattle.fiber_frames.proofs.Names.{RowNamed, closed_live, row_named}
 
 -- ---- more numbers
@@ -44,17 +37,10 @@ module _ (b c : Given) (more : IsMore b c) where
   action_more g (Modify x v) h = handle_more g A_ref x h
   action_more g (Complete x v) h = handle_more g A_deferred x h
   action_more g (Await x) h = handle_more g A_deferred x h
-  action_more g (Add v w) h = tt
-  action_more g (Say v) h = tt
-  action_more g Cede h = tt
-  action_more g Never h = tt
-  action_more g Canceled h = tt
+  action_more g _ h = tt
 
   named_more : (g : List Place) (t : Tree) → Named b g t → Named c g t
-  named_more g (Pure v) h = tt
-  named_more g (Raise v) h = tt
   named_more g (Act a) h = action_more g a h
-  named_more g (Note e q) h = tt
   named_more g (Cancel f) h = handle_more g A_fiber f h
   named_more g (Let e x k) h = (h.0, (named_more g e h.1.0, named_more (g ++ No_handle ∷ []) k h.1.1))
   named_more g (Seq w e k) h = (named_more g e h.0, named_more g k h.1)
@@ -73,6 +59,7 @@ module _ (b c : Given) (more : IsMore b c) where
   named_more g (Masked m e) h = h
   named_more g (Polled q e) h = h
   named_more g (Guarded e fin) h = h
+  named_more g _ h = tt
 
   closed_more : (t : Tree) → Closed b t → Closed c t
   closed_more t h = (h.0, named_more (replicate h.0 No_handle) t h.1)
@@ -88,26 +75,12 @@ module _ (b c : Given) (more : IsMore b c) where
   live_more (Guarded e fin) h = (live_more e h.0, closed_more fin h.1)
   live_more (Masked m e) h = live_more e h
   live_more (Polled q e) h = live_more e h
-  live_more (Pure v) h = closed_more (Pure v) h
-  live_more (Raise v) h = closed_more (Raise v) h
-  live_more (Act a) h = closed_more (Act a) h
-  live_more (Note e q) h = closed_more (Note e q) h
-  live_more (Cancel f) h = closed_more (Cancel f) h
-  live_more (If0 v s e) h = closed_more (If0 v s e) h
-  live_more (Join f x s y e d) h = closed_more (Join f x s y e d) h
-  live_more (Make m x k) h = closed_more (Make m x k) h
-  live_more (Start x e k) h = closed_more (Start x e k) h
-  live_more (Loop t e) h = closed_more (Loop t e) h
-  live_more (Uncancelable x e) h = closed_more (Uncancelable x e) h
-  live_more (Poll q e) h = closed_more (Poll q e) h
-  live_more (On_cancel e fin) h = closed_more (On_cancel e fin) h
+  live_more t h = closed_more t h
 
   pub run_more : (w : Running) → NamedRun b w → NamedRun c w
   run_more (Runs t) h = live_more t h
-  run_more (Final m []) h = tt
   run_more (Final m (g ∷ gs)) h = (live_more g h.0, all_more gs h.1)
-  run_more (Over o) h = tt
-  run_more Broken h = tt
+  run_more _ h = tt
 
 -- ---- rows of a fiber
 record RunNamed (b : Given) (i : ℕ) (r : Reply) (a : Row Running) : Type 0 where
@@ -117,27 +90,23 @@ record RunNamed (b : Given) (i : ℕ) (r : Reply) (a : Row Running) : Type 0 whe
 
 module _ (b : Given) (i n : ℕ) (r : Reply) where
   term_named : (E : End) (a : Row Tree) → RowNamed b i r a → RunNamed b i r (root_row i n At_term E a)
-  term_named (Gives v) a h = record { becomes = λ g. tt; born = tt; asks = tt }
-  term_named (Throws v) a h = record { becomes = λ g. tt; born = tt; asks = tt }
   term_named Works a h = record { becomes = h.becomes; born = h.born; asks = h.asks }
+  term_named _ a h = record { becomes = λ g. tt; born = tt; asks = tt }
 
   finals_named : (m : ℕ) (gs : List Tree) → AllClosed b gs → NamedRun b (Final m gs)
   finals_named m [] h = tt
   finals_named m (g ∷ gs) h = (closed_live b g h.0, h.1)
 
   final_named : (m : ℕ) (gs : List Tree) → AllClosed b gs → (E : End) (a : Row Tree) → RowNamed b i r a → RunNamed b i r (root_row i n (At_final m gs) E a)
-  final_named m gs c (Gives v) a h = record { becomes = λ g. finals_named m gs c; born = tt; asks = tt }
-  final_named m gs c (Throws v) a h = record { becomes = λ g. finals_named m gs c; born = tt; asks = tt }
   final_named m gs c Works a h = record { becomes = λ g. (h.becomes g, c); born = h.born; asks = h.asks }
+  final_named m gs c _ a h = record { becomes = λ g. finals_named m gs c; born = tt; asks = tt }
 
   run_named : (w : Running) → NamedRun b w → RunNamed b i r (row_at i n r (focus w) w)
   run_named (Runs t) h = subst (RunNamed b i r) (sym (row_root i n r At_term t)) (term_named (end_of t) (walk i n r [] t) (row_named b i n r t [] h))
-  run_named (Final m []) h = record { becomes = λ g. tt; born = tt; asks = tt }
   run_named (Final m (g ∷ gs)) h =
       subst (RunNamed b i r) (sym (row_root i n r (At_final m gs) g))
       (final_named m gs h.1 (end_of g) (walk i n r (Pair i m ∷ []) g) (row_named b i n r g (Pair i m ∷ []) h.0))
-  run_named (Over o) h = record { becomes = λ g. tt; born = tt; asks = tt }
-  run_named Broken h = record { becomes = λ g. tt; born = tt; asks = tt }
+  run_named _ h = record { becomes = λ g. tt; born = tt; asks = tt }
 
 -- ---- moves
 all-append : (b : Given) (a : List Tree) (g : Tree) → AllClosed b a → Closed b g → AllClosed b (a ++ g ∷ [])
@@ -163,48 +132,41 @@ cut_named : (b : Given) (f : Fiber) (t : Tree) → f.running ≡ Runs t → Name
 cut_named b f t e h =
     let after : NamedFiber b
     (noted f (Final f.next (finalizers_below t)) (f.next + 1) (Rattle.fiber_frames.specs.declared.mark.Mark.TheVariants.Cut ∷ [])) =
-    finals_named b f.number f.next reply.Done f.next (finalizers_below t) (pending_named b t (subst (NamedRun b) e h)) in
+    finals_named b f.number f.next Reply.Done f.next (finalizers_below t) (pending_named b t (subst (NamedRun b) e h)) in
     subst (NamedFiber b) (sym (cut_run f t e)) after
 
-same_call : (f : Fiber) (r : Reply) → (row_of f r).call ≡ (row_of f reply.Done).call
-same_call f r = call_same f.number f.next f.next r reply.Done (focus f.running) f.running
+same_call : (f : Fiber) (r : Reply) → (row_of f r).call ≡ (row_of f Reply.Done).call
+same_call f r = call_same f.number f.next f.next r Reply.Done (focus f.running) f.running
 
 -- what is asked was given, or is the fiber itself
 pub ask_named : (b : Given) (f : Fiber) → NamedFiber b f → AskNamed b f.number (ask_of f)
 ask_named b f h = go (move_case f)
   where
     go : (c : Move_case) → AskNamed b f.number (ask_in f c)
-    go Looks = tt
-    go Cuts = tt
-    go Reduces = (row_here b f reply.Done h).asks
-    go Rests = (row_here b f reply.Done h).asks
+    go Reduces = (row_here b f Reply.Done h).asks
+    go Rests = (row_here b f Reply.Done h).asks
+    go _ = tt
 
 -- what comes of a move names what was given, with the number that it was answered
 move_named : (b : Given) (f : Fiber) (r : Reply) → Kept f → NamedFiber b f → NumberGiven b (ask_of f) r → NamedFiber b (move f r)
 move_named b f r k h g = go (move_case f) refl g
   where
     go : (c : Move_case) → move_case f ≡ c → NumberGiven b (ask_in f c) r → NamedFiber b (move_in f r c)
-    go Looks e g = h
     go Cuts e g = let at = cut_once f k e in cut_named b f at.0 at.1 h
     go Reduces e g = (row_here b f r h).becomes (subst (λ a. NumberGiven b a r) (sym (same_call f r)) g)
-    go Rests e g = h
+    go _ e g = h
 
 -- what is started is closed
-child_closed : (b : Given) (f : Fiber) (n : ℕ) → NamedFiber b f → Closed b (term_born (kind_of f (reply.Number n)))
-child_closed b f n h = started (kind_of f (reply.Number n)) (go (move_case f))
+child_closed : (b : Given) (f : Fiber) (n : ℕ) → NamedFiber b f → Closed b (term_born (kind_of f (Reply.Number n)))
+child_closed b f n h = started (kind_of f (Reply.Number n)) (go (move_case f))
   where
-    go : (c : Move_case) → If_born (kind_in f (reply.Number n) c) (Closed b)
-    go Looks = tt
-    go Cuts = tt
-    go Rests = tt
-    go Reduces = (row_here b f (reply.Number n) h).born
+    go : (c : Move_case) → If_born (kind_in f (Reply.Number n) c) (Closed b)
+    go Reduces = (row_here b f (Reply.Number n) h).born
+    go _ = tt
 
     started : (k : RowKind) → If_born k (Closed b) → Closed b (term_born k)
     started (Born e) c = c
-    started Plain c = (0, tt)
-    started Waited c = (0, tt)
-    started Ceded c = (0, tt)
-    started (Ended o) c = (0, tt)
+    started _ c = (0, tt)
 
 -- no mask is active where a closed term begins
 named_active : (b : Given) (i : ℕ) (t : Tree) (g : List Place) (up : List Mask) → Named b g t → masks_below i up t ≡ up
@@ -218,13 +180,10 @@ named_active b i _ g up h = refl
 
 -- a fiber at the beginning of a closed term
 pub closed_begins : (b : Given) (i : ℕ) (t : Tree) → Closed b t → NamedBeginning b (begins i t)
-closed_begins b i t h = record {
-  names = closed_live b t h;
-  depth = ap (length {A = Mask}) (active_root i t ∙ named_active b i t _ [] h.1);
-}
+closed_begins b i t h = record { names = closed_live b t h; depth = ap (length {A = Mask}) (active_root i t ∙ named_active b i t _ [] h.1) }
 
 pub child_named : (b : Given) (f : Fiber) (n : ℕ) → NamedFiber b f → NamedBeginning b (child f n)
-child_named b f n h = closed_begins b n (term_born (kind_of f (reply.Number n))) (child_closed b f n h)
+child_named b f n h = closed_begins b n (term_born (kind_of f (Reply.Number n))) (child_closed b f n h)
 
 -- ---- a fiber that is reached
 pub reached_moves_named : (f : Fiber) → Reached f → (b : Given) (r : Reply) → NamedFiber b f → NumberGiven b (ask_of f) r → NamedFiber b (move f r)

@@ -1,28 +1,16 @@
 -- A move names only what its fiber named, and the number that it was answered.
-use Rattle.std.proofs.Common.{◌≡◌, ◌≢◌, inl, inr, ℕ, zero, suc, ◌+◌, ◌<◌, Bool, true, false, if◌then◌else◌}
-use Rattle.std.proofs.Common.{nat_eq, List, [], ◌∷◌, ◌++◌, length, get_or, replicate, Option, Some, None, refl}
-use Rattle.std.proofs.Common.{sym, ap, ◌∙◌, subst, arith, append_assoc, length-append}
-use Rattle.std.specs.Prelude.{pos, ◌+ℤ◌, ℤ}
-use Rattle.std.proofs.lemmas.Bool.{eqb-true, eqb-false}
-use Rattle.std.proofs.lemmas.List.{replicate_more}
-use Rattle.derived_ops.specs.Put.{Put, Put_handle, Put_mask, Put_value, handle_at, put}
-use Rattle.derived_ops.specs.Tree.{Act, Action, Add, Always, Await, Cancel, Canceled, Cede, Complete, Ending}
-use Rattle.derived_ops.specs.Tree.{Get, Guarded, Handle, Handled, If0, Join, Known, Last, Let, Loop, Make}
-use Rattle.derived_ops.specs.Tree.{Maker, Mask, Masked, Modify, Never, New_deferred, New_ref, Note, Number}
-use Rattle.derived_ops.specs.Tree.{On_cancel, Open_slot, Pair, Poll, Polled, Pure, Raise, Request, Rest, Say}
-use Rattle.derived_ops.specs.Tree.{Seq, Set, Start, Times, Tree, Turns, Uncancelable}
-use Rattle.effect_term.specs.declared.reply.Outcome.{Outcome}
-use Rattle.effect_term.specs.declared.reply.Outcome.TheVariants as outcome
-use Rattle.effect_term.specs.declared.reply.Reply.{Reply}
-use Rattle.fiber_frames.specs.declared.ask.Ask.{Ask}
-use Rattle.fiber_frames.specs.declared.ask.Ask.TheVariants as ask
-use Rattle.fiber_frames.specs.Path.{In_guarded, In_handle, In_let, In_masked, In_polled, In_seq, undone}
-use Rattle.fiber_frames.specs.Rows.{Row, action_row, after_end, after_read, branch, fits, is_ended, is_positive}
-use Rattle.fiber_frames.specs.Rows.{is_zero, looped, number_in, number_of, one_less, outcome_in, read_in, unit}
+use Rattle.fiber_frames.proofs.Prelude.{◌≡◌, ◌≢◌, inl, inr, ℕ, zero, suc, ◌+◌, ◌<◌, Bool, true, false, if◌then◌else◌, nat_eq, List, [], ◌∷◌, ◌++◌, length}
+use Rattle.fiber_frames.proofs.Prelude.{get_or, replicate, Option, Some, None, refl, sym, ap, ◌∙◌, subst, arith, append_assoc, length-append, pos, ◌+ℤ◌, ℤ}
+use Rattle.fiber_frames.proofs.Prelude.{eqb-true, eqb-false, replicate_more, Put, Put_handle, Put_mask, Put_value, handle_at, put, Act, Action, Add, Always}
+use Rattle.fiber_frames.proofs.Prelude.{Await, Cancel, Canceled, Complete, Ending, Get, Guarded, Handle, Handled, If0, Join, Known, Last, Let, Loop, Make}
+use Rattle.fiber_frames.proofs.Prelude.{Maker, Mask, Masked, Modify, New_deferred, New_ref, Number, On_cancel, Open_slot, Pair, Poll, Polled, Pure, Raise}
+use Rattle.fiber_frames.proofs.Prelude.{Request, Seq, Set, Start, Times, Tree, Turns, Uncancelable, Outcome, Reply, Ask, In_guarded, In_handle, In_let}
+use Rattle.fiber_frames.proofs.Prelude.{In_masked, In_polled, In_seq, undone, Row, action_row, after_end, after_read, branch, fits, is_ended, is_positive}
+use Rattle.fiber_frames.proofs.Prelude.{is_zero, looped, number_in, number_of, one_less, outcome_in, read_in, unit, ActionFits, A_deferred, A_fiber, A_ref}
+use Rattle.fiber_frames.proofs.Prelude.{Closed, Given, HandleFits, No_handle, Place, given_of, made_by, AskNamed, NamedLive, NumberGiven, PathStep}
 use Rattle.fiber_frames.proofs.Walk.{End, Gives, Throws, Works, end_of, under, walk}
 use Rattle.fiber_frames.proofs.Marks.Actions.{If_born, none_born, wait_none}
-use Rattle.derived_ops.specs.Naming.{ActionFits, A_deferred, A_fiber, A_ref, Closed, Given, HandleFits, Named, No_handle, Place, given_of, made_by}
-use Rattle.fiber_frames.specs.Naming.{AskNamed, NamedLive, NumberGiven}
+use Rattle.derived_ops.specs.Naming.{Named}
 
 -- ---- scopes
 pub get_other : (g d : List Place) (c e : Place) (s : ℕ) → s ≢ length g → get_or (g ++ c ∷ d) s No_handle ≡ get_or (g ++ e ∷ d) s No_handle
@@ -55,11 +43,7 @@ module _ (b : Given) (p : Put) (g g' : List Place) (long : length g ≡ length g
   action_put d (Modify x v) h = each d A_ref x h
   action_put d (Complete x v) h = each d A_deferred x h
   action_put d (Await x) h = each d A_deferred x h
-  action_put d (Add v w) h = tt
-  action_put d (Say v) h = tt
-  action_put d Cede h = tt
-  action_put d Never h = tt
-  action_put d Canceled h = tt
+  action_put d _ h = tt
 
   same_maker : (m : Maker) → made_by m ≡ made_by (Rattle.derived_ops.specs.Put.maker_at p m)
   same_maker (New_ref v) = refl
@@ -72,10 +56,7 @@ module _ (b : Given) (p : Put) (g g' : List Place) (long : length g ≡ length g
   outward d c t h = subst (λ x. Named b x t) (sym (append_assoc g' d (c ∷ []))) h
 
   named_put : (d : List Place) (t : Tree) → Named b (g ++ d) t → Named b (g' ++ d) (put p t)
-  named_put d (Pure v) h = tt
-  named_put d (Raise v) h = tt
   named_put d (Act a) h = action_put d a h
-  named_put d (Note e q) h = tt
   named_put d (Cancel f) h = each d A_fiber f h
   named_put d (Let e x k) h =
       (slot_at d x h.0, (named_put d e h.1.0, outward d No_handle (put p k) (named_put (d ++ No_handle ∷ []) k (inward d No_handle k h.1.1))))
@@ -107,6 +88,7 @@ module _ (b : Given) (p : Put) (g g' : List Place) (long : length g ≡ length g
   named_put d (Masked m e) h = absurd h
   named_put d (Polled q e) h = absurd h
   named_put d (Guarded e fin) h = absurd h
+  named_put d _ h = tt
 
 module _ (b : Given) where
   -- what is no handle changes none
@@ -167,8 +149,7 @@ module _ (b : Given) where
   closed_handle m n x c t e f h =
       let g = replicate m No_handle in
       let same : length (g ++ c ∷ []) ≡ length (g ++ No_handle ∷ []) = length-append g (c ∷ []) ∙ sym (length-append g (No_handle ∷ [])) in
-      let put_in : Named b (g ++ No_handle ∷ []) (put (Put_handle (length g) n) t) =
-      back_places (g ++ No_handle ∷ []) (put (Put_handle (length g) n) t)
+      let put_in : Named b (g ++ No_handle ∷ []) (put (Put_handle (length g) n) t) = back_places (g ++ No_handle ∷ []) (put (Put_handle (length g) n) t)
       (named_put b (Put_handle (length g) n) (g ++ c ∷ []) (g ++ No_handle ∷ []) same (λ d q y k. handle_each n c f g d q y k) [] t
       (same_places (g ++ c ∷ []) t h)) in (
         m + 1,
@@ -186,19 +167,7 @@ module _ (b : Given) where
   closed_live (Guarded e fin) h = absurd h.1
   closed_live (Masked m e) h = absurd h.1
   closed_live (Polled q e) h = absurd h.1
-  closed_live (Pure v) h = h
-  closed_live (Raise v) h = h
-  closed_live (Act a) h = h
-  closed_live (Note e q) h = h
-  closed_live (Cancel f) h = h
-  closed_live (If0 v s e) h = h
-  closed_live (Join f x s y e c) h = h
-  closed_live (Make m x k) h = h
-  closed_live (Start x e k) h = h
-  closed_live (Loop t e) h = h
-  closed_live (Uncancelable x e) h = h
-  closed_live (Poll q e) h = h
-  closed_live (On_cancel e fin) h = h
+  closed_live _ h = h
 
 -- ---- rows
 -- what a row makes, where the number that it is answered was given
@@ -209,23 +178,23 @@ pub record RowNamed (b : Given) (i : ℕ) (r : Reply) (a : Row Tree) : Type 0 wh
 
 -- a call that names nothing
 abbrev Nameless : Ask → Type 0
-Nameless (ask.Cancel f) = ⊥
-Nameless (ask.Join f) = ⊥
-Nameless (ask.Get r) = ⊥
-Nameless (ask.Set r v) = ⊥
-Nameless (ask.Modify r v) = ⊥
-Nameless (ask.Complete d v) = ⊥
-Nameless (ask.Read d) = ⊥
+Nameless (Ask.Cancel f) = ⊥
+Nameless (Ask.Join f) = ⊥
+Nameless (Ask.Get r) = ⊥
+Nameless (Ask.Set r v) = ⊥
+Nameless (Ask.Modify r v) = ⊥
+Nameless (Ask.Complete d v) = ⊥
+Nameless (Ask.Read d) = ⊥
 Nameless a = Unit {0}
 
 nameless : (b : Given) (i : ℕ) (a : Ask) → Nameless a → AskNamed b i a
-nameless b i (ask.Cancel f) h = absurd h
-nameless b i (ask.Join f) h = absurd h
-nameless b i (ask.Get r) h = absurd h
-nameless b i (ask.Set r v) h = absurd h
-nameless b i (ask.Modify r v) h = absurd h
-nameless b i (ask.Complete d v) h = absurd h
-nameless b i (ask.Read d) h = absurd h
+nameless b i (Ask.Cancel f) h = absurd h
+nameless b i (Ask.Join f) h = absurd h
+nameless b i (Ask.Get r) h = absurd h
+nameless b i (Ask.Set r v) h = absurd h
+nameless b i (Ask.Modify r v) h = absurd h
+nameless b i (Ask.Complete d v) h = absurd h
+nameless b i (Ask.Read d) h = absurd h
 nameless b i _ h = tt
 
 -- a handle that isn't open
@@ -243,76 +212,53 @@ no_ref e = cc
 no_deferred : No_handle ≡ A_deferred → ⊥
 no_deferred e = cc
 
-closed_pure : (b : Given) (t : Tree) → ((g : List Place) → Named b g t) → Closed b t
-closed_pure b t h = (0, h [])
-
 module _ (b : Given) (i n : ℕ) (r : Reply) where
   -- a row that runs on so, and names nothing
   on : (a : Row Tree) → Nameless a.call → If_born a.kind (Closed b) → NamedLive b a.becomes → RowNamed b i r a
   on a q k h = record { becomes = λ g. h; born = k; asks = nameless b i a.call q }
 
-  unit_named : NamedLive b unit
-  unit_named = (0, tt)
+  -- what is beside the first part of a form is closed
+  abbrev ClosedStep : PathStep → Type 0
+  ClosedStep (In_let x k) = Closed b k
+  ClosedStep (In_seq o k) = Closed b k
+  ClosedStep (In_handle x k) = Closed b k
+  ClosedStep (In_guarded fin) = Closed b fin
+  ClosedStep (In_masked m) = Unit {0}
+  ClosedStep (In_polled q) = Unit {0}
 
-  let_named : (up : List Mask) (x : ℕ) (k : Tree) → Closed b k → (E : End) (a : Row Tree) → RowNamed b i r a → RowNamed b i r (under i n up (In_let x k) E a)
-  let_named up x k c (Gives w) a h = on _ tt tt (closed_live b (put (Put_value x (number_of w)) k) (closed_value b x (number_of w) k c))
-  let_named up x k c (Throws w) a h = on _ tt tt (0, tt)
-  let_named up x k c Works a h = record { becomes = λ g. (h.becomes g, c); born = h.born; asks = h.asks }
-
-  seq_named : (up : List Mask) (o : Rest) (k : Tree) → Closed b k → (E : End) (a : Row Tree) → RowNamed b i r a → RowNamed b i r (under i n up (In_seq o k) E a)
-  seq_named up o k c (Gives w) a h = on _ tt tt (closed_live b k c)
-  seq_named up o k c (Throws w) a h = on _ tt tt (0, tt)
-  seq_named up o k c Works a h = record { becomes = λ g. (h.becomes g, c); born = h.born; asks = h.asks }
-
-  handle_named : (up : List Mask) (x : ℕ) (k : Tree) → Closed b k → (E : End) (a : Row Tree) → RowNamed b i r a →
-      RowNamed b i r (under i n up (In_handle x k) E a)
-  handle_named up x k c (Gives w) a h = on _ tt tt (0, tt)
-  handle_named up x k c (Throws w) a h = on _ tt tt (closed_live b (put (Put_value x (number_of w)) k) (closed_value b x (number_of w) k c))
-  handle_named up x k c Works a h = record { becomes = λ g. (h.becomes g, c); born = h.born; asks = h.asks }
-
-  guarded_named : (up : List Mask) (fin : Tree) → Closed b fin → (E : End) (a : Row Tree) → RowNamed b i r a →
-      RowNamed b i r (under i n up (In_guarded fin) E a)
-  guarded_named up fin c (Gives w) a h = on _ tt tt (0, tt)
-  guarded_named up fin c (Throws w) a h = on _ tt tt (0, tt)
-  guarded_named up fin c Works a h = record { becomes = λ g. (h.becomes g, c); born = h.born; asks = h.asks }
-
-  masked_named : (up : List Mask) (m : ℕ) (E : End) (a : Row Tree) → RowNamed b i r a → RowNamed b i r (under i n up (In_masked m) E a)
-  masked_named up m (Gives w) a h = on _ tt tt (0, tt)
-  masked_named up m (Throws w) a h = on _ tt tt (0, tt)
-  masked_named up m Works a h = record { becomes = h.becomes; born = h.born; asks = h.asks }
-
-  switch_nameless : (t : Bool) (x : Ask) → Nameless x → Nameless (if t then x else ask.Silent)
+  switch_nameless : (t : Bool) (x : Ask) → Nameless x → Nameless (if t then x else Ask.Silent)
   switch_nameless true x h = h
   switch_nameless false x h = tt
 
-  polled_named : (up : List Mask) (q : Mask) (E : End) (a : Row Tree) → RowNamed b i r a → RowNamed b i r (under i n up (In_polled q) E a)
-  polled_named up q (Gives w) a h = on _ (switch_nameless _ ask.Mask tt) tt (0, tt)
-  polled_named up q (Throws w) a h = on _ (switch_nameless _ ask.Mask tt) tt (0, tt)
-  polled_named up q Works a h = record { becomes = h.becomes; born = h.born; asks = h.asks }
+  step_named : (up : List Mask) (s : PathStep) → ClosedStep s → (E : End) (a : Row Tree) → RowNamed b i r a → RowNamed b i r (under i n up s E a)
+  step_named up (In_let x k) c (Gives w) a h = on _ tt tt (closed_live b (put (Put_value x (number_of w)) k) (closed_value b x (number_of w) k c))
+  step_named up (In_seq o k) c (Gives w) a h = on _ tt tt (closed_live b k c)
+  step_named up (In_handle x k) c (Throws w) a h = on _ tt tt (closed_live b (put (Put_value x (number_of w)) k) (closed_value b x (number_of w) k c))
+  step_named up (In_polled q) c (Gives w) a h = on _ (switch_nameless _ Ask.Mask tt) tt (0, tt)
+  step_named up (In_polled q) c (Throws w) a h = on _ (switch_nameless _ Ask.Mask tt) tt (0, tt)
+  step_named up (In_polled q) c Works a h = record { becomes = h.becomes; born = h.born; asks = h.asks }
+  step_named up (In_masked m) c Works a h = record { becomes = h.becomes; born = h.born; asks = h.asks }
+  step_named up _ c Works a h = record { becomes = λ g. (h.becomes g, c); born = h.born; asks = h.asks }
+  step_named up _ c _ a h = on _ tt tt (0, tt)
 
   branch_named : (m : ℕ) (o : Option Outcome) (f : Handle) (x : ℕ) (s : Tree) (y : ℕ) (e c : Tree) →
       Named b (replicate m No_handle) (Join f x s y e c) → NamedLive b (branch o f x s y e c)
   branch_named m None f x s y e c h = (m, h)
-  branch_named m (Some (outcome.Succeeded z)) f x s y e c h = closed_live b (put (Put_value x z) s) (closed_value b x z s (closed_below b m s h.1.1.0))
-  branch_named m (Some (outcome.Errored z)) f x s y e c h = closed_live b (put (Put_value y z) e) (closed_value b y z e (closed_below b m e h.1.1.1.0))
-  branch_named m (Some outcome.Canceled) f x s y e c h = closed_live b c (m, h.1.1.1.1)
+  branch_named m (Some (Outcome.Succeeded z)) f x s y e c h = closed_live b (put (Put_value x z) s) (closed_value b x z s (closed_below b m s h.1.1.0))
+  branch_named m (Some (Outcome.Errored z)) f x s y e c h = closed_live b (put (Put_value y z) e) (closed_value b y z e (closed_below b m e h.1.1.1.0))
+  branch_named m (Some Outcome.Canceled) f x s y e c h = closed_live b c (m, h.1.1.1.1)
 
   looped_named : (m : Turns) (e : Tree) → Closed b e → NamedLive b (looped m e)
   looped_named Always e c = (closed_live b e c, c)
-  looped_named (Times v) e c =
-      elim (is_positive v) as (λ t. NamedLive b (if t then Seq Last e (Loop (Times (one_less v)) e) else unit)) [
-        | true ↦
-            (closed_live b e c, c)
-        | false ↦ (0, tt)
-      ]
+  looped_named (Times v) e c = elim (is_positive v) as (λ t. NamedLive b (if t then Seq Last e (Loop (Times (one_less v)) e) else unit)) [
+    | true ↦ (closed_live b e c, c)
+    | false ↦ (0, tt)
+  ]
 
   act_named : (m : ℕ) (c : Action) → ActionFits b (replicate m No_handle) c → RowNamed b i r (action_row i n r c)
   act_named m (Add v w) h =
       on _ tt tt (elim (fits (number_of v +ℤ number_of w)) as
       (λ t. NamedLive b (if t then Pure (Number (number_of v +ℤ number_of w)) else Raise (Number (pos 1001)))) [ true ↦ (0, tt) | false ↦ (0, tt) ])
-  act_named m (Say v) h = on _ tt tt (0, tt)
-  act_named m Cede h = on _ tt tt (0, tt)
-  act_named m Never h = on _ tt tt (0, tt)
   act_named m Canceled h = record { becomes = λ g. (0, tt); born = tt; asks = inl refl }
   act_named m (Request f) h = record {
     becomes = λ g. elim (is_ended r) as (λ t. NamedLive b (if t then unit else Act (Ending f))) [ true ↦ (0, tt) | false ↦ (m, h) ];
@@ -333,19 +279,17 @@ module _ (b : Given) (i n : ℕ) (r : Reply) where
     born = none_born _ _ (wait_none (read_in r));
     asks = shut_handle b m A_deferred x no_deferred h;
   }
+  act_named m _ h = on _ tt tt (0, tt)
 
   slot_is : (m x : ℕ) → x ≡ length (replicate m No_handle) → x ≡ length (replicate m No_handle)
   slot_is m x e = e
 
   pub row_named : (t : Tree) (up : List Mask) → NamedLive b t → RowNamed b i r (walk i n r up t)
-  row_named (Pure v) up h = on _ tt tt (0, tt)
-  row_named (Raise v) up h = on _ tt tt (0, tt)
   row_named (Act c) up h = act_named h.0 c h.1
-  row_named (Note e q) up h = on _ tt tt (0, tt)
   row_named (Cancel f) up h = on _ tt tt (h.0, h.1)
-  row_named (Let e x k) up h = let_named up x k h.1 (end_of e) (walk i n r up e) (row_named e up h.0)
-  row_named (Seq w e k) up h = seq_named up w k h.1 (end_of e) (walk i n r up e) (row_named e up h.0)
-  row_named (Handled e x k) up h = handle_named up x k h.1 (end_of e) (walk i n r up e) (row_named e up h.0)
+  row_named (Let e x k) up h = step_named up (In_let x k) h.1 (end_of e) (walk i n r up e) (row_named e up h.0)
+  row_named (Seq w e k) up h = step_named up (In_seq w k) h.1 (end_of e) (walk i n r up e) (row_named e up h.0)
+  row_named (Handled e x k) up h = step_named up (In_handle x k) h.1 (end_of e) (walk i n r up e) (row_named e up h.0)
   row_named (If0 v s e) up h =
       on _ tt tt (elim (is_zero v) as (λ t. NamedLive b (if t then s else e)) [ true ↦ closed_live b s (h.0, h.1.0) | false ↦ closed_live b e (h.0, h.1.1) ])
   row_named (Join f x s y e c) up h = record {
@@ -353,11 +297,7 @@ module _ (b : Given) (i n : ℕ) (r : Reply) where
     born = none_born _ _ (wait_none (outcome_in r));
     asks = shut_handle b h.0 A_fiber f no_fiber h.1.0;
   }
-  row_named (Make (New_ref w) x k) up h = record {
-    becomes = λ g. ((0, g), closed_handle b h.0 (number_in r) x A_ref k h.1.0 g h.1.1);
-    born = tt;
-    asks = tt;
-  }
+  row_named (Make (New_ref w) x k) up h = record { becomes = λ g. ((0, g), closed_handle b h.0 (number_in r) x A_ref k h.1.0 g h.1.1); born = tt; asks = tt }
   row_named (Make New_deferred x k) up h = record {
     becomes = λ g. closed_live b (put (Put_handle x (number_in r)) k) (closed_handle b h.0 (number_in r) x A_deferred k h.1.0 g h.1.1);
     born = tt;
@@ -370,8 +310,9 @@ module _ (b : Given) (i n : ℕ) (r : Reply) where
   }
   row_named (Loop m e) up h = on _ tt tt (looped_named m e h)
   row_named (Uncancelable x e) up h = on _ tt tt (closed_live b (put (Put_mask x i n) e) (closed_mask b x i n e (closed_below b h.0 e h.1.1)))
-  row_named (Poll q e) up h = on _ (switch_nameless _ ask.Unmask tt) tt (closed_live b e h)
+  row_named (Poll q e) up h = on _ (switch_nameless _ Ask.Unmask tt) tt (closed_live b e h)
   row_named (On_cancel e fin) up h = on _ tt tt (closed_live b e (h.0, h.1.0), (h.0, h.1.1))
-  row_named (Masked m e) up h = masked_named up m (end_of e) (walk i n r (Pair i m ∷ up) e) (row_named e (Pair i m ∷ up) h)
-  row_named (Polled q e) up h = polled_named up q (end_of e) (walk i n r (undone q up) e) (row_named e (undone q up) h)
-  row_named (Guarded e fin) up h = guarded_named up fin h.1 (end_of e) (walk i n r up e) (row_named e up h.0)
+  row_named (Masked m e) up h = step_named up (In_masked m) tt (end_of e) (walk i n r (Pair i m ∷ up) e) (row_named e (Pair i m ∷ up) h)
+  row_named (Polled q e) up h = step_named up (In_polled q) tt (end_of e) (walk i n r (undone q up) e) (row_named e (undone q up) h)
+  row_named (Guarded e fin) up h = step_named up (In_guarded fin) h.1 (end_of e) (walk i n r up e) (row_named e up h.0)
+  row_named _ up h = on _ tt tt (0, tt)

@@ -1,15 +1,7 @@
 -- What a fiber at a place uses is what its leaf, its frames and its finalizers use.
-use Rattle.std.proofs.Common.{◌≡◌, ◌<◌, ◌≤◌, ℕ, zero, suc, ◌+◌, List, [], ◌∷◌, map, take, length, reverse, get_or, refl, ap, ◌∙◌, arith}
-use mathlib.Core.List.{reverse_aux}
-use Rattle.derived_ops.specs.Tree.{Tree}
-use Rattle.fiber_frames.specs.declared.uses.Use.{Use}
-use Rattle.fiber_frames.specs.declared.frame.Frame.{Frame}
-use Rattle.fiber_frames.specs.declared.frame.Pending.{Pending}
-use Rattle.fiber_frames.specs.declared.machine.Machine.{Machine}
-use Rattle.fiber_frames.specs.Frames.{finalizer_of, finalizers_of, leaf_tree, step_of, steps_of}
-use Rattle.fiber_frames.specs.Machines.{state_of}
-use Rattle.fiber_frames.specs.Path.{PathStep, In_let, In_seq, In_handle, In_guarded, In_masked, In_polled, around, whole}
-use Rattle.fiber_frames.specs.Hits.{all_hits, path_hits, step_hits, tree_hits}
+use Rattle.fiber_frames.proofs.Prelude.{◌≡◌, ◌<◌, ◌≤◌, ℕ, zero, suc, ◌+◌, List, [], ◌∷◌, map, take, length, reverse, get_or, refl, ap, ◌∙◌, arith, reverse_aux}
+use Rattle.fiber_frames.proofs.Prelude.{Tree, Use, Frame, Pending, Machine, finalizer_of, finalizers_of, leaf_tree, step_of, steps_of, state_of, PathStep}
+use Rattle.fiber_frames.proofs.Prelude.{In_masked, In_polled, around, whole, all_hits, path_hits, step_hits, tree_hits}
 
 -- ---- sums over lists
 abbrev pub total : {A : Type 0} → (A → ℕ) → List A → ℕ
@@ -66,12 +58,9 @@ module _ (u : Use) (n : ℕ) where
   all_reversed {A} f xs = all_total f (reverse xs) ∙ total_reverse (λ (x : A). tree_hits u n (f x)) xs
 
   around_hits : (s : PathStep) (t : Tree) → tree_hits u n (around s t) ≡ tree_hits u n t + step_hits u n s
-  around_hits (In_let x k) t = refl
-  around_hits (In_seq w k) t = refl
-  around_hits (In_handle x h) t = refl
-  around_hits (In_guarded fin) t = refl
   around_hits (In_masked m) t = omega arith
   around_hits (In_polled q) t = omega arith
+  around_hits _ t = refl
 
   whole_hits : (p : List PathStep) (t : Tree) → tree_hits u n (whole p t) ≡ tree_hits u n t + path_hits u n p
   whole_hits [] t = omega arith

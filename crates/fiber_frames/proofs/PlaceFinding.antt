@@ -1,7 +1,6 @@
 -- The place of a number is where it stands first.
-use Rattle.std.proofs.Common.{◌≡◌, ◌<◌, ℕ, zero, suc, ◌+◌, Bool, if◌then◌else◌, List, [], ◌∷◌, get_or, length, refl, sym, ap, ◌∙◌, arith}
-use Rattle.std.proofs.lemmas.Bool.{eq-eqb, ne_eqb}
-use Rattle.fiber_frames.specs.Unmarked.{one_on, place_in}
+use Rattle.fiber_frames.proofs.Prelude.{◌≡◌, ◌<◌, ℕ, zero, suc, ◌+◌, Bool, if◌then◌else◌, List, [], ◌∷◌, get_or, length, refl, sym, ap, ◌∙◌, arith, eq-eqb}
+use Rattle.fiber_frames.proofs.Prelude.{ne_eqb, one_on, place_in}
 
 pub place_none : (ms : List ℕ) (m : ℕ) → ((k : ℕ) → k < length ms → get_or ms k 0 ≡ m → ⊥) → 0 ≡ place_in ms m
 place_none [] m h = refl

@@ -1,13 +1,7 @@
 -- The places of masks: each of those that are listed has one of its own, and who is renumbered so keeps the places.
-use Rattle.std.proofs.Common.{◌≡◌, ◌≢◌, ◌<◌, ℕ, zero, suc, Bool, true, false, if◌then◌else◌, nat_eq, List, [], ◌∷◌, ◌++◌, length, map, refl, sym, ap, ap₂, ◌∙◌, subst, arith}
-use Rattle.std.specs.Prelude.{◌&&◌}
-use Rattle.std.proofs.lemmas.Bool.{eq-eqb, eqb-false, eqb-true, ne_eqb}
-use Rattle.std.proofs.lemmas.List.{length-map}
-use Rattle.derived_ops.specs.Tree.{Mask, Named, Pair}
-use Rattle.fiber_frames.specs.declared.ask.Look.{Look}
-use Rattle.fiber_frames.specs.Path.{Running, same_mask}
-use Rattle.fiber_frames.specs.Fiber.{Fiber}
-use Rattle.fiber_frames.specs.Unmarked.{mask_to, masks_of, one_on, own_place, place_in, placed_in, run_renumbered, run_unmarked, unmarked}
+use Rattle.fiber_frames.proofs.Prelude.{◌≡◌, ◌≢◌, ◌<◌, ℕ, zero, suc, Bool, true, false, if◌then◌else◌, nat_eq, List, [], ◌∷◌, ◌++◌, length, map, refl, sym, ap}
+use Rattle.fiber_frames.proofs.Prelude.{ap₂, ◌∙◌, subst, arith, ◌&&◌, eq-eqb, eqb-false, eqb-true, ne_eqb, length-map, Mask, Named, Pair, Look, Running}
+use Rattle.fiber_frames.proofs.Prelude.{same_mask, Fiber, mask_to, masks_of, one_on, own_place, place_in, placed_in, run_renumbered, run_unmarked, unmarked}
 use Rattle.fiber_frames.proofs.Composing.{both, masks_of_to, run_twice, same_to}
 use Rattle.fiber_frames.proofs.Renumbering.{Each}
 
@@ -99,10 +93,7 @@ module _ (i : ℕ) (number : ℕ → ℕ → ℕ) where
       ap (λ (t : Bool). if t then 1 else one_on (place_in (map (number i) ms) (number g m))) (h.0 g m)
       ∙ ap (λ (j : ℕ). if nat_eq g i && nat_eq m a then 1 else one_on j) (place_to ms h.1 g m)
       ∙ elim (nat_eq g i) as (λ t. ◌≡◌ {A = ℕ} (if t && nat_eq m a then 1 else one_on (if t then place_in ms m else 0))
-      (if t then (if nat_eq m a then 1 else one_on (place_in ms m)) else 0)) [
-        | true ↦ refl
-        | false ↦ refl
-      ]
+      (if t then (if nat_eq m a then 1 else one_on (place_in ms m)) else 0)) [ true ↦ refl | false ↦ refl ]
 
   -- the places stay
   run_places : (w : Running) → Each (Faithful i number) (masks_of w) → run_unmarked i (run_renumbered i all_own w) ≡ run_unmarked i w
@@ -135,5 +126,4 @@ place_other (b ∷ ms) n m ne = ap (λ (j : ℕ). if nat_eq m b then 1 else one_
 
 pub place_last : (ms : List ℕ) (n : ℕ) → Each (λ a. n ≢ a) ms → place_in (ms ++ n ∷ []) n ≡ suc (length ms)
 place_last [] n h = ap (λ (t : Bool). if t then 1 else 0) (eq-eqb n n refl)
-place_last (b ∷ ms) n h =
-    ap (λ (t : Bool). if t then 1 else one_on (place_in (ms ++ n ∷ []) n)) (ne_eqb n b h.0) ∙ ap one_on (place_last ms n h.1)
+place_last (b ∷ ms) n h = ap (λ (t : Bool). if t then 1 else one_on (place_in (ms ++ n ∷ []) n)) (ne_eqb n b h.0) ∙ ap one_on (place_last ms n h.1)

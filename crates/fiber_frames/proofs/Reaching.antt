@@ -1,23 +1,7 @@
 -- What is reached keeps lawful marks and few masks; and children are reached.
-use Rattle.std.proofs.Common.{◌≡◌, ◌<◌, ◌≤◌, ℕ, List, length, sym, ap, ◌∙◌, subst}
-use Rattle.effect_term.specs.declared.reply.Reply.{Reply}
-use Rattle.effect_term.specs.declared.reply.Reply.TheVariants as reply
-use Rattle.derived_ops.specs.Tree.{Tree}
-use Rattle.fiber_frames.specs.declared.ask.Ask.{Ask}
-use Rattle.fiber_frames.specs.declared.ask.Ask.TheVariants as ask
-use Rattle.fiber_frames.specs.declared.frame.RowEnd.{RowEnd}
-use Rattle.fiber_frames.specs.declared.frame.RowEnd.TheVariants as row_end
-use Rattle.fiber_frames.specs.Rows.{number_in}
-use Rattle.fiber_frames.specs.Fiber.{Fiber, begins, Reduces, move_case, row_of, ask_of, kind_in, term_born, active_of, outcome_of}
-use Rattle.fiber_frames.specs.Answers.{Answers}
-use Rattle.fiber_frames.specs.Marks.{AreLawful}
-use Rattle.fiber_frames.specs.Reached.{Reached, root, moved, born, broken}
-use Rattle.fiber_frames.specs.declared.frame.RunStage.TheVariants as stage
-use Rattle.fiber_frames.specs.declared.ask.Look.{Look}
-use Rattle.fiber_frames.specs.declared.mark.Mark.{Mark}
-use Rattle.fiber_frames.specs.Path.{Broken}
-use Rattle.fiber_frames.specs.Frames.{State, fiber_of}
-use Rattle.fiber_frames.specs.Told.{kind_of_row_end, BornReached}
+use Rattle.fiber_frames.proofs.Prelude.{◌≡◌, ◌<◌, ◌≤◌, ℕ, length, sym, ap, ◌∙◌, subst, Reply, Tree, Ask, RowEnd, number_in, Fiber, begins, Reduces, move_case}
+use Rattle.fiber_frames.proofs.Prelude.{row_of, ask_of, kind_in, term_born, active_of, outcome_of, Answers, AreLawful, Reached, root, moved, born, broken}
+use Rattle.fiber_frames.proofs.Prelude.{State, kind_of_row_end, BornReached}
 use Rattle.fiber_frames.proofs.CallBeforeReply.{row_of_call}
 use Rattle.fiber_frames.proofs.Children.{born_same, born_asks}
 use Rattle.fiber_frames.proofs.Marks.Kept.{Kept, kept_root, kept_moved, kept_born, kept_lost, kept_marks, kept_active}
@@ -35,27 +19,16 @@ pub reached_masks : (f : Fiber) → Reached f → length (active_of f) ≤ 250
 reached_masks f h = kept_active f (reached_kept f h)
 
 -- the number that a start is answered is above the fiber's
-above : (i : ℕ) (a : Ask) (r : Reply) → Answers i a r → a ≡ ask.Start → i < number_in r
-above i ask.Start (reply.Number n) h e = h
-above i ask.Start _ h e = absurd h
+above : (i : ℕ) (a : Ask) (r : Reply) → Answers i a r → a ≡ Ask.Start → i < number_in r
+above i Ask.Start (Reply.Number n) h e = h
+above i Ask.Start _ h e = absurd h
 above i _ r h e = cc
 
 -- the child of a row
 pub born_reached : (f : Fiber) (r : Reply) (s : State) (t : RowEnd) → Reached f → move_case f ≡ Reduces → Answers f.number (ask_of f) r →
     (row_of f r).kind ≡ kind_of_row_end s t → BornReached s t (number_in r)
-born_reached f r s row_end.Plain h m a k = tt
-born_reached f r s row_end.Waited h m a k = tt
-born_reached f r s row_end.Ceded h m a k = tt
-born_reached f r s (row_end.Ended o) h m a k = tt
-born_reached f r s (row_end.Born i n) h m a k =
+born_reached f r s (RowEnd.Born i n) h m a k =
     let l : f.number < number_in r = above f.number (ask_of f) r a (sym (row_of_call f r m) ∙ born_asks f r _ k)
     in subst (λ (e : Tree). Reached (begins (number_in r) e))
-    (ap term_born (ap (kind_in f (reply.Number (number_in r))) m ∙ born_same f r (reply.Number (number_in r)) _ k)) (born (number_in r) l h)
-
--- a fiber that has lost its term
-pub lost_reached : (s s2 : State) (l : Look) → s2.own ≡ s.own → s2.next ≡ s.next → s2.marks ≡ s.marks → Reached (fiber_of s l) →
-    Reached (fiber_of (record s2 { stage = stage.Broken }) l)
-lost_reached s s2 l o n m h =
-    subst Reached (ap (λ (x : ℕ). record { number = x; running = Broken; look = l; next = s.next; marks = s.marks }) (sym o)
-    ∙ ap (λ (x : ℕ). record { number = s2.own; running = Broken; look = l; next = x; marks = s.marks }) (sym n)
-    ∙ ap (λ (x : List Mark). record { number = s2.own; running = Broken; look = l; next = s2.next; marks = x }) (sym m)) (broken h)
+    (ap term_born (ap (kind_in f (Reply.Number (number_in r))) m ∙ born_same f r (Reply.Number (number_in r)) _ k)) (born (number_in r) l h)
+born_reached f r s _ h m a k = tt

@@ -1,15 +1,11 @@
 -- A move does the same, whatever numbers the masks have.
-use Rattle.std.proofs.Common.{◌≡◌, ℕ, ◌+◌, List, [], ◌∷◌, ◌++◌, refl, sym, ap, ap₂, ◌∙◌, subst}
-use Rattle.derived_ops.specs.Put.{Put, mask_at}
-use Rattle.derived_ops.specs.Tree.{Guarded, Handled, Let, Mask, Masked, Pair, Polled, Seq, Tree}
-use Rattle.effect_term.specs.declared.reply.Reply.{Reply}
-use Rattle.effect_term.specs.declared.reply.Reply.TheVariants as reply
-use Rattle.fiber_frames.specs.declared.ask.Look.{Look}
-use Rattle.fiber_frames.specs.Path.{At_final, At_term, Broken, Final, Over, Root, Running, Runs, active_at, focus, path, pending, pending_at}
-use Rattle.fiber_frames.specs.Rows.{Row, mask_number, row_at}
-use Rattle.fiber_frames.specs.Fiber.{Cuts, Fiber, Looks, Move_case, Reduces, Rests, active_of, ask_in, ask_of, case_in, case_under, kind_in, kind_of, move, move_case, move_in, row_of}
-use Rattle.fiber_frames.specs.Unmarked.{all_renumbered, masks_first, masks_of, masks_on, number_to, renumbered, run_renumbered}
-use Rattle.fiber_frames.proofs.Walk.{End, Gives, Throws, Works, active_path, active_root, end_of, finalizers_below, masks_below, pending_root, root_row, row_root, walk}
+use Rattle.fiber_frames.proofs.Prelude.{◌≡◌, ℕ, ◌+◌, List, [], ◌∷◌, ◌++◌, refl, sym, ap, ap₂, ◌∙◌, subst, Put, mask_at, Guarded, Handled, Let, Mask, Masked}
+use Rattle.fiber_frames.proofs.Prelude.{Pair, Polled, Seq, Tree, Reply, Look, At_final, At_term, Broken, Final, Over, Root, Running, Runs, active_at, focus}
+use Rattle.fiber_frames.proofs.Prelude.{path, pending, pending_at, Row, mask_number, row_at, Cuts, Fiber, Move_case, Reduces, Rests, active_of, ask_in, ask_of}
+use Rattle.fiber_frames.proofs.Prelude.{case_in, case_under, kind_in, move, move_case, move_in, row_of, all_renumbered, masks_of, masks_on, number_to}
+use Rattle.fiber_frames.proofs.Prelude.{renumbered, run_renumbered}
+use Rattle.fiber_frames.specs.Fiber.{kind_of}
+use Rattle.fiber_frames.proofs.Walk.{End, Works, active_path, active_root, end_of, finalizers_below, masks_below, pending_root, root_row, row_root, walk}
 use Rattle.fiber_frames.proofs.Renumbering.{AlikeRow, Each, IsKept, end_to, kind_renumbered, kept_undone, masks_to, undone_to, walk_alike}
 
 -- a fiber with other numbers of masks, without marks, and with this next number
@@ -33,25 +29,22 @@ module _ (i : ℕ) (to : ℕ → ℕ → Mask) (closed : (p : Put) (g m : ℕ) �
   below_to _ up up' h g q = q
 
   active_to : (w : Running) → Each Kept (masks_of w) → active_at i (focus (run_renumbered i to w)) ≡ masks_to i to closed (active_at i (focus w))
-  active_to (Runs t) g =
-      active_root i (renumbered i to t) ∙ below_to t [] [] tt g refl ∙ ap (masks_to i to closed) (sym (active_root i t))
+  active_to (Runs t) g = active_root i (renumbered i to t) ∙ below_to t [] [] tt g refl ∙ ap (masks_to i to closed) (sym (active_root i t))
   active_to (Final m []) g = ap (λ (a : Mask). a ∷ []) (sym (own m))
   active_to (Final m (t ∷ gs)) g =
       active_path i (At_final (number_to i to m) (all_renumbered i to gs)) [] (renumbered i to t)
       ∙ below_to t (Pair i m ∷ []) (Pair i (number_to i to m) ∷ []) (g.0, tt) g.1 (ap (λ (a : Mask). a ∷ []) (sym (own m)))
       ∙ ap (masks_to i to closed) (sym (active_path i (At_final m gs) [] t))
-  active_to (Over o) g = refl
-  active_to Broken g = refl
+  active_to _ g = refl
 
   under_case : (up : List Mask) (l : Look) → case_under (masks_to i to closed up) l ≡ case_under up l
   under_case [] l = refl
   under_case (a ∷ up) l = refl
 
   case_to : (w : Running) (up : List Mask) (l : Look) → case_in (run_renumbered i to w) (masks_to i to closed up) l ≡ case_in w up l
-  case_to (Runs t) up l = under_case up l
-  case_to (Final m gs) up l = under_case up l
   case_to (Over o) up l = refl
   case_to Broken up l = refl
+  case_to _ up l = under_case up l
 
   -- ---- pending finalizers
   all-append : (xs : List Tree) (g : Tree) → all_renumbered i to (xs ++ g ∷ []) ≡ all_renumbered i to xs ++ renumbered i to g ∷ []
@@ -62,8 +55,7 @@ module _ (i : ℕ) (to : ℕ → ℕ → Mask) (closed : (p : Put) (g m : ℕ) �
   finalizers_to (Let e x k) = finalizers_to e
   finalizers_to (Seq w e k) = finalizers_to e
   finalizers_to (Handled e x k) = finalizers_to e
-  finalizers_to (Guarded e fin) =
-      ap (λ (l : List Tree). l ++ renumbered i to fin ∷ []) (finalizers_to e) ∙ sym (all-append (finalizers_below e) fin)
+  finalizers_to (Guarded e fin) = ap (λ (l : List Tree). l ++ renumbered i to fin ∷ []) (finalizers_to e) ∙ sym (all-append (finalizers_below e) fin)
   finalizers_to (Masked m e) = finalizers_to e
   finalizers_to (Polled q e) = finalizers_to e
   finalizers_to _ = refl
@@ -73,10 +65,8 @@ module _ (i : ℕ) (to : ℕ → ℕ → Mask) (closed : (p : Put) (g m : ℕ) �
 
   pending_to : (w : Running) → pending_at (focus (run_renumbered i to w)) ≡ all_renumbered i to (pending_at (focus w))
   pending_to (Runs t) = path_pending t
-  pending_to (Final m []) = refl
   pending_to (Final m (g ∷ gs)) = path_pending g
-  pending_to (Over o) = refl
-  pending_to Broken = refl
+  pending_to _ = refl
 
   -- ---- rows
   record RunAlike (a b : Row Running) : Type 0 where
@@ -89,22 +79,19 @@ module _ (i : ℕ) (to : ℕ → ℕ → Mask) (closed : (p : Put) (g m : ℕ) �
     TakenBy m = m ≡ next + 1 → to i next ≡ Pair i n
 
     term_alike : (E : End) (a b : Row Tree) → (E ≡ Works → AlikeRow i to closed a b) → RunAlike (root_row i next At_term E a) (root_row i n At_term E b)
-    term_alike (Gives v) a b h = record { call = refl; becomes = refl; kind = refl }
-    term_alike (Throws v) a b h = record { call = refl; becomes = refl; kind = refl }
     term_alike Works a b h = let w = h refl in record { call = w.call; becomes = ap Runs w.becomes; kind = w.kind }
+    term_alike _ a b h = record { call = refl; becomes = refl; kind = refl }
 
     final_alike : (m : ℕ) (gs : List Tree) (E : End) (a b : Row Tree) → (E ≡ Works → AlikeRow i to closed a b) →
         RunAlike (root_row i next (At_final m gs) E a) (root_row i n (At_final (number_to i to m) (all_renumbered i to gs)) E b)
-    final_alike m gs (Gives v) a b h = record { call = refl; becomes = refl; kind = refl }
-    final_alike m gs (Throws v) a b h = record { call = refl; becomes = refl; kind = refl }
     final_alike m gs Works a b h =
         let w = h refl in
         record { call = w.call; becomes = ap (λ (t : Tree). Final (number_to i to m) (t ∷ all_renumbered i to gs)) w.becomes; kind = w.kind }
+    final_alike m gs _ a b h = record { call = refl; becomes = refl; kind = refl }
 
     root_taken : (b : Root) (E : End) (a : Row Tree) → TakenBy (root_row i next b E a).next → E ≡ Works → TakenBy a.next
     root_taken b Works a h e = h
-    root_taken b (Gives v) a h e = absurd (cc)
-    root_taken b (Throws v) a h e = absurd (cc)
+    root_taken b _ a h e = absurd (cc)
 
     run_alike : (w : Running) → Each Kept (masks_of w) → TakenBy (row_at i next r (focus w) w).next →
         RunAlike (row_at i next r (focus w) w) (row_at i n r (focus (run_renumbered i to w)) (run_renumbered i to w))
@@ -120,7 +107,6 @@ module _ (i : ℕ) (to : ℕ → ℕ → Mask) (closed : (p : Put) (g m : ℕ) �
         (sym (end_to i to closed own next n r t)) rooted in
         subst (λ x. RunAlike x (row_at i n r (focus (Runs (renumbered i to t))) (Runs (renumbered i to t)))) (sym here)
         (subst (RunAlike (root_row i next At_term (end_of t) (walk i next r [] t))) (sym there) ended)
-    run_alike (Final m []) g h = record { call = refl; becomes = refl; kind = refl }
     run_alike (Final m (t ∷ gs)) g h =
         let up = Pair i m ∷ [] in
         let up' = Pair i (number_to i to m) ∷ [] in
@@ -139,8 +125,7 @@ module _ (i : ℕ) (to : ℕ → ℕ → Mask) (closed : (p : Put) (g m : ℕ) �
         subst (λ x. RunAlike x (row_at i n r (focus (Final (number_to i to m) (renumbered i to t ∷ all_renumbered i to gs)))
         (Final (number_to i to m) (renumbered i to t ∷ all_renumbered i to gs)))) (sym here)
         (subst (RunAlike (root_row i next b (end_of t) a)) (sym there) ended)
-    run_alike (Over o) g h = record { call = refl; becomes = refl; kind = refl }
-    run_alike Broken g h = record { call = refl; becomes = refl; kind = refl }
+    run_alike _ g h = record { call = refl; becomes = refl; kind = refl }
 
 -- ---- moves
 module _ (f : Fiber) (to : ℕ → ℕ → Mask) (n : ℕ) (closed : (p : Put) (g m : ℕ) → mask_at p (to g m) ≡ to g m)
@@ -167,15 +152,13 @@ module _ (f : Fiber) (to : ℕ → ℕ → Mask) (n : ℕ) (closed : (p : Put) (
     onward taken = subst (λ c. Onward (move f r) (move_in g r c)) (sym same_case) (go (move_case f) taken)
       where
         go : (c : Move_case) → ((move_in f r c).next ≡ f.next + 1 → to i f.next ≡ Pair i n) → Onward (move_in f r c) (move_in g r c)
-        go Looks h = record { number = refl; running = refl; look = refl }
-        go Cuts h =
-            record {
-              number = refl;
-              running = ap₂ (λ (m : ℕ) (gs : List Tree). Final m gs) (ap mask_number (sym (h refl))) (pending_to i to closed own f.running);
-              look = refl;
-            }
+        go Cuts h = record {
+          number = refl;
+          running = ap₂ (λ (m : ℕ) (gs : List Tree). Final m gs) (ap mask_number (sym (h refl))) (pending_to i to closed own f.running);
+          look = refl;
+        }
         go Reduces h = record { number = refl; running = (run_alike i to closed own f.next n r f.running kept h).becomes; look = refl }
-        go Rests h = record { number = refl; running = refl; look = refl }
+        go _ h = record { number = refl; running = refl; look = refl }
 
   module _ (fits : to i f.next ≡ Pair i n) where
     row_there : (r : Reply) → RunAlike i to closed own (row_of f r) (row_of g r)
@@ -185,16 +168,13 @@ module _ (f : Fiber) (to : ℕ → ℕ → Mask) (n : ℕ) (closed : (p : Put) (
     same_ask = ap (ask_in g) same_case ∙ go (move_case f)
       where
         go : (c : Move_case) → ask_in g c ≡ ask_in f c
-        go Looks = refl
-        go Cuts = refl
-        go Reduces = (row_there reply.Done).call
-        go Rests = (row_there reply.Done).call
+        go Reduces = (row_there Reply.Done).call
+        go Rests = (row_there Reply.Done).call
+        go _ = refl
 
     pub same_kind : (r : Reply) → kind_of g r ≡ kind_renumbered (renumbered i to) (kind_of f r)
     same_kind r = ap (kind_in g r) same_case ∙ go (move_case f)
       where
         go : (c : Move_case) → kind_in g r c ≡ kind_renumbered (renumbered i to) (kind_in f r c)
-        go Looks = refl
-        go Cuts = refl
         go Reduces = (row_there r).kind
-        go Rests = refl
+        go _ = refl

@@ -1,21 +1,13 @@
 -- A row does the same, whatever numbers the masks have.
-use Rattle.std.proofs.Common.{◌≡◌, ℕ, ◌+◌, Bool, true, false, if◌then◌else◌, List, [], ◌∷◌, Option, Some, None, refl, sym, ap, ap₂, ◌∙◌, subst}
-use Rattle.std.specs.Prelude.{ℤ, pos, ◌+ℤ◌}
-use Rattle.derived_ops.specs.Put.{Put, Put_handle, Put_mask, Put_value, action_at, handle_at, maker_at, mask_at, put, turns_at, value_at}
-use Rattle.derived_ops.specs.Tree.{Act, Action, Add, Always, Await, Cancel, Canceled, Cede, Complete, Ending}
-use Rattle.derived_ops.specs.Tree.{Get, Guarded, Handle, Handled, If0, Join, Known, Last, Let, Loop, Make}
-use Rattle.derived_ops.specs.Tree.{Maker, Mask, Masked, Modify, Named, Never, New_deferred, New_ref, Note, Number}
-use Rattle.derived_ops.specs.Tree.{On_cancel, Open_slot, Operand, Pair, Poll, Polled, Pure, Raise, Request, Say}
-use Rattle.derived_ops.specs.Tree.{Seq, Set, Slot, Start, Times, Tree, Turns, Uncancelable}
-use Rattle.effect_term.specs.declared.reply.Outcome.{Outcome}
-use Rattle.effect_term.specs.declared.reply.Outcome.TheVariants as outcome
-use Rattle.effect_term.specs.declared.reply.Reply.{Reply}
-use Rattle.fiber_frames.specs.declared.ask.Ask.{Ask}
-use Rattle.fiber_frames.specs.declared.ask.Ask.TheVariants as ask
-use Rattle.fiber_frames.specs.Path.{In_guarded, In_handle, In_let, In_masked, In_polled, In_seq, PathStep, around, is_effective, same_mask, undone, without_first}
-use Rattle.fiber_frames.specs.Rows.{Born, Ceded, Ended, Plain, Row, RowKind, Waited, action_row, after_end, after_read, branch, fits, is_ended, is_positive}
-use Rattle.fiber_frames.specs.Rows.{is_zero, looped, mask_number, number_in, number_of, one_less, outcome_in, read_in, unit, wait}
-use Rattle.fiber_frames.specs.Unmarked.{mask_to, masks_on, number_to, renumbered}
+use Rattle.fiber_frames.proofs.Prelude.{◌≡◌, ℕ, ◌+◌, Bool, true, false, if◌then◌else◌, List, [], ◌∷◌, Option, Some, None, refl, sym, ap, ap₂, ◌∙◌, subst, ℤ}
+use Rattle.fiber_frames.proofs.Prelude.{pos, ◌+ℤ◌, Put, Put_handle, Put_mask, Put_value, action_at, handle_at, maker_at, mask_at, put, turns_at, value_at, Act}
+use Rattle.fiber_frames.proofs.Prelude.{Action, Add, Always, Await, Cancel, Complete, Ending, Get, Guarded, Handle, Handled, If0, Join, Known, Last, Let, Loop}
+use Rattle.fiber_frames.proofs.Prelude.{Make, Maker, Mask, Masked, Modify, Named, New_deferred, New_ref, Note, Number, On_cancel, Open_slot, Operand, Pair}
+use Rattle.fiber_frames.proofs.Prelude.{Poll, Polled, Pure, Raise, Request, Say, Seq, Set, Slot, Start, Times, Tree, Turns, Uncancelable, Outcome, Reply, Ask}
+use Rattle.fiber_frames.proofs.Prelude.{In_guarded, In_handle, In_let, In_masked, In_polled, In_seq, PathStep, around, is_effective, same_mask, undone}
+use Rattle.fiber_frames.proofs.Prelude.{without_first, Born, Ceded, Ended, Plain, Row, RowKind, Waited, action_row, after_end, after_read, branch, fits}
+use Rattle.fiber_frames.proofs.Prelude.{is_ended, is_positive, is_zero, looped, mask_number, number_in, number_of, one_less, outcome_in, read_in, unit, wait}
+use Rattle.fiber_frames.proofs.Prelude.{mask_to, masks_on, number_to, renumbered}
 use Rattle.fiber_frames.proofs.Walk.{End, Gives, Throws, Works, end_of, under, walk}
 
 -- what a kind of move starts, with its masks' numbers changed
@@ -48,9 +40,6 @@ module _ (i : ℕ) (to : ℕ → ℕ → Mask) (closed : (p : Put) (g m : ℕ) �
     action_same : (a : Action) → action_at p' a ≡ action_at p a
     action_same (Add v w) = ap₂ Add (same.value v) (same.value w)
     action_same (Say v) = ap Say (same.value v)
-    action_same Cede = refl
-    action_same Never = refl
-    action_same Canceled = refl
     action_same (Request f) = ap Request (same.handle f)
     action_same (Ending f) = ap Ending (same.handle f)
     action_same (Get r) = ap Get (same.handle r)
@@ -58,6 +47,7 @@ module _ (i : ℕ) (to : ℕ → ℕ → Mask) (closed : (p : Put) (g m : ℕ) �
     action_same (Modify r v) = ap₂ Modify (same.handle r) (same.value v)
     action_same (Complete d v) = ap₂ Complete (same.handle d) (same.value v)
     action_same (Await d) = ap Await (same.handle d)
+    action_same _ = refl
 
     maker_same : (m : Maker) → maker_at p' m ≡ maker_at p m
     maker_same (New_ref v) = ap New_ref (same.value v)
@@ -152,8 +142,7 @@ module _ (i : ℕ) (to : ℕ → ℕ → Mask) (closed : (p : Put) (g m : ℕ) �
       ]
 
   pub kept_undone : (q : Mask) (up : List Mask) → Each IsKept up → Each IsKept (undone q up)
-  kept_undone q up h =
-      elim (is_effective q up) as (λ b. Each IsKept (if b then without_first up else up)) [ true ↦ rest up h | false ↦ h ]
+  kept_undone q up h = elim (is_effective q up) as (λ b. Each IsKept (if b then without_first up else up)) [ true ↦ rest up h | false ↦ h ]
     where
       rest : (up : List Mask) → Each IsKept up → Each IsKept (without_first up)
       rest [] h = tt
@@ -180,14 +169,10 @@ module _ (i : ℕ) (to : ℕ → ℕ → Mask) (closed : (p : Put) (g m : ℕ) �
 
     around_to : (s : PathStep) (e : Tree) → around (step_to s) (R e) ≡ R (around s e)
     around_to (In_let x k) e = refl
-    around_to (In_seq w k) e = refl
-    around_to (In_handle x h) e = refl
-    around_to (In_guarded fin) e = refl
-    around_to (In_masked m) e = refl
-    around_to (In_polled q) e = refl
+    around_to _ e = refl
 
-    switch_call : (b c : Bool) (a : Ask) → b ≡ c → ◌≡◌ {A = Ask} (if b then a else ask.Silent) (if c then a else ask.Silent)
-    switch_call b c a e = ap (λ x. if x then a else ask.Silent) e
+    switch_call : (b c : Bool) (a : Ask) → b ≡ c → ◌≡◌ {A = Ask} (if b then a else Ask.Silent) (if c then a else Ask.Silent)
+    switch_call b c a e = ap (λ x. if x then a else Ask.Silent) e
 
     under_to : (up up' : List Mask) → Each IsKept up → up' ≡ masks_to up → (s : PathStep) (E : End) (a b : Row Tree) → (E ≡ Works → Alike a b) →
         Alike (under i next up s E a) (under i next' up' (step_to s) E b)
@@ -195,23 +180,15 @@ module _ (i : ℕ) (to : ℕ → ℕ → Mask) (closed : (p : Put) (g m : ℕ) �
         let w = h refl in
         record { call = w.call; becomes = ap (around (step_to s)) w.becomes ∙ around_to s a.becomes; kind = w.kind }
     under_to up up' k q (In_let x c) (Gives v) a b h = record { call = refl; becomes = put_value x (number_of v) c; kind = refl }
-    under_to up up' k q (In_seq w c) (Gives v) a b h = record { call = refl; becomes = refl; kind = refl }
-    under_to up up' k q (In_handle x c) (Gives v) a b h = record { call = refl; becomes = refl; kind = refl }
-    under_to up up' k q (In_guarded c) (Gives v) a b h = record { call = refl; becomes = refl; kind = refl }
-    under_to up up' k q (In_masked m) (Gives v) a b h = record { call = refl; becomes = refl; kind = refl }
     under_to up up' k q (In_polled p) (Gives v) a b h =
-        record { call = switch_call _ _ ask.Mask (ap (is_effective (Q p)) q ∙ effective_to p up k); becomes = refl; kind = refl }
-    under_to up up' k q (In_let x c) (Throws v) a b h = record { call = refl; becomes = refl; kind = refl }
-    under_to up up' k q (In_seq w c) (Throws v) a b h = record { call = refl; becomes = refl; kind = refl }
+        record { call = switch_call _ _ Ask.Mask (ap (is_effective (Q p)) q ∙ effective_to p up k); becomes = refl; kind = refl }
     under_to up up' k q (In_handle x c) (Throws v) a b h = record { call = refl; becomes = put_value x (number_of v) c; kind = refl }
-    under_to up up' k q (In_guarded c) (Throws v) a b h = record { call = refl; becomes = refl; kind = refl }
-    under_to up up' k q (In_masked m) (Throws v) a b h = record { call = refl; becomes = refl; kind = refl }
     under_to up up' k q (In_polled p) (Throws v) a b h =
-        record { call = switch_call _ _ ask.Mask (ap (is_effective (Q p)) q ∙ effective_to p up k); becomes = refl; kind = refl }
+        record { call = switch_call _ _ Ask.Mask (ap (is_effective (Q p)) q ∙ effective_to p up k); becomes = refl; kind = refl }
+    under_to up up' k q _ _ a b h = record { call = refl; becomes = refl; kind = refl }
 
     pub end_to : (t : Tree) → end_of (R t) ≡ end_of t
     end_to (Pure v) = refl
-    end_to (Raise v) = refl
     end_to _ = refl
 
     -- a row under a step, by the row in it
@@ -221,19 +198,14 @@ module _ (i : ℕ) (to : ℕ → ℕ → Mask) (closed : (p : Put) (g m : ℕ) �
         subst (λ E. Alike (under i next up s (end_of e) a) (under i next' up' (step_to s) E b)) (sym (end_to e)) (under_to up up' k q s (end_of e) a b h)
 
     act_alike : (c : Action) → Alike (action_row i next r c) (action_row i next' r c)
-    act_alike (Add v w) =
-        record {
-          call = refl;
-          becomes = elim (fits (number_of v +ℤ number_of w)) as (λ t. (let x : Tree = if t then Pure (Number (number_of v +ℤ number_of w)) else Raise (Number (pos 1001)) in x ≡ R x)) [
-            | true ↦ refl
-            | false ↦ refl
-          ];
-          kind = refl;
-        }
-    act_alike (Say v) = record { call = refl; becomes = refl; kind = refl }
-    act_alike Cede = record { call = refl; becomes = refl; kind = refl }
-    act_alike Never = record { call = refl; becomes = refl; kind = refl }
-    act_alike Canceled = record { call = refl; becomes = refl; kind = refl }
+    act_alike (Add v w) = record {
+      call = refl;
+      becomes = elim (fits (number_of v +ℤ number_of w)) as (λ t. (let x : Tree = if t then Pure (Number (number_of v +ℤ number_of w)) else Raise (Number (pos 1001)) in x ≡ R x)) [
+        | true ↦ refl
+        | false ↦ refl
+      ];
+      kind = refl;
+    }
     act_alike (Request f) = record {
       call = refl;
       becomes = elim (is_ended r) as (λ t. (let x : Tree = if t then unit else Act (Ending f) in x ≡ R x)) [ true ↦ refl | false ↦ refl ];
@@ -244,31 +216,23 @@ module _ (i : ℕ) (to : ℕ → ℕ → Mask) (closed : (p : Put) (g m : ℕ) �
       becomes = elim (outcome_in r) as (λ o. after_end o f ≡ R (after_end o f)) [ None ↦ refl | Some o ↦ refl ];
       kind = elim (outcome_in r) as (λ o. wait o ≡ kind_renumbered R (wait o)) [ None ↦ refl | Some o ↦ refl ];
     }
-    act_alike (Get x) = record { call = refl; becomes = refl; kind = refl }
-    act_alike (Set x v) = record { call = refl; becomes = refl; kind = refl }
-    act_alike (Modify x v) = record { call = refl; becomes = refl; kind = refl }
-    act_alike (Complete x v) = record { call = refl; becomes = refl; kind = refl }
     act_alike (Await x) = record {
       call = refl;
       becomes = elim (read_in r) as (λ o. after_read o x ≡ R (after_read o x)) [ None ↦ refl | Some o ↦ refl ];
       kind = elim (read_in r) as (λ o. wait o ≡ kind_renumbered R (wait o)) [ None ↦ refl | Some o ↦ refl ];
     }
+    act_alike _ = record { call = refl; becomes = refl; kind = refl }
 
-    branch_to : (o : Option Outcome) (f : Handle) (x : ℕ) (s : Tree) (y : ℕ) (e c : Tree) →
-        branch o f x (R s) y (R e) (R c) ≡ R (branch o f x s y e c)
-    branch_to None f x s y e c = refl
-    branch_to (Some (outcome.Succeeded z)) f x s y e c = put_value x z s
-    branch_to (Some (outcome.Errored z)) f x s y e c = put_value y z e
-    branch_to (Some outcome.Canceled) f x s y e c = refl
+    branch_to : (o : Option Outcome) (f : Handle) (x : ℕ) (s : Tree) (y : ℕ) (e c : Tree) → branch o f x (R s) y (R e) (R c) ≡ R (branch o f x s y e c)
+    branch_to (Some (Outcome.Succeeded z)) f x s y e c = put_value x z s
+    branch_to (Some (Outcome.Errored z)) f x s y e c = put_value y z e
+    branch_to _ f x s y e c = refl
 
     looped_to : (m : Turns) (e : Tree) → looped m (R e) ≡ R (looped m e)
     looped_to Always e = refl
     looped_to (Times v) e =
         elim (is_positive v) as (λ t. (if t then Seq Last (R e) (Loop (Times (one_less v)) (R e)) else unit) ≡
-        R (if t then Seq Last e (Loop (Times (one_less v)) e) else unit)) [
-          | true ↦ refl
-          | false ↦ refl
-        ]
+        R (if t then Seq Last e (Loop (Times (one_less v)) e) else unit)) [ true ↦ refl | false ↦ refl ]
 
     pub own_up : (m : ℕ) (up up' : List Mask) → up' ≡ masks_to up → Pair i (number_to i to m) ∷ up' ≡ masks_to (Pair i m ∷ up)
     own_up m up up' q = ap₂ (λ (a : Mask) (l : List Mask). a ∷ l) (sym (own m)) q
@@ -278,15 +242,11 @@ module _ (i : ℕ) (to : ℕ → ℕ → Mask) (closed : (p : Put) (g m : ℕ) �
 
     taken_in : (up : List Mask) (s : PathStep) (E : End) (a : Row Tree) → Taken (under i next up s E a) → E ≡ Works → Taken a
     taken_in up s Works a h e = h
-    taken_in up s (Gives v) a h e = absurd (cc)
-    taken_in up s (Throws v) a h e = absurd (cc)
+    taken_in up s _ a h e = absurd (cc)
 
     pub walk_alike : (t : Tree) (up up' : List Mask) → Each IsKept up → Each (λ m. IsKept (Pair i m)) (masks_on t) → up' ≡ masks_to up →
         Taken (walk i next r up t) → Alike (walk i next r up t) (walk i next' r up' (R t))
-    walk_alike (Pure v) up up' k g q h = record { call = refl; becomes = refl; kind = refl }
-    walk_alike (Raise v) up up' k g q h = record { call = refl; becomes = refl; kind = refl }
     walk_alike (Act c) up up' k g q h = act_alike c
-    walk_alike (Note e p) up up' k g q h = record { call = refl; becomes = refl; kind = refl }
     walk_alike (Cancel f) up up' k g q h = record { call = refl; becomes = ap (λ n. Masked n (Act (Request f))) (number_next (h refl)); kind = refl }
       where
         number_next : to i next ≡ Pair i next' → next' ≡ number_to i to next
@@ -321,8 +281,7 @@ module _ (i : ℕ) (to : ℕ → ℕ → Mask) (closed : (p : Put) (g m : ℕ) �
       kind = refl;
     }
     walk_alike (Poll p e) up up' k g q h =
-        record { call = switch_call _ _ ask.Unmask (ap (is_effective (Q p)) q ∙ effective_to p up k); becomes = refl; kind = refl }
-    walk_alike (On_cancel e fin) up up' k g q h = record { call = refl; becomes = refl; kind = refl }
+        record { call = switch_call _ _ Ask.Unmask (ap (is_effective (Q p)) q ∙ effective_to p up k); becomes = refl; kind = refl }
     walk_alike (Masked m e) up up' k g q h =
         step_alike up up' k q (In_masked m) e (walk i next r (Pair i m ∷ up) e) (walk i next' r (Pair i (number_to i to m) ∷ up') (R e))
         (λ w. walk_alike e (Pair i m ∷ up) (Pair i (number_to i to m) ∷ up') (g.0, k) g.1 (own_up m up up' q)
@@ -334,3 +293,4 @@ module _ (i : ℕ) (to : ℕ → ℕ → Mask) (closed : (p : Put) (g m : ℕ) �
     walk_alike (Guarded e fin) up up' k g q h =
         step_alike up up' k q (In_guarded fin) e (walk i next r up e) (walk i next' r up' (R e))
         (λ w. walk_alike e up up' k g q (taken_in up (In_guarded fin) (end_of e) (walk i next r up e) h w))
+    walk_alike _ up up' k g q h = record { call = refl; becomes = refl; kind = refl }

@@ -1,17 +1,7 @@
 -- Fibers that are at the same, but for what is bound where neither looks any more, are one.
-use Rattle.std.proofs.Common.{◌≡◌, ℕ, List, [], ◌∷◌, map, reverse, refl, sym, ap, ap₂, ◌∙◌}
-use mathlib.Core.List.{reverse_aux}
-use Rattle.derived_ops.specs.Tree.{Tree}
-use Rattle.derived_ops.specs.declared.core_word.CoreWord.{CoreWord}
-use Rattle.fiber_frames.specs.declared.frame.Frame.{Frame}
-use Rattle.fiber_frames.specs.declared.frame.Pending.{Pending}
-use Rattle.fiber_frames.specs.declared.frame.RunStage.{RunStage}
-use Rattle.fiber_frames.specs.declared.frame.RunStage.TheVariants as stage
-use Rattle.fiber_frames.specs.declared.machine.Machine.{Machine}
-use Rattle.fiber_frames.specs.Leaf.{Leaf}
-use Rattle.fiber_frames.specs.Path.{PathStep, whole}
-use Rattle.fiber_frames.specs.Frames.{finalizer_of, finalizers_of, leaf_of, leaf_tree, running_in, running_of, step_of, steps_of}
-use Rattle.fiber_frames.specs.Machines.{IsOver, SameCourse, SameParts, fiber_in, state_of}
+use Rattle.fiber_frames.proofs.Prelude.{◌≡◌, ℕ, List, [], ◌∷◌, map, reverse, refl, sym, ap, ap₂, ◌∙◌, reverse_aux, Tree, CoreWord, Frame, Pending, RunStage}
+use Rattle.fiber_frames.proofs.Prelude.{Machine, Leaf, PathStep, whole, finalizer_of, finalizers_of, leaf_of, leaf_tree, running_in, running_of, step_of}
+use Rattle.fiber_frames.proofs.Prelude.{steps_of, IsOver, SameCourse, SameParts, fiber_in, state_of}
 
 map_onto : {A B : Type 0} (to : A → B) (xs ys : List A) → map to (reverse_aux xs ys) ≡ reverse_aux (map to xs) (map to ys)
 map_onto to [] ys = refl
@@ -22,9 +12,7 @@ map_reverse to xs = map_onto to xs []
 
 module _ (one other : Machine) (own : one.own ≡ other.own) (h : SameParts one other) where
   leaf_same : leaf_tree (state_of one) ≡ leaf_tree (state_of other)
-  leaf_same =
-      h.names.leaf.same one.env.items other.env.items h.env
-      ∙ ap₂ (λ (ws : List CoreWord) (l : Leaf). leaf_of ws other.env.items l) h.words h.leaf
+  leaf_same = h.names.leaf.same one.env.items other.env.items h.env ∙ ap₂ (λ (ws : List CoreWord) (l : Leaf). leaf_of ws other.env.items l) h.words h.leaf
 
   frames_same : map (step_of one.words.value one.env.items one.own) one.frames.items ≡ map (step_of other.words.value other.env.items other.own) other.frames.items
   frames_same =
@@ -56,11 +44,8 @@ module _ (one other : Machine) (own : one.own ≡ other.own) (h : SameParts one 
       ∙ ap (λ (s : RunStage). running_in s (whole (steps_of (state_of other)) (leaf_tree (state_of other))) (finalizers_of (state_of other))) same
 
 over_same : (s : RunStage) (t u : Tree) (gs hs : List Tree) → IsOver s → running_in s t gs ≡ running_in s u hs
-over_same stage.Runs t u gs hs over = absurd over
-over_same (stage.Final m) t u gs hs over = absurd over
-over_same (stage.Drained m) t u gs hs over = absurd over
-over_same (stage.Over o) t u gs hs over = refl
-over_same stage.Broken t u gs hs over = absurd over
+over_same (RunStage.Over o) t u gs hs over = refl
+over_same _ t u gs hs over = absurd over
 
 module _ (one other : Machine) (h : SameCourse one other) where
   fibers_same : running_of (state_of one) ≡ running_of (state_of other) → fiber_in one ≡ fiber_in other

@@ -1,36 +1,16 @@
 -- A machine in which each mask has its place on the path for its number is that of the fiber without its marks.
-use Rattle.std.proofs.Common.{◌≡◌, ℕ, zero, suc, ◌+◌, true, false, if◌then◌else◌, nat_lt, List, [], ◌∷◌, ◌++◌, Option, Some, None, length, map, reverse, slice_get, refl, sym, ap, ap₂, ◌∙◌}
-use Rattle.std.specs.Prelude.{pos}
-use mathlib.Core.List.{reverse_aux}
-use Rattle.std.proofs.Math.Path.{fun_ext}
-use Rattle.std.proofs.lemmas.List.{append-nil}
-use Rattle.derived_ops.specs.Tree.{Act, Action, Always, Cancel, Guarded, Handle, Handled, If0, Join, Last, Let, Loop, Make, Maker, Mask, Masked}
-use Rattle.derived_ops.specs.Tree.{Add, Await, Canceled, Cede, Complete, Ending, Get, Known, Modify, Named, Never, New_deferred, New_ref, Note, Number, On_cancel}
-use Rattle.derived_ops.specs.Tree.{Open_slot, Operand, Pair, Poll, Polled, Pure, Raise, Request, Say, Seq, Set, Slot, Start, Times, Tree, Turns, Uncancelable}
-use Rattle.derived_ops.specs.Words.{second, third, tree_at, word_tree}
-use Rattle.derived_ops.specs.declared.core_word.CoreWord.{CoreWord}
-use Rattle.derived_ops.specs.declared.core_word.CoreWord.TheVariants as word
-use Rattle.fiber_frames.specs.declared.env.EnvEntry.{EnvEntry}
-use Rattle.fiber_frames.specs.declared.env.EnvEntry.TheVariants as entry
-use Rattle.fiber_frames.specs.declared.frame.Frame.{Frame}
-use Rattle.fiber_frames.specs.declared.frame.Frame.TheVariants as frame
-use Rattle.fiber_frames.specs.declared.frame.Pending.{Pending}
-use Rattle.fiber_frames.specs.declared.frame.RunStage.{RunStage}
-use Rattle.fiber_frames.specs.declared.frame.RunStage.TheVariants as stage
-use Rattle.fiber_frames.specs.declared.operand.Mask.TheVariants as mask
-use Rattle.fiber_frames.specs.declared.machine.Machine.{Machine}
+use Rattle.fiber_frames.proofs.Prelude.{◌≡◌, ℕ, zero, suc, ◌+◌, true, false, if◌then◌else◌, nat_lt, List, [], ◌∷◌, ◌++◌, Option, Some, None, length, map}
+use Rattle.fiber_frames.proofs.Prelude.{reverse, slice_get, refl, sym, ap, ap₂, ◌∙◌, pos, reverse_aux, fun_ext, append-nil, Act, Action, Always, Cancel}
+use Rattle.fiber_frames.proofs.Prelude.{Guarded, Handle, Handled, If0, Join, Last, Let, Loop, Make, Maker, Mask, Masked, Add, Await, Complete, Ending, Get}
+use Rattle.fiber_frames.proofs.Prelude.{Known, Modify, Named, New_deferred, New_ref, Note, Number, On_cancel, Open_slot, Operand, Pair, Poll, Polled, Pure}
+use Rattle.fiber_frames.proofs.Prelude.{Raise, Request, Say, Seq, Set, Slot, Start, Times, Tree, Turns, Uncancelable, second, third, tree_at, word_tree}
+use Rattle.fiber_frames.proofs.Prelude.{CoreWord, EnvEntry, Frame, Pending, RunStage, Machine, The_mark, Look, Env, close, close_action, close_handle}
+use Rattle.fiber_frames.proofs.Prelude.{close_maker, close_mask, close_turns, close_value, env_of, handle_or, mask_or, value_or, Fiber, finalizer_of}
+use Rattle.fiber_frames.proofs.Prelude.{finalizers_of, leaf_of, running_in, running_of, step_of, Leaf, leaf_in, fiber_in, state_of, In_guarded, In_handle}
+use Rattle.fiber_frames.proofs.Prelude.{In_let, In_masked, In_polled, In_seq, PathStep, Running, around, whole, entry_placed, frame_placed, numbers_in}
+use Rattle.fiber_frames.proofs.Prelude.{path_masks, stage_placed, all_renumbered, mask_to, masks_of, masks_on, number_to, placed_in, renumbered, run_renumbered}
+use Rattle.fiber_frames.proofs.Prelude.{run_unmarked, unmarked, Mask_code}
 use Rattle.fiber_frames.specs.declared.frame.Place.{Place}
-use Rattle.fiber_frames.specs.declared.mark.Mark.{Mark as The_mark}
-use Rattle.fiber_frames.specs.declared.ask.Look.{Look}
-use Rattle.fiber_frames.specs.Env.{Env, close, close_action, close_handle, close_maker, close_mask, close_turns, close_value, env_of, handle_or, mask_or, value_or}
-use Rattle.fiber_frames.specs.Fiber.{Fiber}
-use Rattle.fiber_frames.specs.Frames.{finalizer_of, finalizers_of, leaf_of, running_in, running_of, step_of}
-use Rattle.fiber_frames.specs.Leaf as leaf
-use Rattle.fiber_frames.specs.Leaf.{Leaf, leaf_in}
-use Rattle.fiber_frames.specs.Machines.{fiber_in, state_of}
-use Rattle.fiber_frames.specs.Path.{In_guarded, In_handle, In_let, In_masked, In_polled, In_seq, PathStep, Running, around, whole}
-use Rattle.fiber_frames.specs.Shapes.{entry_placed, frame_placed, numbers_in, path_masks, stage_placed}
-use Rattle.fiber_frames.specs.Unmarked.{all_renumbered, mask_to, masks_of, masks_on, number_to, placed_in, renumbered, run_renumbered, run_unmarked, unmarked}
 
 -- ---- terms without numbers of masks, and without the forms that only a running fiber has
 abbrev Unnumbered : Mask → Type 0
@@ -56,22 +36,18 @@ Words (Guarded e fin) = ⊥
 Words _ = Unit {0}
 
 word_words : (w : CoreWord) (n : ℕ) (a b c : ℕ → Tree) → ((n : ℕ) → Words (a n)) → ((n : ℕ) → Words (b n)) → ((n : ℕ) → Words (c n)) → Words (word_tree w n a b c)
-word_words (word.Pure v) n a b c f g h = tt
-word_words (word.Raise v) n a b c f g h = tt
-word_words (word.Act o) n a b c f g h = tt
-word_words (word.Note e p) n a b c f g h = tt
-word_words (word.Cancel k) n a b c f g h = tt
-word_words (word.Let j) n a b c f g h = (f n, g (n + 1))
-word_words (word.Seq w j) n a b c f g h = (f n, g n)
-word_words (word.Handle j) n a b c f g h = (f n, g (n + 1))
-word_words (word.If0 v j) n a b c f g h = (f n, g n)
-word_words (word.Join k j l) n a b c f g h = (f (n + 1), g (n + 1), h n)
-word_words (word.Make m) n a b c f g h = f (n + 1)
-word_words (word.Start j) n a b c f g h = (f n, g (n + 1))
-word_words (word.Loop t) n a b c f g h = f n
-word_words word.Uncancelable n a b c f g h = f (n + 1)
-word_words (word.Poll p) n a b c f g h = (tt, f n)
-word_words (word.OnCancel j) n a b c f g h = (f n, g n)
+word_words (CoreWord.Let j) n a b c f g h = (f n, g (n + 1))
+word_words (CoreWord.Seq w j) n a b c f g h = (f n, g n)
+word_words (CoreWord.Handle j) n a b c f g h = (f n, g (n + 1))
+word_words (CoreWord.If0 v j) n a b c f g h = (f n, g n)
+word_words (CoreWord.Join k j l) n a b c f g h = (f (n + 1), g (n + 1), h n)
+word_words (CoreWord.Make m) n a b c f g h = f (n + 1)
+word_words (CoreWord.Start j) n a b c f g h = (f n, g (n + 1))
+word_words (CoreWord.Loop t) n a b c f g h = f n
+word_words CoreWord.Uncancelable n a b c f g h = f (n + 1)
+word_words (CoreWord.Poll p) n a b c f g h = (tt, f n)
+word_words (CoreWord.OnCancel j) n a b c f g h = (f n, g n)
+word_words _ n a b c f g h = tt
 
 tree_words : (ws : List CoreWord) (i n : ℕ) → Words (tree_at ws i n)
 tree_words [] i n = tt
@@ -126,21 +102,18 @@ module _ (i : ℕ) (ms : List ℕ) where
 
     value_found : (s : ℕ) (o : Option EnvEntry) → value_or s (on_some (entry_placed i ms) o) ≡ value_or s o
     value_found s None = refl
-    value_found s (Some (entry.Value z)) = refl
-    value_found s (Some (entry.Handle n)) = refl
-    value_found s (Some (entry.Mask f m)) = refl
+    value_found s (Some (EnvEntry.Value z)) = refl
+    value_found s _ = refl
 
     handle_found : (s : ℕ) (o : Option EnvEntry) → handle_or s (on_some (entry_placed i ms) o) ≡ handle_or s o
     handle_found s None = refl
-    handle_found s (Some (entry.Value z)) = refl
-    handle_found s (Some (entry.Handle n)) = refl
-    handle_found s (Some (entry.Mask f m)) = refl
+    handle_found s (Some (EnvEntry.Value z)) = refl
+    handle_found s _ = refl
 
     mask_found : (s : ℕ) (o : Option EnvEntry) → mask_to i to (mask_or s o) ≡ mask_or s (on_some (entry_placed i ms) o)
     mask_found s None = refl
-    mask_found s (Some (entry.Value z)) = refl
-    mask_found s (Some (entry.Handle n)) = refl
-    mask_found s (Some (entry.Mask f m)) = refl
+    mask_found s (Some (EnvEntry.Value z)) = refl
+    mask_found s _ = refl
 
     value_close : (v : Operand) → close_value g v ≡ close_value after v
     value_close (Number z) = refl
@@ -157,9 +130,6 @@ module _ (i : ℕ) (ms : List ℕ) where
     action_close : (a : Action) → close_action g a ≡ close_action after a
     action_close (Add v w) = ap₂ Add (value_close v) (value_close w)
     action_close (Say v) = ap Say (value_close v)
-    action_close Cede = refl
-    action_close Never = refl
-    action_close Canceled = refl
     action_close (Request f) = ap Request (handle_close f)
     action_close (Ending f) = ap Ending (handle_close f)
     action_close (Get r) = ap Get (handle_close r)
@@ -167,6 +137,7 @@ module _ (i : ℕ) (ms : List ℕ) where
     action_close (Modify r v) = ap₂ Modify (handle_close r) (value_close v)
     action_close (Complete d v) = ap₂ Complete (handle_close d) (value_close v)
     action_close (Await d) = ap Await (handle_close d)
+    action_close _ = refl
 
     maker_close : (m : Maker) → close_maker g m ≡ close_maker after m
     maker_close (New_ref v) = ap New_ref (value_close v)
@@ -196,9 +167,7 @@ module _ (i : ℕ) (ms : List ℕ) where
     tree_close (Uncancelable x e) h = ap (Uncancelable x) (tree_close e h)
     tree_close (Poll q e) h = ap₂ (λ a b. Poll a b) (mask_close q h.0) (tree_close e h.1)
     tree_close (On_cancel e fin) h = ap₂ (λ a b. On_cancel a b) (tree_close e h.0) (tree_close fin h.1)
-    tree_close (Masked m e) h = absurd h
-    tree_close (Polled q e) h = absurd h
-    tree_close (Guarded e fin) h = absurd h
+    tree_close _ h = absurd h
 
   module _ (ws : List CoreWord) (es : List EnvEntry) where
     abbrev es' : List EnvEntry
@@ -208,11 +177,10 @@ module _ (i : ℕ) (ms : List ℕ) where
     same_env n = fun_ext here
       where
         here : (s : ℕ) → on_some (entry_placed i ms) (env_of es n s) ≡ env_of es' n s
-        here s =
-            elim (nat_lt s n) as (λ t. on_some (entry_placed i ms) (if t then slice_get es s else None) ≡ (if t then slice_get es' s else None)) [
-              | true ↦ sym (get_map (entry_placed i ms) es s)
-              | false ↦ refl
-            ]
+        here s = elim (nat_lt s n) as (λ t. on_some (entry_placed i ms) (if t then slice_get es s else None) ≡ (if t then slice_get es' s else None)) [
+          | true ↦ sym (get_map (entry_placed i ms) es s)
+          | false ↦ refl
+        ]
 
     -- a part of the code inside n binders, of which m are bound here
     part_to : (k n m : ℕ) → R (close (env_of es n) (tree_at ws k m)) ≡ close (env_of es' n) (tree_at ws k m)
@@ -227,25 +195,19 @@ module _ (i : ℕ) (ms : List ℕ) where
     step_to (In_polled q) = In_polled (mask_to i to q)
 
     frame_to : (f : Frame) → step_to (step_of ws es i f) ≡ step_of ws es' i (frame_placed i ms f)
-    frame_to (frame.Let k n) = ap (In_let n) (part_to k n (n + 1))
-    frame_to (frame.Seq w k n) = ap (In_seq (Rattle.derived_ops.specs.Words.rest_of w)) (part_to k n n)
-    frame_to (frame.Again k z n) = ap (λ (t : Tree). In_seq Last (Loop (Times (Number (pos z))) t)) (part_to k n n)
-    frame_to (frame.Forever k n) = ap (In_seq Last) (part_to k n n)
-    frame_to (frame.Handle k n) = ap (In_handle n) (part_to k n (n + 1))
-    frame_to (frame.Guarded k n) = ap In_guarded (part_to k n n)
-    frame_to (frame.Masked m) = refl
-    frame_to (frame.Polled m) = refl
-    frame_to (frame.Idle (mask.Named s)) = refl
-    frame_to (frame.Idle (mask.Pair f m)) = refl
+    frame_to (Frame.Let k n) = ap (In_let n) (part_to k n (n + 1))
+    frame_to (Frame.Seq w k n) = ap (In_seq (Rattle.derived_ops.specs.Words.rest_of w)) (part_to k n n)
+    frame_to (Frame.Again k z n) = ap (λ (t : Tree). In_seq Last (Loop (Times (Number (pos z))) t)) (part_to k n n)
+    frame_to (Frame.Forever k n) = ap (In_seq Last) (part_to k n n)
+    frame_to (Frame.Handle k n) = ap (In_handle n) (part_to k n (n + 1))
+    frame_to (Frame.Guarded k n) = ap In_guarded (part_to k n n)
+    frame_to (Frame.Idle (Mask_code.Named s)) = refl
+    frame_to _ = refl
 
     leaf_to : (l : Leaf) → R (leaf_of ws es l) ≡ leaf_of ws es' l
-    leaf_to (leaf.At k j n) = part_to j n n
-    leaf_to (leaf.Value v) = refl
-    leaf_to (leaf.Error v) = refl
-    leaf_to (leaf.Request f) = refl
-    leaf_to (leaf.Ending f) = refl
-    leaf_to (leaf.Store r v) = refl
-    leaf_to (leaf.Turns z j n) = ap (Loop (Times (Number (pos z)))) (part_to j n n)
+    leaf_to (Leaf.At k j n) = part_to j n n
+    leaf_to (Leaf.Turns z j n) = ap (Loop (Times (Number (pos z)))) (part_to j n n)
+    leaf_to _ = refl
 
     finalizer_to : (p : Pending) → R (finalizer_of ws es p) ≡ finalizer_of ws es' p
     finalizer_to p = part_to p.index p.level p.level
@@ -256,11 +218,7 @@ module _ (i : ℕ) (ms : List ℕ) where
 
     around_to : (s : PathStep) (e : Tree) → around (step_to s) (R e) ≡ R (around s e)
     around_to (In_let x k) e = refl
-    around_to (In_seq w k) e = refl
-    around_to (In_handle x h) e = refl
-    around_to (In_guarded fin) e = refl
-    around_to (In_masked m) e = refl
-    around_to (In_polled q) e = refl
+    around_to _ e = refl
 
     whole_to : (p : List PathStep) (t : Tree) → R (whole p t) ≡ whole (map step_to p) (R t)
     whole_to [] t = refl
@@ -274,11 +232,8 @@ module _ (i : ℕ) (ms : List ℕ) where
         ∙ ap (map (step_of ws es' i)) (map_reverse (frame_placed i ms) fs)
 
     run_to : (s : RunStage) (t : Tree) (gs : List Tree) → run_renumbered i to (running_in s t gs) ≡ running_in (stage_placed i ms s) (R t) (all_renumbered i to gs)
-    run_to stage.Runs t gs = refl
-    run_to (stage.Final m) t gs = refl
-    run_to (stage.Drained m) t gs = refl
-    run_to (stage.Over o) t gs = refl
-    run_to stage.Broken t gs = refl
+    run_to RunStage.Runs t gs = refl
+    run_to _ t gs = refl
 
     abbrev made : RunStage → List Frame → Leaf → List Pending → List EnvEntry → Running
     made s fs l ps e = running_in s (whole (map (step_of ws e i) (reverse fs)) (leaf_of ws e l)) (map (finalizer_of ws e) ps)
@@ -316,28 +271,16 @@ module _ (i : ℕ) (ws : List CoreWord) (es : List EnvEntry) where
   whole_masks (In_polled q ∷ p) t = whole_masks p (Polled q t)
 
   one_inward : (f : Frame) (fs zs : List Frame) (l : List ℕ) → inward (map step (f ∷ zs)) (numbers_in fs ++ l) ≡ inward (map step zs) (numbers_in (f ∷ fs) ++ l)
-  one_inward (frame.Let k n) fs zs l = refl
-  one_inward (frame.Seq w k n) fs zs l = refl
-  one_inward (frame.Again k z n) fs zs l = refl
-  one_inward (frame.Forever k n) fs zs l = refl
-  one_inward (frame.Handle k n) fs zs l = refl
-  one_inward (frame.Guarded k n) fs zs l = refl
-  one_inward (frame.Masked m) fs zs l = refl
-  one_inward (frame.Polled m) fs zs l = refl
-  one_inward (frame.Idle q) fs zs l = refl
+  one_inward (Frame.Let k n) fs zs l = refl
+  one_inward _ fs zs l = refl
 
   onto_inward : (fs zs : List Frame) (l : List ℕ) → inward (map step (reverse_aux fs zs)) l ≡ inward (map step zs) (numbers_in fs ++ l)
   onto_inward [] zs l = refl
   onto_inward (f ∷ fs) zs l = onto_inward fs (f ∷ zs) l ∙ one_inward f fs zs l
 
   leaf_masks : (l : Leaf) → masks_on (leaf_of ws es l) ≡ []
-  leaf_masks (leaf.At k j n) = words_masks (env_of es n) (tree_at ws j n) (tree_words ws j n)
-  leaf_masks (leaf.Value v) = refl
-  leaf_masks (leaf.Error v) = refl
-  leaf_masks (leaf.Request f) = refl
-  leaf_masks (leaf.Ending f) = refl
-  leaf_masks (leaf.Store r v) = refl
-  leaf_masks (leaf.Turns z j n) = refl
+  leaf_masks (Leaf.At k j n) = words_masks (env_of es n) (tree_at ws j n) (tree_words ws j n)
+  leaf_masks _ = refl
 
   term_masks : (fs : List Frame) (l : Leaf) → masks_on (whole (map step (reverse fs)) (leaf_of ws es l)) ≡ numbers_in fs
   term_masks fs l =
@@ -348,11 +291,9 @@ module _ (i : ℕ) (ws : List CoreWord) (es : List EnvEntry) where
 
   run_masks : (s : RunStage) (fs : List Frame) (l : Leaf) (gs : List Tree) →
       masks_of (running_in s (whole (map step (reverse fs)) (leaf_of ws es l)) gs) ≡ path_masks s fs
-  run_masks stage.Runs fs l gs = term_masks fs l
-  run_masks (stage.Final m) fs l gs = ap (λ (k : List ℕ). m ∷ k) (term_masks fs l)
-  run_masks (stage.Drained m) fs l gs = refl
-  run_masks (stage.Over o) fs l gs = refl
-  run_masks stage.Broken fs l gs = refl
+  run_masks RunStage.Runs fs l gs = term_masks fs l
+  run_masks (RunStage.Final m) fs l gs = ap (λ (k : List ℕ). m ∷ k) (term_masks fs l)
+  run_masks _ fs l gs = refl
 
 -- ---- the machine
 abbrev fiber_made : ℕ → List CoreWord → List EnvEntry → List Frame → Leaf → List Pending → RunStage → ℕ → List The_mark → Look → Fiber

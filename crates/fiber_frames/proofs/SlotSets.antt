@@ -1,28 +1,18 @@
 -- Sets of slots by the bits of a number, and what terms need of them.
-use Rattle.std.proofs.Common.{◌≡◌, ◌≢◌, inl, inr, ◌<◌, ◌≤◌, ℕ, ◌+◌, ◌-◌, ◌*◌, ◌%◌, ◌^◌, List, [], ◌∷◌, ◌++◌, map, take, length, set, get_or, get_or-set_same, get_or-set_other, refl, sym, ap, ap₂, ◌∙◌, subst, arith}
+use Rattle.fiber_frames.proofs.Prelude.{◌≡◌, ◌≢◌, inl, inr, ◌<◌, ◌≤◌, ℕ, ◌+◌, ◌-◌, ◌*◌, ◌%◌, ◌^◌, List, [], ◌∷◌, ◌++◌, map, take, length, set, get_or}
+use Rattle.fiber_frames.proofs.Prelude.{get_or-set_same, get_or-set_other, refl, sym, ap, ap₂, ◌∙◌, subst, arith, cases_lt, lt-ltb, le-ltb, max, min}
+use Rattle.fiber_frames.proofs.Prelude.{slice_index, map_more, Tree, Act, Let, Seq, Handled, Start, Uncancelable, On_cancel, Never, CoreWord, rest_of, second}
+use Rattle.fiber_frames.proofs.Prelude.{third, tree_at, word_at, word_tree, tree_past_end, tree_word, EnvEntry, Env, close, env_of, WordKind, leaf_by, Agree}
+use Rattle.fiber_frames.proofs.Prelude.{AreSameAt, Names, Needs, NeedsAt, many_parts, Leaf}
 use mathlib.Core.Logic.{dite}
 use native.Mathlib.Decide.{ℕ_discrete}
-use Rattle.std.proofs.lemmas.Bool.{cases_lt, lt-ltb, le-ltb}
-use Rattle.std.specs.Prelude.{max, min, slice_index}
 use Rattle.std.specs.Int.{bit_at}
 use Rattle.std.specs.Int.RustNames.{bit_and, bit_or}
 use Rattle.std.specs.List.{slice_get}
-use Rattle.std.proofs.lemmas.List.{map_more}
 use Rattle.std.proofs.lemmas.Nat.{one_shl}
 use Rattle.std.proofs.lemmas.Nat.Bits.{bit_at-lt, bit_at-pow_same, bit_at_and, bit_at_ones, bit_at_or}
-use Rattle.derived_ops.specs.Tree.{Tree, Act, Let, Seq, Handled, Start, Uncancelable, On_cancel, Never}
-use Rattle.derived_ops.specs.declared.core_word.CoreWord.{CoreWord}
-use Rattle.derived_ops.specs.declared.core_word.CoreWord.TheVariants as word
-use Rattle.derived_ops.specs.Words.{rest_of, second, third, tree_at, word_at, word_tree}
-use Rattle.derived_ops.proofs.Words.{tree_past_end, tree_word}
-use Rattle.fiber_frames.specs.declared.env.EnvEntry.{EnvEntry}
-use Rattle.fiber_frames.specs.Env.{Env, close, env_of}
 use Rattle.fiber_frames.specs.declared.frame.Place.{Place}
-use Rattle.fiber_frames.specs.declared.kind.WordKind.{WordKind}
-use Rattle.fiber_frames.specs.declared.kind.WordKind.TheVariants as kind
-use Rattle.fiber_frames.specs.Leaf as leaf
-use Rattle.fiber_frames.specs.Leaf.{leaf_by}
-use Rattle.fiber_frames.specs.SlotNames.{Agree, AreSameAt, Has, Names, Needs, NeedsAt, many_parts}
+use Rattle.fiber_frames.specs.SlotNames.{Has}
 
 -- ---- sets
 max_one : (x y z : ℕ) → z ≡ max x y → x ≡ 1 → y < 2 → z ≡ 1
@@ -54,26 +44,12 @@ module _ (a b : ℕ) (g h : Env) (e : Agree (bit_or a b) g h) where
   agree_second : Agree b g h
   agree_second = record { each = λ s has. e.each s (has_second a b s has) }
 
-pub needs_first : {T : Type 0} (a b : ℕ) (made : Env → T) → Needs a made → Needs (bit_or a b) made
-needs_first a b made h = record { same = λ g f e. h.same g f (agree_first a b g f e) }
-
-pub needs_second : {T : Type 0} (a b : ℕ) (made : Env → T) → Needs b made → Needs (bit_or a b) made
-needs_second a b made h = record { same = λ g f e. h.same g f (agree_second a b g f e) }
-
-pub needs_none : {T : Type 0} (a : ℕ) (x : T) → Needs a (λ (g : Env). x)
-needs_none a x = record { same = λ g f e. refl }
-
-pub needs_ap : {T U : Type 0} (to : T → U) (a : ℕ) (made : Env → T) → Needs a made → Needs a (λ (g : Env). to (made g))
-needs_ap to a made h = record { same = λ g f e. ap to (h.same g f e) }
-
 pub needs_two : {T U V : Type 0} (to : T → U → V) (a b : ℕ) (made : Env → T) (more : Env → U) → Needs a made → Needs b more →
     Needs (bit_or a b) (λ (g : Env). to (made g) (more g))
 needs_two to a b made more h j = record { same = λ g f e. ap₂ to (h.same g f (agree_first a b g f e)) (j.same g f (agree_second a b g f e)) }
 
 pub one_slot : (s : ℕ) → s < 64 → Needs (1 * 2 ^ s % 2 ^ 64) (λ (g : Env). g s)
-one_slot s low = record {
-  same = λ g f e. e.each s (inr (ap (λ n. bit_at n s) (one_shl s 64 low) ∙ bit_at-pow_same s));
-}
+one_slot s low = record { same = λ g f e. e.each s (inr (ap (λ n. bit_at n s) (one_shl s 64 low) ∙ bit_at-pow_same s)) }
 
 pub far_slot : (s a : ℕ) → 64 ≤ s → Needs a (λ (g : Env). g s)
 far_slot s a far = record { same = λ g f e. e.each s (inl far) }
@@ -90,29 +66,25 @@ module _ (g h : Env) (n : ℕ) (a b c : ℕ → Tree) where
   word_same : (w : CoreWord) → close g (word_tree w 0 nothing nothing nothing) ≡ close h (word_tree w 0 nothing nothing nothing) →
       (0 < many_parts w → SamePart g h a) → (1 < many_parts w → SamePart g h b) → (2 < many_parts w → SamePart g h c) →
       close g (word_tree w n a b c) ≡ close h (word_tree w n a b c)
-  word_same (word.Pure v) own first next last = own
-  word_same (word.Raise v) own first next last = own
-  word_same (word.Act o) own first next last = own
-  word_same (word.Note i p) own first next last = own
-  word_same (word.Cancel f) own first next last = own
-  word_same (word.Let j) own first next last = ap₂ (λ (x y : Tree). Let x n y) (first (omega arith) n) (next (omega arith) (n + 1))
-  word_same (word.Seq r j) own first next last = ap₂ (λ (x y : Tree). Seq (rest_of r) x y) (first (omega arith) n) (next (omega arith) n)
-  word_same (word.Handle j) own first next last = ap₂ (λ (x y : Tree). Handled x n y) (first (omega arith) n) (next (omega arith) (n + 1))
-  word_same (word.If0 v j) own first next last =
+  word_same (CoreWord.Let j) own first next last = ap₂ (λ (x y : Tree). Let x n y) (first (omega arith) n) (next (omega arith) (n + 1))
+  word_same (CoreWord.Seq r j) own first next last = ap₂ (λ (x y : Tree). Seq (rest_of r) x y) (first (omega arith) n) (next (omega arith) n)
+  word_same (CoreWord.Handle j) own first next last = ap₂ (λ (x y : Tree). Handled x n y) (first (omega arith) n) (next (omega arith) (n + 1))
+  word_same (CoreWord.If0 v j) own first next last =
       let p = first (omega arith) n in
       let q = next (omega arith) n in
       cc
-  word_same (word.Join f j l) own first next last =
+  word_same (CoreWord.Join f j l) own first next last =
       let p = first (omega arith) (n + 1) in
       let q = next (omega arith) (n + 1) in
       let r = last (omega arith) n in
       cc
-  word_same (word.Make m) own first next last = let p = first (omega arith) (n + 1) in cc
-  word_same (word.Start j) own first next last = ap₂ (λ (x y : Tree). Start n x y) (first (omega arith) n) (next (omega arith) (n + 1))
-  word_same (word.Loop t) own first next last = let p = first (omega arith) n in cc
-  word_same word.Uncancelable own first next last = ap (λ (x : Tree). Uncancelable n x) (first (omega arith) (n + 1))
-  word_same (word.Poll q) own first next last = let p = first (omega arith) n in cc
-  word_same (word.OnCancel j) own first next last = ap₂ (λ (x y : Tree). On_cancel x y) (first (omega arith) n) (next (omega arith) n)
+  word_same (CoreWord.Make m) own first next last = let p = first (omega arith) (n + 1) in cc
+  word_same (CoreWord.Start j) own first next last = ap₂ (λ (x y : Tree). Start n x y) (first (omega arith) n) (next (omega arith) (n + 1))
+  word_same (CoreWord.Loop t) own first next last = let p = first (omega arith) n in cc
+  word_same CoreWord.Uncancelable own first next last = ap (λ (x : Tree). Uncancelable n x) (first (omega arith) (n + 1))
+  word_same (CoreWord.Poll q) own first next last = let p = first (omega arith) n in cc
+  word_same (CoreWord.OnCancel j) own first next last = ap₂ (λ (x y : Tree). On_cancel x y) (first (omega arith) n) (next (omega arith) n)
+  word_same _ own first next last = own
 
 module _ (ws : List CoreWord) (i : ℕ) where
   abbrev first_of : ℕ → Tree
@@ -143,8 +115,7 @@ module _ (ws : List CoreWord) (i : ℕ) where
 
 pub part_needs : (ws : List CoreWord) (slots : List ℕ) (i j k b : ℕ) → j ≡ k → b ≡ slice_index slots j →
     ((m : ℕ) → i < m → NeedsAt ws m (slice_index slots m)) → i < j → NeedsAt ws k b
-part_needs ws slots i j k b same is behind low =
-    subst (λ m. NeedsAt ws m b) same (subst (λ s. NeedsAt ws j s) (sym is) (behind j low))
+part_needs ws slots i j k b same is behind low = subst (λ m. NeedsAt ws m b) same (subst (λ s. NeedsAt ws j s) (sym is) (behind j low))
 
 -- past the words nothing is named
 pub past_needs : (ws : List CoreWord) (i a : ℕ) → length ws ≤ i → NeedsAt ws i a
@@ -170,9 +141,6 @@ below_agrees slots n es fs same low = record {
   within : (s : ℕ) → s < n → bit_at (1 * 2 ^ n % 2 ^ 64 - 1) s ≡ 1
   within s less = ap (λ m. bit_at (m - 1) s) (one_shl n 64 low) ∙ bit_at_ones n s less
 
-pub all_agree : (slots n : ℕ) (es fs : List EnvEntry) → AreSameAt slots es fs → Agree slots (env_of es n) (env_of fs n)
-all_agree slots n es fs same = record { each = λ s has. entry_at es fs n s (λ less. same.each s has) }
-
 module _ {T : Type 0} (a b : ℕ) (made : List EnvEntry → T) where
   pub names_first : Names a made → Names (bit_or a b) made
   names_first h = record { same = λ es fs e. h.same es fs (record { each = λ s has. e.each s (has_first a b s has) }) }
@@ -185,9 +153,6 @@ pub names_term : (ws : List CoreWord) (i level a r : ℕ) → NeedsAt ws i a →
     ((one other : List EnvEntry) → AreSameAt r one other → Agree a (env_of one level) (env_of other level)) → (n : ℕ) →
     Names r (λ (es : List EnvEntry). close (env_of es level) (tree_at ws i n))
 names_term ws i level a r needs agree n = record { same = λ es fs e. (needs n).same (env_of es level) (env_of fs level) (agree es fs e) }
-
-pub names_none : {T : Type 0} (a : ℕ) (x : T) → Names a (λ (es : List EnvEntry). x)
-names_none a x = record { same = λ es fs e. refl }
 
 pub names_ap : {T U : Type 0} (to : T → U) (a : ℕ) (made : List EnvEntry → T) → Names a made → Names a (λ (es : List EnvEntry). to (made es))
 names_ap to a made h = record { same = λ es fs e. ap to (h.same es fs e) }
@@ -206,12 +171,12 @@ names_next {A} {T} to xs i d a b low h j = record {
 }
 
 -- ---- places of the table among the parts of a leaf
-pub leaf_word : (k : WordKind) (p : Place) → k ≢ kind.Value → k ≢ kind.Error → k ≢ kind.Request → k ≢ kind.Ending → k ≢ kind.Store → k ≢ kind.Turns →
-    leaf_by k p ≡ leaf.At k p.index p.level
-leaf_word kind.Value p a b c d e f = absurd (a refl)
-leaf_word kind.Error p a b c d e f = absurd (b refl)
-leaf_word kind.Request p a b c d e f = absurd (c refl)
-leaf_word kind.Ending p a b c d e f = absurd (d refl)
-leaf_word kind.Store p a b c d e f = absurd (e refl)
-leaf_word kind.Turns p a b c d e f = absurd (f refl)
+pub leaf_word : (k : WordKind) (p : Place) → k ≢ WordKind.Value → k ≢ WordKind.Error → k ≢ WordKind.Request → k ≢ WordKind.Ending →
+    k ≢ WordKind.Store → k ≢ WordKind.Turns → leaf_by k p ≡ Leaf.At k p.index p.level
+leaf_word WordKind.Value p a b c d e f = absurd (a refl)
+leaf_word WordKind.Error p a b c d e f = absurd (b refl)
+leaf_word WordKind.Request p a b c d e f = absurd (c refl)
+leaf_word WordKind.Ending p a b c d e f = absurd (d refl)
+leaf_word WordKind.Store p a b c d e f = absurd (e refl)
+leaf_word WordKind.Turns p a b c d e f = absurd (f refl)
 leaf_word _ p a b c d e f = refl

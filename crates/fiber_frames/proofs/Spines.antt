@@ -1,16 +1,11 @@
 -- What a row leaves on the focus path: masks that were there, and the one that it enters.
-use Rattle.std.proofs.Common.{◌≡◌, ◌⊎◌, inl, inr, ℕ, ◌+◌, true, false, if◌then◌else◌, List, [], ◌∷◌, Option, Some, None, refl, sym, subst}
-use Rattle.derived_ops.specs.Put.{Put, Put_handle, Put_mask, Put_value, put}
-use Rattle.derived_ops.specs.Tree.{Act, Always, Cancel, Guarded, Handle, Handled, If0, Join, Last, Let, Loop, Make, Mask, Masked}
-use Rattle.derived_ops.specs.Tree.{New_deferred, New_ref, Note, On_cancel, Pair, Poll, Polled, Pure, Raise, Seq, Start, Times, Tree, Turns, Uncancelable}
-use Rattle.effect_term.specs.declared.reply.Outcome.{Outcome}
-use Rattle.effect_term.specs.declared.reply.Outcome.TheVariants as outcome
-use Rattle.effect_term.specs.declared.reply.Reply.{Reply}
-use Rattle.fiber_frames.specs.Path.{In_guarded, In_handle, In_let, In_masked, In_polled, In_seq, PathStep, undone}
-use Rattle.fiber_frames.specs.Rows.{Row, branch, is_positive, is_zero, looped, number_in, number_of, one_less, outcome_in, unit}
-use Rattle.fiber_frames.specs.Unmarked.{masks_on}
+use Rattle.fiber_frames.proofs.Prelude.{◌≡◌, ◌⊎◌, inl, inr, ℕ, ◌+◌, true, false, if◌then◌else◌, List, [], ◌∷◌, Option, Some, None, refl, sym, subst, Put}
+use Rattle.fiber_frames.proofs.Prelude.{Put_handle, Put_mask, Put_value, put, Act, Always, Cancel, Guarded, Handle, Handled, If0, Join, Last, Let, Loop, Make}
+use Rattle.fiber_frames.proofs.Prelude.{Mask, Masked, New_deferred, On_cancel, Pair, Poll, Polled, Seq, Start, Times, Tree, Turns, Uncancelable, Outcome, Reply}
+use Rattle.fiber_frames.proofs.Prelude.{In_guarded, In_handle, In_let, In_masked, In_polled, In_seq, PathStep, undone, Row, branch, is_positive, is_zero}
+use Rattle.fiber_frames.proofs.Prelude.{looped, number_in, number_of, one_less, outcome_in, unit, masks_on}
 use Rattle.fiber_frames.proofs.Walk.{End, Gives, Throws, Works, end_of, under, walk}
-use Rattle.fiber_frames.proofs.Marks.Actions.{If_born, Simple, a_value, action_case, an_action, an_error, none_born, wait_none}
+use Rattle.fiber_frames.proofs.Marks.Actions.{If_born, Simple, a_value, action_case, none_born, wait_none}
 use Rattle.fiber_frames.proofs.Marks.Cutting.{Live, Static}
 use Rattle.fiber_frames.proofs.Marks.Regions.{static_put}
 use Rattle.fiber_frames.proofs.Renumbering.{Each}
@@ -51,48 +46,34 @@ module _ (P : ℕ → Type 0) where
     under_on : (up : List Mask) (s : PathStep) (E : End) (a : Row Tree) → StepOn s → RowOn a → RowOn (under i next up s E a)
     under_on up (In_let x k) (Gives v) a h w = record { on = put_each (Put_value x (number_of v)) (value_runtime x (number_of v)) k h; rises = inl refl; born = tt }
     under_on up (In_seq o k) (Gives v) a h w = record { on = static_each k h; rises = inl refl; born = tt }
-    under_on up (In_handle x k) (Gives v) a h w = record { on = tt; rises = inl refl; born = tt }
-    under_on up (In_guarded fin) (Gives v) a h w = record { on = tt; rises = inl refl; born = tt }
-    under_on up (In_masked m) (Gives v) a h w = record { on = tt; rises = inl refl; born = tt }
-    under_on up (In_polled q) (Gives v) a h w = record { on = tt; rises = inl refl; born = tt }
-    under_on up (In_let x k) (Throws v) a h w = record { on = tt; rises = inl refl; born = tt }
-    under_on up (In_seq o k) (Throws v) a h w = record { on = tt; rises = inl refl; born = tt }
     under_on up (In_handle x k) (Throws v) a h w = record { on = put_each (Put_value x (number_of v)) (value_runtime x (number_of v)) k h; rises = inl refl; born = tt }
-    under_on up (In_guarded fin) (Throws v) a h w = record { on = tt; rises = inl refl; born = tt }
-    under_on up (In_masked m) (Throws v) a h w = record { on = tt; rises = inl refl; born = tt }
-    under_on up (In_polled q) (Throws v) a h w = record { on = tt; rises = inl refl; born = tt }
     under_on up (In_let x k) Works a h w = record { on = w.on; rises = w.rises; born = w.born }
     under_on up (In_seq o k) Works a h w = record { on = w.on; rises = w.rises; born = w.born }
     under_on up (In_handle x k) Works a h w = record { on = w.on; rises = w.rises; born = w.born }
     under_on up (In_guarded fin) Works a h w = record { on = w.on; rises = w.rises; born = w.born }
     under_on up (In_masked m) Works a h w = record { on = (h, w.on); rises = w.rises; born = w.born }
     under_on up (In_polled q) Works a h w = record { on = w.on; rises = w.rises; born = w.born }
+    under_on up _ _ a h w = record { on = tt; rises = inl refl; born = tt }
 
     simple_on : (t : Tree) → Simple t → Each P (masks_on t)
     simple_on _ (a_value v) = tt
-    simple_on _ (an_error v) = tt
-    simple_on _ (an_action c) = tt
+    simple_on _ _ = tt
 
-    branch_on : (o : Option Outcome) (f : Handle) (x : ℕ) (s : Tree) (y : ℕ) (e c : Tree) → Static (Join f x s y e c) →
-        Each P (masks_on (branch o f x s y e c))
+    branch_on : (o : Option Outcome) (f : Handle) (x : ℕ) (s : Tree) (y : ℕ) (e c : Tree) → Static (Join f x s y e c) → Each P (masks_on (branch o f x s y e c))
     branch_on None f x s y e c h = tt
-    branch_on (Some (outcome.Succeeded z)) f x s y e c h = put_each (Put_value x z) (value_runtime x z) s h.0
-    branch_on (Some (outcome.Errored z)) f x s y e c h = put_each (Put_value y z) (value_runtime y z) e h.1
-    branch_on (Some outcome.Canceled) f x s y e c h = static_each c h.2
+    branch_on (Some (Outcome.Succeeded z)) f x s y e c h = put_each (Put_value x z) (value_runtime x z) s h.0
+    branch_on (Some (Outcome.Errored z)) f x s y e c h = put_each (Put_value y z) (value_runtime y z) e h.1
+    branch_on (Some Outcome.Canceled) f x s y e c h = static_each c h.2
 
     looped_on : (m : Turns) (e : Tree) → Static e → Each P (masks_on (looped m e))
     looped_on Always e h = static_each e h
-    looped_on (Times v) e h =
-        elim (is_positive v) as (λ t. Each P (masks_on (if t then Seq Last e (Loop (Times (one_less v)) e) else unit))) [
-          | true ↦ static_each e h
-          | false ↦ tt
-        ]
+    looped_on (Times v) e h = elim (is_positive v) as (λ t. Each P (masks_on (if t then Seq Last e (Loop (Times (one_less v)) e) else unit))) [
+      | true ↦ static_each e h
+      | false ↦ tt
+    ]
 
     pub walk_on : (t : Tree) (up : List Mask) → Live t → Each P (masks_on t) → RowOn (walk i next r up t)
-    walk_on (Pure v) up h g = record { on = tt; rises = inl refl; born = tt }
-    walk_on (Raise v) up h g = record { on = tt; rises = inl refl; born = tt }
     walk_on (Act c) up h g = action_case i next r RowOn (λ a t ms k s says none. record { on = simple_on t s; rises = inl refl; born = none_born k Static none }) c
-    walk_on (Note e q) up h g = record { on = tt; rises = inl refl; born = tt }
     walk_on (Cancel f) up h g = record { on = (new, tt); rises = inr refl; born = tt }
     walk_on (Let e x k) up h g = under_on up (In_let x k) (end_of e) (walk i next r up e) h.1 (walk_on e up h.0 g)
     walk_on (Seq o e k) up h g = under_on up (In_seq o k) (end_of e) (walk i next r up e) h.1 (walk_on e up h.0 g)
@@ -103,7 +84,6 @@ module _ (P : ℕ → Type 0) where
       born = tt;
     }
     walk_on (Join f x s y e c) up h g = record { on = branch_on (outcome_in r) f x s y e c h; rises = inl refl; born = none_born _ Static (wait_none (outcome_in r)) }
-    walk_on (Make (New_ref w) x k) up h g = record { on = tt; rises = inl refl; born = tt }
     walk_on (Make New_deferred x k) up h g = record { on = put_each (Put_handle x (number_in r)) (handle_runtime x (number_in r)) k h; rises = inl refl; born = tt }
     walk_on (Start x e k) up h g = record { on = put_each (Put_handle x (number_in r)) (handle_runtime x (number_in r)) k h.1; rises = inl refl; born = h.0 }
     walk_on (Loop m e) up h g = record { on = looped_on m e h; rises = inl refl; born = tt }
@@ -113,3 +93,4 @@ module _ (P : ℕ → Type 0) where
     walk_on (Masked m e) up h g = under_on up (In_masked m) (end_of e) (walk i next r (Pair i m ∷ up) e) g.0 (walk_on e (Pair i m ∷ up) h g.1)
     walk_on (Polled q e) up h g = under_on up (In_polled q) (end_of e) (walk i next r (undone q up) e) tt (walk_on e (undone q up) h g)
     walk_on (Guarded e fin) up h g = under_on up (In_guarded fin) (end_of e) (walk i next r up e) h.1 (walk_on e up h.0 g)
+    walk_on _ up h g = record { on = tt; rises = inl refl; born = tt }

@@ -1,21 +1,15 @@
 -- How a fiber goes on depends neither on its marks nor on the numbers of its masks.
-use Rattle.std.proofs.Common.{◌≡◌, ◌≢◌, ◌<◌, ℕ, zero, suc, ◌+◌, Bool, true, false, if◌then◌else◌, nat_eq, List, [], ◌∷◌, ◌++◌, Option, length, refl, sym, ap, ap₂, ◌∙◌, subst, arith}
-use Rattle.std.proofs.lemmas.Bool.{eq-eqb}
-use Rattle.derived_ops.specs.Put.{Put, mask_at}
-use Rattle.derived_ops.specs.Tree.{Mask, Pair, Tree}
-use Rattle.effect_term.specs.declared.reply.Reply.{Reply}
-use Rattle.effect_term.specs.declared.reply.Reply.TheVariants as reply
-use Rattle.fiber_frames.specs.Path.{Broken, Final, Over, Running, Runs}
-use Rattle.fiber_frames.specs.Rows.{Born, Ceded, Ended, Plain, RowKind, Waited}
-use Rattle.fiber_frames.specs.Fiber.{Cuts, Fiber, Looks, Move_case, Reduces, Rests, ask_of, begins, child, kind_of, move, move_case, move_in, outcome_of, outcome_in, term_born}
-use Rattle.fiber_frames.specs.Reached.{Reached}
-use Rattle.fiber_frames.specs.Unmarked.{masks_of, masks_on, number_to, own_place, place_in, placed_in, renumbered, run_renumbered, run_unmarked, unmarked}
+use Rattle.fiber_frames.proofs.Prelude.{◌≡◌, ◌≢◌, ℕ, suc, ◌+◌, Bool, true, false, if◌then◌else◌, nat_eq, List, [], ◌∷◌, ◌++◌, length, refl, sym, ap, ◌∙◌, subst}
+use Rattle.fiber_frames.proofs.Prelude.{eq-eqb, Put, mask_at, Mask, Pair, Tree, Reply, Running, Runs, Born, RowKind, Fiber, Looks, Move_case, ask_of, begins}
+use Rattle.fiber_frames.proofs.Prelude.{child, move, move_case, move_in, outcome_of, term_born, Reached, masks_of, masks_on, number_to, own_place, place_in}
+use Rattle.fiber_frames.proofs.Prelude.{placed_in, renumbered, run_renumbered, run_unmarked, unmarked}
+use Rattle.fiber_frames.specs.Fiber.{kind_of, outcome_in}
 use Rattle.fiber_frames.proofs.Marks.Cutting.{Static}
 use Rattle.fiber_frames.proofs.Marks.Runs.{LiveRun, live_run}
 use Rattle.fiber_frames.proofs.Reaching.{reached_kept}
 use Rattle.fiber_frames.proofs.Renumbering.{Each, IsKept, kind_renumbered}
 use Rattle.fiber_frames.proofs.RenumberedMoves.{fiber_to, onward, same_ask, same_kind}
-use Rattle.fiber_frames.proofs.Composing.{both, masks_of_to, run_twice, same_to, twice}
+use Rattle.fiber_frames.proofs.Composing.{both, run_twice, same_to, twice}
 use Rattle.fiber_frames.proofs.Placing.{Faithful, HasPlace, all_placed, each_map, faithful_kept, place_last, place_other, placed_faithful, same_unmarked}
 use Rattle.fiber_frames.proofs.Freshness.{Fresh, each_own, next_free, past_free, past_fresh, past_in, reached_fresh}
 use Rattle.fiber_frames.proofs.MoveSpines.{child_static, move_on}
@@ -28,8 +22,7 @@ placed_masks i ms = each_map (HasPlace ms) (Faithful i (own_place i ms)) (λ a h
 -- twice is once
 pub unmarked_twice : (f : Fiber) → unmarked (unmarked f) ≡ unmarked f
 unfolding unmarked
-unmarked_twice f =
-    same_unmarked f (unmarked f) (own_place f.number (masks_of f.running)) (placed_masks f.number (masks_of f.running)) refl refl refl
+unmarked_twice f = same_unmarked f (unmarked f) (own_place f.number (masks_of f.running)) (placed_masks f.number (masks_of f.running)) refl refl refl
 
 -- the outcome stays
 pub unmarked_outcome : (f : Fiber) → outcome_of (unmarked f) ≡ outcome_of f
@@ -38,9 +31,7 @@ unmarked_outcome f = go f.running (placed_in f.number (masks_of f.running))
   where
     go : (w : Running) (to : ℕ → ℕ → Mask) → outcome_in (run_renumbered f.number to w) ≡ outcome_in w
     go (Runs t) to = refl
-    go (Final m gs) to = refl
-    go (Over o) to = refl
-    go Broken to = refl
+    go _ to = refl
 
 module _ (f : Fiber) (live : LiveRun f.running) (fresh : Fresh f.number f.next f.running) where
   abbrev i : ℕ
@@ -115,9 +106,7 @@ module _ (f : Fiber) (live : LiveRun f.running) (fresh : Fresh f.number f.next f
 
   same_number : (r : Reply) (c : Move_case) → (move_in f r c).number ≡ i
   same_number r Looks = refl
-  same_number r Cuts = refl
-  same_number r Reduces = refl
-  same_number r Rests = refl
+  same_number r _ = refl
 
   pub unmarked_move : (r : Reply) → unmarked (move (unmarked f) r) ≡ unmarked (move f r)
   unmarked_move r =
@@ -153,15 +142,12 @@ module _ (f : Fiber) (live : LiveRun f.running) (fresh : Fresh f.number f.next f
 
   born_to : (k : RowKind) → term_born (kind_renumbered (renumbered i to) k) ≡ renumbered i to (term_born k)
   born_to (Born e) = refl
-  born_to Plain = refl
-  born_to Waited = refl
-  born_to Ceded = refl
-  born_to (Ended o) = refl
+  born_to _ = refl
 
   pub unmarked_child : (n : ℕ) → unmarked (child (unmarked f) n) ≡ unmarked (child f n)
   unmarked_child n =
-      ap (λ (t : Tree). unmarked (begins n t)) (ap term_born (unmarked_kind (reply.Number n)) ∙ born_to (kind_of f (reply.Number n)))
-      ∙ begins_unmarked n (term_born (kind_of f (reply.Number n))) (child_static f n live)
+      ap (λ (t : Tree). unmarked (begins n t)) (ap term_born (unmarked_kind (Reply.Number n)) ∙ born_to (kind_of f (Reply.Number n)))
+      ∙ begins_unmarked n (term_born (kind_of f (Reply.Number n))) (child_static f n live)
 
 -- ---- a fiber that is reached
 module _ (f : Fiber) (h : Reached f) where

@@ -1,39 +1,27 @@
 -- What uses nothing so goes on to what uses nothing so: a put, and a row.
-use Rattle.std.proofs.Common.{◌≡◌, ◌≢◌, ◌⊎◌, inl, inr, ℕ, ◌+◌, Bool, true, false, if◌then◌else◌, nat_eq, List, ◌∷◌, Option, Some, None, refl, sym, ap, ◌∙◌, subst, arith}
-use Rattle.std.specs.Prelude.{ℤ, pos, ◌+ℤ◌}
-use Rattle.std.proofs.lemmas.Bool.{eqb-true, eqb-false, eq-eqb}
-use Rattle.derived_ops.specs.Put.{Put, Put_handle, Put_mask, Put_value, action_at, handle_at, put}
-use Rattle.derived_ops.specs.Tree.{Act, Action, Add, Always, Await, Cancel, Canceled, Cede, Complete, Ending}
-use Rattle.derived_ops.specs.Tree.{Get, Guarded, Handle, Handled, If0, Join, Known, Last, Let, Loop, Make}
-use Rattle.derived_ops.specs.Tree.{Mask, Masked, Modify, Never, New_deferred, New_ref, Note, Number}
-use Rattle.derived_ops.specs.Tree.{On_cancel, Open_slot, Pair, Poll, Polled, Pure, Raise, Request, Rest, Say}
-use Rattle.derived_ops.specs.Tree.{Seq, Set, Start, Times, Tree, Turns, Uncancelable}
-use Rattle.derived_ops.specs.Naming.{A_deferred, A_fiber, A_ref, No_handle, Place}
-use Rattle.effect_term.specs.declared.reply.Outcome.{Outcome}
-use Rattle.effect_term.specs.declared.reply.Outcome.TheVariants as outcome
-use Rattle.effect_term.specs.declared.reply.Reply.{Reply}
-use Rattle.fiber_frames.specs.declared.ask.Ask.{Ask}
-use Rattle.fiber_frames.specs.declared.ask.Ask.TheVariants as ask
-use Rattle.fiber_frames.specs.declared.uses.Use.{Use}
-use Rattle.fiber_frames.specs.declared.uses.Use.TheVariants as use_of
-use Rattle.fiber_frames.specs.Path.{In_guarded, In_handle, In_let, In_masked, In_polled, In_seq, undone}
-use Rattle.fiber_frames.specs.Rows.{Row, action_row, after_end, after_read, branch, fits, handle_number, is_ended, is_positive}
-use Rattle.fiber_frames.specs.Rows.{is_zero, looped, number_in, number_of, one_less, outcome_in, read_in, unit}
-use Rattle.fiber_frames.specs.Uses.{Apart, AskApart, Bound, NumberApart, By_none, By_other, Scope, action_uses, all_open, bound_by, handle_count, of_use, open_count, tree_uses, under as under_binder, used_place}
+use Rattle.fiber_frames.proofs.Prelude.{◌≡◌, ◌≢◌, ◌⊎◌, inl, inr, ℕ, ◌+◌, Bool, true, false, if◌then◌else◌, nat_eq, List, ◌∷◌, Option, Some, None, refl, sym, ap}
+use Rattle.fiber_frames.proofs.Prelude.{◌∙◌, subst, arith, ℤ, pos, ◌+ℤ◌, eqb-true, eqb-false, eq-eqb, Put, Put_handle, Put_mask, Put_value, action_at}
+use Rattle.fiber_frames.proofs.Prelude.{handle_at, put, Act, Action, Add, Always, Await, Cancel, Canceled, Complete, Ending, Get, Guarded, Handle, Handled, If0}
+use Rattle.fiber_frames.proofs.Prelude.{Join, Known, Last, Let, Loop, Make, Mask, Masked, Modify, New_deferred, New_ref, Number, On_cancel, Open_slot, Pair}
+use Rattle.fiber_frames.proofs.Prelude.{Poll, Polled, Pure, Raise, Request, Seq, Set, Start, Times, Tree, Turns, Uncancelable, A_deferred, A_fiber, A_ref}
+use Rattle.fiber_frames.proofs.Prelude.{No_handle, Place, Outcome, Reply, Ask, Use, In_guarded, In_handle, In_let, In_masked, In_polled, In_seq, undone, Row}
+use Rattle.fiber_frames.proofs.Prelude.{action_row, after_end, after_read, branch, fits, handle_number, is_ended, is_positive, is_zero, looped, number_in}
+use Rattle.fiber_frames.proofs.Prelude.{number_of, one_less, outcome_in, read_in, unit, Apart, AskApart, Bound, NumberApart, By_none, By_other, Scope}
+use Rattle.fiber_frames.proofs.Prelude.{action_uses, all_open, bound_by, handle_count, of_use, open_count, tree_uses, under_binder, used_place, PathStep}
 use Rattle.fiber_frames.proofs.Walk.{End, Gives, Throws, Works, end_of, under, walk}
 use Rattle.fiber_frames.proofs.Marks.Actions.{If_born, none_born, wait_none}
 
 -- ---- counts of one use
 pub of_zero : (u v : Use) (x y : ℕ) → (x ≡ 0 → y ≡ 0) → of_use u v x ≡ 0 → of_use u v y ≡ 0
-of_zero use_of.Cancels use_of.Cancels x y f h = f h
-of_zero use_of.Joins use_of.Joins x y f h = f h
-of_zero use_of.Gets use_of.Gets x y f h = f h
-of_zero use_of.Stores use_of.Stores x y f h = f h
-of_zero use_of.Completes use_of.Completes x y f h = f h
-of_zero use_of.Awaits use_of.Awaits x y f h = f h
-of_zero use_of.Starts use_of.Starts x y f h = f h
-of_zero use_of.MakesRefs use_of.MakesRefs x y f h = f h
-of_zero use_of.MakesDeferreds use_of.MakesDeferreds x y f h = f h
+of_zero Use.Cancels Use.Cancels x y f h = f h
+of_zero Use.Joins Use.Joins x y f h = f h
+of_zero Use.Gets Use.Gets x y f h = f h
+of_zero Use.Stores Use.Stores x y f h = f h
+of_zero Use.Completes Use.Completes x y f h = f h
+of_zero Use.Awaits Use.Awaits x y f h = f h
+of_zero Use.Starts Use.Starts x y f h = f h
+of_zero Use.MakesRefs Use.MakesRefs x y f h = f h
+of_zero Use.MakesDeferreds Use.MakesDeferreds x y f h = f h
 of_zero _ _ x y f h = refl
 
 pub none_first : (a b : ℕ) → a + b ≡ 0 → a ≡ 0
@@ -46,8 +34,8 @@ pub none_both : (a b : ℕ) → a ≡ 0 → b ≡ 0 → a + b ≡ 0
 none_both a b g h = omega (arith, g, h)
 
 -- the first value of a ref is stored in another one
-stored_zero : (u : Use) (n m : ℕ) → (used_place u ≡ A_ref → m ≢ n) → of_use u use_of.Stores (handle_count n all_open (Known m)) ≡ 0
-stored_zero use_of.Stores n m apart = other (nat_eq m n) refl
+stored_zero : (u : Use) (n m : ℕ) → (used_place u ≡ A_ref → m ≢ n) → of_use u Use.Stores (handle_count n all_open (Known m)) ≡ 0
+stored_zero Use.Stores n m apart = other (nat_eq m n) refl
   where
     other : (t : Bool) → nat_eq m n ≡ t → ◌≡◌ {A = ℕ} (if t then 1 else 0) 0
     other true e = absurd (apart refl (eqb-true m n e))
@@ -110,31 +98,24 @@ module _ (u : Use) (n : ℕ) where
     two_put x y x' y' f g z = none_both x' y' (f (none_first x y z)) (g (none_second x y z))
 
     action_put : (a b : Scope) → Rel a b → (c : Action) → action_uses u n a c ≡ 0 → action_uses u n b (action_at p c) ≡ 0
-    action_put a b r (Request f) z = two_put _ _ _ _ (use_put use_of.Cancels a b r f) (use_put use_of.Joins a b r f) z
-    action_put a b r (Ending f) z = use_put use_of.Joins a b r f z
-    action_put a b r (Get x) z = use_put use_of.Gets a b r x z
-    action_put a b r (Set x v) z = use_put use_of.Stores a b r x z
-    action_put a b r (Modify x v) z = use_put use_of.Stores a b r x z
-    action_put a b r (Complete x v) z = use_put use_of.Completes a b r x z
-    action_put a b r (Await x) z = use_put use_of.Awaits a b r x z
-    action_put a b r (Add v w) z = refl
-    action_put a b r (Say v) z = refl
-    action_put a b r Cede z = refl
-    action_put a b r Never z = refl
-    action_put a b r Canceled z = refl
+    action_put a b r (Request f) z = two_put _ _ _ _ (use_put Use.Cancels a b r f) (use_put Use.Joins a b r f) z
+    action_put a b r (Ending f) z = use_put Use.Joins a b r f z
+    action_put a b r (Get x) z = use_put Use.Gets a b r x z
+    action_put a b r (Set x v) z = use_put Use.Stores a b r x z
+    action_put a b r (Modify x v) z = use_put Use.Stores a b r x z
+    action_put a b r (Complete x v) z = use_put Use.Completes a b r x z
+    action_put a b r (Await x) z = use_put Use.Awaits a b r x z
+    action_put a b r _ z = refl
 
     tree_put : (a b : Scope) → Rel a b → (t : Tree) → tree_uses u n a t ≡ 0 → tree_uses u n b (put p t) ≡ 0
-    tree_put a b r (Pure v) z = refl
-    tree_put a b r (Raise v) z = refl
     tree_put a b r (Act c) z = action_put a b r c z
-    tree_put a b r (Note h q) z = refl
-    tree_put a b r (Cancel f) z = two_put _ _ _ _ (use_put use_of.Cancels a b r f) (use_put use_of.Joins a b r f) z
+    tree_put a b r (Cancel f) z = two_put _ _ _ _ (use_put Use.Cancels a b r f) (use_put Use.Joins a b r f) z
     tree_put a b r (Let e x k) z = two_put _ _ _ _ (tree_put a b r e) (tree_put a b r k) z
     tree_put a b r (Seq w e k) z = two_put _ _ _ _ (tree_put a b r e) (tree_put a b r k) z
     tree_put a b r (Handled e x k) z = two_put _ _ _ _ (tree_put a b r e) (tree_put a b r k) z
     tree_put a b r (If0 v s e) z = two_put _ _ _ _ (tree_put a b r s) (tree_put a b r e) z
     tree_put a b r (Join f x s y e c) z =
-        two_put _ _ _ _ (use_put use_of.Joins a b r f) (λ more. two_put _ _ _ _ (tree_put a b r s) (λ rest. two_put _ _ _ _ (tree_put a b r e) (tree_put a b r c) rest) more) z
+        two_put _ _ _ _ (use_put Use.Joins a b r f) (λ more. two_put _ _ _ _ (tree_put a b r s) (λ rest. two_put _ _ _ _ (tree_put a b r e) (tree_put a b r c) rest) more) z
     tree_put a b r (Make (New_ref v) x k) z =
         two_put _ _ _ _ (λ made. made) (tree_put (under_binder u A_ref x a) (under_binder u A_ref x b) (down a b r A_ref x) k) z
     tree_put a b r (Make New_deferred x k) z =
@@ -149,6 +130,7 @@ module _ (u : Use) (n : ℕ) where
     tree_put a b r (Masked m e) z = tree_put a b r e z
     tree_put a b r (Polled q e) z = tree_put a b r e z
     tree_put a b r (Guarded e fin) z = two_put _ _ _ _ (tree_put a b r e) (tree_put a b r fin) z
+    tree_put a b r _ z = refl
 
   -- what is used nowhere so, in a term that is left to do
   abbrev pub Unused : Tree → Type 0
@@ -209,42 +191,35 @@ module _ (u : Use) (n : ℕ) where
 
   -- a call that uses nothing
   abbrev Useless : Ask → Type 0
-  Useless (ask.Cancel f) = ⊥
-  Useless (ask.Join f) = ⊥
-  Useless (ask.Get r) = ⊥
-  Useless (ask.Set r v) = ⊥
-  Useless (ask.Modify r v) = ⊥
-  Useless (ask.Complete d v) = ⊥
-  Useless (ask.Read d) = ⊥
-  Useless ask.Start = ⊥
-  Useless ask.NewRef = ⊥
-  Useless ask.NewDeferred = ⊥
+  Useless (Ask.Cancel f) = ⊥
+  Useless (Ask.Join f) = ⊥
+  Useless (Ask.Get r) = ⊥
+  Useless (Ask.Set r v) = ⊥
+  Useless (Ask.Modify r v) = ⊥
+  Useless (Ask.Complete d v) = ⊥
+  Useless (Ask.Read d) = ⊥
+  Useless Ask.Start = ⊥
+  Useless Ask.NewRef = ⊥
+  Useless Ask.NewDeferred = ⊥
   Useless a = Unit {0}
 
   useless : (i : ℕ) (a : Ask) → Useless a → AskApart u n i a
-  useless i (ask.Cancel f) h = absurd h
-  useless i (ask.Join f) h = absurd h
-  useless i (ask.Get r) h = absurd h
-  useless i (ask.Set r v) h = absurd h
-  useless i (ask.Modify r v) h = absurd h
-  useless i (ask.Complete d v) h = absurd h
-  useless i (ask.Read d) h = absurd h
-  useless i ask.Start h = absurd h
-  useless i ask.NewRef h = absurd h
-  useless i ask.NewDeferred h = absurd h
+  useless i (Ask.Cancel f) h = absurd h
+  useless i (Ask.Join f) h = absurd h
+  useless i (Ask.Get r) h = absurd h
+  useless i (Ask.Set r v) h = absurd h
+  useless i (Ask.Modify r v) h = absurd h
+  useless i (Ask.Complete d v) h = absurd h
+  useless i (Ask.Read d) h = absurd h
+  useless i Ask.Start h = absurd h
+  useless i Ask.NewRef h = absurd h
+  useless i Ask.NewDeferred h = absurd h
   useless i _ h = tt
 
   -- a handle whose use counts nothing is another number
   of_same : (v : Use) (x : ℕ) → of_use v v x ≡ x
-  of_same use_of.Cancels x = refl
-  of_same use_of.Joins x = refl
-  of_same use_of.Gets x = refl
-  of_same use_of.Stores x = refl
-  of_same use_of.Completes x = refl
-  of_same use_of.Awaits x = refl
-  of_same use_of.Starts x = refl
-  of_same use_of.MakesRefs x = refl
-  of_same use_of.MakesDeferreds x = refl
+  of_same Use.Cancels x = refl
+  of_same _ x = refl
 
   known_apart : (h : Handle) → handle_count n all_open h ≡ 0 → handle_number h ≢ n
   known_apart (Known m) z same = absurd_one (nat_eq m n) (eq-eqb m n same) z
@@ -266,119 +241,101 @@ module _ (u : Use) (n : ℕ) where
     on : (a : Row Tree) → Useless a.call → If_born a.kind Unused → Unused a.becomes → RowUnused i r a
     on a q k h = record { becomes = λ g. h; born = k; asks = useless i a.call q }
 
-    let_unused : (up : List Mask) (x : ℕ) (k : Tree) → Unused k → (E : End) (a : Row Tree) → RowUnused i r a → RowUnused i r (under i next up (In_let x k) E a)
-    let_unused up x k c (Gives w) a h = on _ tt tt (unused_value x (number_of w) k c)
-    let_unused up x k c (Throws w) a h = on _ tt tt refl
-    let_unused up x k c Works a h = record { becomes = λ g. none_both _ _ (h.becomes g) c; born = h.born; asks = h.asks }
+    -- what is beside the first part of a form uses nothing so
+    abbrev UnusedStep : PathStep → Type 0
+    UnusedStep (In_let x k) = Unused k
+    UnusedStep (In_seq o k) = Unused k
+    UnusedStep (In_handle x k) = Unused k
+    UnusedStep (In_guarded fin) = Unused fin
+    UnusedStep (In_masked m) = Unit {0}
+    UnusedStep (In_polled q) = Unit {0}
 
-    seq_unused : (up : List Mask) (o : Rest) (k : Tree) → Unused k → (E : End) (a : Row Tree) → RowUnused i r a → RowUnused i r (under i next up (In_seq o k) E a)
-    seq_unused up o k c (Gives w) a h = on _ tt tt c
-    seq_unused up o k c (Throws w) a h = on _ tt tt refl
-    seq_unused up o k c Works a h = record { becomes = λ g. none_both _ _ (h.becomes g) c; born = h.born; asks = h.asks }
-
-    handle_unused : (up : List Mask) (x : ℕ) (k : Tree) → Unused k → (E : End) (a : Row Tree) → RowUnused i r a →
-        RowUnused i r (under i next up (In_handle x k) E a)
-    handle_unused up x k c (Gives w) a h = on _ tt tt refl
-    handle_unused up x k c (Throws w) a h = on _ tt tt (unused_value x (number_of w) k c)
-    handle_unused up x k c Works a h = record { becomes = λ g. none_both _ _ (h.becomes g) c; born = h.born; asks = h.asks }
-
-    guarded_unused : (up : List Mask) (fin : Tree) → Unused fin → (E : End) (a : Row Tree) → RowUnused i r a →
-        RowUnused i r (under i next up (In_guarded fin) E a)
-    guarded_unused up fin c (Gives w) a h = on _ tt tt refl
-    guarded_unused up fin c (Throws w) a h = on _ tt tt refl
-    guarded_unused up fin c Works a h = record { becomes = λ g. none_both _ _ (h.becomes g) c; born = h.born; asks = h.asks }
-
-    masked_unused : (up : List Mask) (m : ℕ) (E : End) (a : Row Tree) → RowUnused i r a → RowUnused i r (under i next up (In_masked m) E a)
-    masked_unused up m (Gives w) a h = on _ tt tt refl
-    masked_unused up m (Throws w) a h = on _ tt tt refl
-    masked_unused up m Works a h = record { becomes = h.becomes; born = h.born; asks = h.asks }
-
-    switch_useless : (t : Bool) (x : Ask) → Useless x → Useless (if t then x else ask.Silent)
+    switch_useless : (t : Bool) (x : Ask) → Useless x → Useless (if t then x else Ask.Silent)
     switch_useless true x h = h
     switch_useless false x h = tt
 
-    polled_unused : (up : List Mask) (q : Mask) (E : End) (a : Row Tree) → RowUnused i r a → RowUnused i r (under i next up (In_polled q) E a)
-    polled_unused up q (Gives w) a h = on _ (switch_useless _ ask.Mask tt) tt refl
-    polled_unused up q (Throws w) a h = on _ (switch_useless _ ask.Mask tt) tt refl
-    polled_unused up q Works a h = record { becomes = h.becomes; born = h.born; asks = h.asks }
+    step_unused : (up : List Mask) (s : PathStep) → UnusedStep s → (E : End) (a : Row Tree) → RowUnused i r a → RowUnused i r (under i next up s E a)
+    step_unused up (In_let x k) c (Gives w) a h = on _ tt tt (unused_value x (number_of w) k c)
+    step_unused up (In_seq o k) c (Gives w) a h = on _ tt tt c
+    step_unused up (In_handle x k) c (Throws w) a h = on _ tt tt (unused_value x (number_of w) k c)
+    step_unused up (In_polled q) c (Gives w) a h = on _ (switch_useless _ Ask.Mask tt) tt refl
+    step_unused up (In_polled q) c (Throws w) a h = on _ (switch_useless _ Ask.Mask tt) tt refl
+    step_unused up (In_polled q) c Works a h = record { becomes = h.becomes; born = h.born; asks = h.asks }
+    step_unused up (In_masked m) c Works a h = record { becomes = h.becomes; born = h.born; asks = h.asks }
+    step_unused up _ c Works a h = record { becomes = λ g. none_both _ _ (h.becomes g) c; born = h.born; asks = h.asks }
+    step_unused up _ c _ a h = on _ tt tt refl
 
     branch_unused : (o : Option Outcome) (f : Handle) (x : ℕ) (s : Tree) (y : ℕ) (e c : Tree) → Unused (Join f x s y e c) → Unused (branch o f x s y e c)
     branch_unused None f x s y e c h = h
-    branch_unused (Some (outcome.Succeeded z)) f x s y e c h = unused_value x z s (none_first _ _ (none_second _ _ h))
-    branch_unused (Some (outcome.Errored z)) f x s y e c h = unused_value y z e (none_first _ _ (none_second _ _ (none_second _ _ h)))
-    branch_unused (Some outcome.Canceled) f x s y e c h = none_second _ _ (none_second _ _ (none_second _ _ h))
+    branch_unused (Some (Outcome.Succeeded z)) f x s y e c h = unused_value x z s (none_first _ _ (none_second _ _ h))
+    branch_unused (Some (Outcome.Errored z)) f x s y e c h = unused_value y z e (none_first _ _ (none_second _ _ (none_second _ _ h)))
+    branch_unused (Some Outcome.Canceled) f x s y e c h = none_second _ _ (none_second _ _ (none_second _ _ h))
 
     looped_unused : (m : Turns) (e : Tree) → Unused e → Unused (looped m e)
     looped_unused Always e c = none_both _ _ c c
-    looped_unused (Times v) e c =
-        elim (is_positive v) as (λ t. Unused (if t then Seq Last e (Loop (Times (one_less v)) e) else unit)) [
-          | true ↦ none_both _ _ c c
-          | false ↦ refl
-        ]
+    looped_unused (Times v) e c = elim (is_positive v) as (λ t. Unused (if t then Seq Last e (Loop (Times (one_less v)) e) else unit)) [
+      | true ↦ none_both _ _ c c
+      | false ↦ refl
+    ]
 
     act_unused : (c : Action) → action_uses u n all_open c ≡ 0 → RowUnused i r (action_row i next r c)
     act_unused (Add v w) h =
         on _ tt tt (elim (fits (number_of v +ℤ number_of w)) as
         (λ t. Unused (if t then Pure (Number (number_of v +ℤ number_of w)) else Raise (Number (pos 1001)))) [ true ↦ refl | false ↦ refl ])
-    act_unused (Say v) h = on _ tt tt refl
-    act_unused Cede h = on _ tt tt refl
-    act_unused Never h = on _ tt tt refl
     act_unused Canceled h = record { becomes = λ g. refl; born = tt; asks = λ e. inl refl }
     act_unused (Request f) h = record {
       becomes = λ g. elim (is_ended r) as (λ t. Unused (if t then unit else Act (Ending f))) [ true ↦ refl | false ↦ none_second _ _ h ];
       born = tt;
-      asks = λ e. inr (used_apart use_of.Cancels f (none_first _ _ h) e);
+      asks = λ e. inr (used_apart Use.Cancels f (none_first _ _ h) e);
     }
     act_unused (Ending f) h = record {
       becomes = λ g. elim (outcome_in r) as (λ o. Unused (after_end o f)) [ None ↦ h | Some o ↦ refl ];
       born = none_born _ _ (wait_none (outcome_in r));
-      asks = used_apart use_of.Joins f h;
+      asks = used_apart Use.Joins f h;
     }
-    act_unused (Get x) h = record { becomes = λ g. refl; born = tt; asks = used_apart use_of.Gets x h }
-    act_unused (Set x v) h = record { becomes = λ g. refl; born = tt; asks = used_apart use_of.Stores x h }
-    act_unused (Modify x v) h = record { becomes = λ g. refl; born = tt; asks = used_apart use_of.Stores x h }
-    act_unused (Complete x v) h = record { becomes = λ g. refl; born = tt; asks = used_apart use_of.Completes x h }
+    act_unused (Get x) h = record { becomes = λ g. refl; born = tt; asks = used_apart Use.Gets x h }
+    act_unused (Set x v) h = record { becomes = λ g. refl; born = tt; asks = used_apart Use.Stores x h }
+    act_unused (Modify x v) h = record { becomes = λ g. refl; born = tt; asks = used_apart Use.Stores x h }
+    act_unused (Complete x v) h = record { becomes = λ g. refl; born = tt; asks = used_apart Use.Completes x h }
     act_unused (Await x) h = record {
       becomes = λ g. elim (read_in r) as (λ o. Unused (after_read o x)) [ None ↦ h | Some z ↦ refl ];
       born = none_born _ _ (wait_none (read_in r));
-      asks = used_apart use_of.Awaits x h;
+      asks = used_apart Use.Awaits x h;
     }
+    act_unused _ h = on _ tt tt refl
 
     pub row_unused : (t : Tree) (up : List Mask) → Unused t → RowUnused i r (walk i next r up t)
-    row_unused (Pure v) up h = on _ tt tt refl
-    row_unused (Raise v) up h = on _ tt tt refl
     row_unused (Act c) up h = act_unused c h
-    row_unused (Note e q) up h = on _ tt tt refl
     row_unused (Cancel f) up h = on _ tt tt h
-    row_unused (Let e x k) up h = let_unused up x k (none_second _ _ h) (end_of e) (walk i next r up e) (row_unused e up (none_first _ _ h))
-    row_unused (Seq w e k) up h = seq_unused up w k (none_second _ _ h) (end_of e) (walk i next r up e) (row_unused e up (none_first _ _ h))
-    row_unused (Handled e x k) up h = handle_unused up x k (none_second _ _ h) (end_of e) (walk i next r up e) (row_unused e up (none_first _ _ h))
-    row_unused (If0 v s e) up h =
-        on _ tt tt (elim (is_zero v) as (λ t. Unused (if t then s else e)) [ true ↦ none_first _ _ h | false ↦ none_second _ _ h ])
+    row_unused (Let e x k) up h = step_unused up (In_let x k) (none_second _ _ h) (end_of e) (walk i next r up e) (row_unused e up (none_first _ _ h))
+    row_unused (Seq w e k) up h = step_unused up (In_seq w k) (none_second _ _ h) (end_of e) (walk i next r up e) (row_unused e up (none_first _ _ h))
+    row_unused (Handled e x k) up h = step_unused up (In_handle x k) (none_second _ _ h) (end_of e) (walk i next r up e) (row_unused e up (none_first _ _ h))
+    row_unused (If0 v s e) up h = on _ tt tt (elim (is_zero v) as (λ t. Unused (if t then s else e)) [ true ↦ none_first _ _ h | false ↦ none_second _ _ h ])
     row_unused (Join f x s y e c) up h = record {
       becomes = λ g. branch_unused (outcome_in r) f x s y e c h;
       born = none_born _ _ (wait_none (outcome_in r));
-      asks = used_apart use_of.Joins f (none_first _ _ h);
+      asks = used_apart Use.Joins f (none_first _ _ h);
     }
     row_unused (Make (New_ref w) x k) up h = record {
       becomes = λ g. none_both _ _ (stored_zero u n (number_in r) g) (unused_handle x (number_in r) A_ref k g (none_second _ _ h));
       born = tt;
-      asks = made_apart use_of.MakesRefs (none_first _ _ h);
+      asks = made_apart Use.MakesRefs (none_first _ _ h);
     }
     row_unused (Make New_deferred x k) up h = record {
       becomes = λ g. unused_handle x (number_in r) A_deferred k g (none_second _ _ h);
       born = tt;
-      asks = made_apart use_of.MakesDeferreds (none_first _ _ h);
+      asks = made_apart Use.MakesDeferreds (none_first _ _ h);
     }
     row_unused (Start x e k) up h = record {
       becomes = λ g. unused_handle x (number_in r) A_fiber k g (none_second _ _ (none_second _ _ h));
       born = none_first _ _ (none_second _ _ h);
-      asks = made_apart use_of.Starts (none_first _ _ h);
+      asks = made_apart Use.Starts (none_first _ _ h);
     }
     row_unused (Loop m e) up h = on _ tt tt (looped_unused m e h)
     row_unused (Uncancelable x e) up h = on _ tt tt (unused_mask x i next e h)
-    row_unused (Poll q e) up h = on _ (switch_useless _ ask.Unmask tt) tt h
+    row_unused (Poll q e) up h = on _ (switch_useless _ Ask.Unmask tt) tt h
     row_unused (On_cancel e fin) up h = on _ tt tt h
-    row_unused (Masked m e) up h = masked_unused up m (end_of e) (walk i next r (Pair i m ∷ up) e) (row_unused e (Pair i m ∷ up) h)
-    row_unused (Polled q e) up h = polled_unused up q (end_of e) (walk i next r (undone q up) e) (row_unused e (undone q up) h)
-    row_unused (Guarded e fin) up h = guarded_unused up fin (none_second _ _ h) (end_of e) (walk i next r up e) (row_unused e up (none_first _ _ h))
+    row_unused (Masked m e) up h = step_unused up (In_masked m) tt (end_of e) (walk i next r (Pair i m ∷ up) e) (row_unused e (Pair i m ∷ up) h)
+    row_unused (Polled q e) up h = step_unused up (In_polled q) tt (end_of e) (walk i next r (undone q up) e) (row_unused e (undone q up) h)
+    row_unused (Guarded e fin) up h = step_unused up (In_guarded fin) (none_second _ _ h) (end_of e) (walk i next r up e) (row_unused e up (none_first _ _ h))
+    row_unused _ up h = on _ tt tt refl

@@ -1,14 +1,9 @@
 -- Fiber 0 at its beginning fits the registry's first pass, and stands there.
 use Rattle.std.proofs.Common.{◌≡◌, ℕ, refl, sym, ap, subst, arith}
-use Rattle.derived_ops.specs.Naming.{Given}
-use Rattle.derived_ops.specs.Tree.{Tree}
-use Rattle.fiber_frames.specs.Fiber.{Fiber, begins}
-use Rattle.fiber_frames.specs.Naming.{NamedBeginning}
-use Rattle.cell_registry.specs.Histories.{left}
-use Rattle.cell_registry.specs.Passes.{PassView, RegistryView, first_pass}
-use Rattle.scheduled_core.specs.Fitting.{Fits, pass_registered}
-use Rattle.scheduled_core.specs.Stands.{Opens}
-use Rattle.scheduled_core.proofs.Replied.{begins_fits}
+use Rattle.derived_ops.specs.{Naming.Given, Tree.Tree}
+use Rattle.fiber_frames.specs.{Fiber.{Fiber, begins}, Naming.NamedBeginning}
+use Rattle.cell_registry.specs.{Histories.left, Passes.{PassView, RegistryView, first_pass}}
+use Rattle.scheduled_core.{specs.{Fitting.{Fits, pass_registered}, Stands.Opens}, proofs.Replied.begins_fits}
 use Rattle.fiber_poll.specs.Tasks.{IsTaskOf, TaskView}
 
 first_fits_at : (r : RegistryView) (code : Tree) → ((b : Given) → NamedBeginning b (begins 0 code)) → Fits (pass_registered (first_pass r)) (begins 0 code)

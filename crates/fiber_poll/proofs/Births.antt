@@ -1,48 +1,27 @@
 -- A move of a task that starts a fiber.
-use Rattle.std.proofs.Common.{◌≡◌, inl, inr, ℕ, ◌-◌, ◌<◌, [], ◌∷◌, ◌++◌, Some, refl, sym, ap, ◌∙◌, subst, arith}
+use Rattle.std.proofs.Common.{◌≡◌, inr, ℕ, ◌-◌, ◌<◌, [], ◌∷◌, ◌++◌, Some, refl, sym, ap, ◌∙◌, subst, arith}
 use Rattle.effect_term.specs.declared.reply.Reply.{Reply}
-use Rattle.effect_term.specs.declared.reply.Reply.TheVariants as reply
-use Rattle.fiber_frames.specs.declared.ask.Ask.{Ask}
-use Rattle.fiber_frames.specs.declared.ask.Ask.TheVariants as ask
-use Rattle.fiber_frames.specs.declared.config.Moved.{Moved}
-use Rattle.fiber_frames.specs.declared.config.Moved.TheVariants as moves
-use Rattle.fiber_frames.specs.Rows.{RowKind, Plain, Waited, Ceded, Born, Ended}
-use Rattle.fiber_frames.specs.Fiber.{Fiber, ask_of, child, kind_of, lost, move}
-use Rattle.fiber_frames.specs.Moves.{moved, told}
-use Rattle.fiber_frames.specs.Answers.{Answers}
-use Rattle.cell_registry.specs.declared.call.Call.TheVariants as call
-use Rattle.cell_registry.specs.declared.call.Entry.{Entry}
-use Rattle.cell_registry.specs.declared.limits.RunError.TheVariants as run
-use Rattle.cell_registry.specs.Histories.{calls_by}
-use Rattle.cell_registry.specs.Steps.{entry}
-use Rattle.cell_registry.specs.Passes.{PassView, IsOf, IsPass, OnlySees, Starts, Calls, newborn}
+use Rattle.fiber_frames.specs.{declared.{ask.Ask.Ask, config.Moved.Moved}, Rows.{RowKind, Born}, Fiber.{Fiber, ask_of, child}}
+use Rattle.fiber_frames.specs.{Fiber.{kind_of, move}, Moves.{moved, told}, Answers.Answers, Leading.{IsBirth, IsGoing, way_of}}
+use Rattle.cell_registry.specs.{declared.call.Entry.Entry, Histories.calls_by, Steps.entry, Passes.{PassView, IsPass, OnlySees, Starts, Calls, newborn}}
 use Rattle.cell_registry.proofs.Legal.{calls_by-push}
-use Rattle.scheduled_core.specs.Core.{wish_of}
-use Rattle.fiber_frames.specs.Leading.{IsBirth, IsGoing, way_of}
-use Rattle.scheduled_core.specs.Fitting.{Fits, pass_registered}
-use Rattle.fiber_poll.specs.Turns.{Starts_child, told_by}
-use Rattle.fiber_poll.specs.Tasks.{IsTask, TaskView}
-use Rattle.fiber_poll.specs.Stepping.{Failed, IsChild}
-use Rattle.fiber_poll.specs.Private.Told.{Bears, IsAsked}
-use Rattle.scheduled_core.proofs.Standing.Lists.{end_left}
-use Rattle.fiber_poll.proofs.MovesAndCalls.{went_call}
-use Rattle.scheduled_core.proofs.Replied.{start_answers, started_fits}
-use Rattle.fiber_poll.proofs.Steps.{asked_all, fits_going}
+use Rattle.scheduled_core.{specs.{Core.wish_of, Fitting.{Fits, pass_registered}}, proofs.{Standing.Lists.end_left, Replied.{start_answers, started_fits}}}
+use Rattle.fiber_poll.specs.{Turns.{Starts_child, told_by}, Tasks.{IsTask, TaskView}, Stepping.IsChild, Private.Told.{Bears, IsAsked}}
+use Rattle.fiber_poll.proofs.{MovesAndCalls.went_call, Steps.{asked_all, fits_going}}
+use Rattle.effect_term.specs.declared.reply.Reply.TheVariants as reply
+use Rattle.fiber_frames.specs.declared.ask.Ask.TheVariants as ask
+use Rattle.fiber_frames.specs.declared.config.Moved.TheVariants as moves
+use Rattle.cell_registry.specs.declared.call.Call.TheVariants as call
+use Rattle.cell_registry.specs.declared.limits.RunError.TheVariants as run
 
 -- ---- what is told of a birth
 births : (c : Fiber) (k : RowKind) → IsBirth k → told c k ≡ moves.Born c
 births c (Born t) h = refl
-births c Plain h = absurd h
-births c Waited h = absurd h
-births c Ceded h = absurd h
-births c (Ended o) h = absurd h
+births c _ h = absurd h
 
 birth_event : (i : ℕ) (a : Ask) (r : Reply) (k : RowKind) → IsBirth k → told_by i a r k ≡ Some Starts_child
 birth_event i a r (Born t) h = refl
-birth_event i a r Plain h = absurd h
-birth_event i a r Waited h = absurd h
-birth_event i a r Ceded h = absurd h
-birth_event i a r (Ended o) h = absurd h
+birth_event i a r _ h = absurd h
 
 -- the fiber goes on where it asks for a start
 start_going : (g : Fiber) (a : Ask) → IsAsked g a → a ≡ ask.Start → IsGoing (way_of g.running)
@@ -81,19 +60,6 @@ module _ (t : TaskView) (ch q : PassView) (n : ℕ) (i : IsTask t) (lawful : IsP
   here : q.registry ≡ t.home
   here = ap (λ (x : PassView). x.registry) only ∙ i.here
 
-  -- memory was refused in the move
-  pub unborn_task : (new : Fiber) → new ≡ lost t.state → IsTask record { home = t.home; pass = q; state = new; moves = t.moves }
-  unborn_task new is = record {
-    here = here;
-    pass = lawful;
-    number = ap (λ (x : Fiber). x.number) is ∙ i.number ∙ sym (ap (λ (x : PassView). x.number) only);
-    fits = inl (ap (λ (x : Fiber). way_of x.running) is);
-  }
-
-  pub unborn_failed : (new : Fiber) → new ≡ lost t.state → Failed t run.NoMemory (record { home = t.home; pass = q; state = new; moves = t.moves })
-  unborn_failed new is =
-      (λ j. record { home = t.home; pass = q; state = is j; moves = t.moves }, inr (call.Start, reply.Number ch.number, ap wish_of asked, s.call))
-
   -- the move was made
   pub birth_task : (new : Fiber) (left : ℕ) → new ≡ move t.state (reply.Number n) → IsTask record { home = t.home; pass = q; state = new; moves = left }
   birth_task new left is =
@@ -102,9 +68,6 @@ module _ (t : TaskView) (ch q : PassView) (n : ℕ) (i : IsTask t) (lawful : IsP
 
   pub child_fits : (c : Fiber) (m : Moved) → m ≡ moved t.state (reply.Number n) → m ≡ moves.Born c → Fits (pass_registered ch) c
   child_fits c m is born = subst (Fits (pass_registered ch)) (sym (child_is c m is born)) both.1
-
-  pub child_here : IsOf t.home ch
-  child_here = ap (λ (x : PassView). x.registry) s.child ∙ here
 
   -- the child begins with the calls that its parent had made, and that of the start
   still : calls_by t.pass.number (t.pass.seen ++ s.call.between) ≡ calls_by t.pass.number t.pass.seen
@@ -156,9 +119,6 @@ module _ (t now : TaskView) (view : t ≡ now) (i : IsTask t) (wish : ask_of now
 
   pub here_fits : (c : Fiber) (m : Moved) → m ≡ moved t.state (reply.Number n) → m ≡ moves.Born c → Fits (pass_registered ch) c
   here_fits = child_fits t ch q n i lawful asked asks only s e
-
-  pub here_told : (m : Moved) → m ≡ moved t.state (reply.Number n) → m ≡ moves.Born (child t.state n)
-  here_told = birth_told t ch q n i lawful asked asks only s e
 
   pub here_moved : (new : Fiber) (left : ℕ) → new ≡ move t.state (reply.Number n) → IsTask record { home = t.home; pass = q; state = new; moves = left }
   here_moved = birth_task t ch q n i lawful asked asks only s e

@@ -1,23 +1,17 @@
 -- A fiber in whose term nothing is started: it never asks for a start.
-use Rattle.std.proofs.Common.{ℕ, Bool, true, false, List, [], ◌∷◌, ◌++◌, Option, Some, None, sym, subst}
-use Rattle.std.specs.Prelude.{◌+ℤ◌, pos, if◌then◌else◌}
-use Rattle.effect_term.specs.declared.reply.Outcome.{Outcome}
-use Rattle.effect_term.specs.declared.reply.Outcome.TheVariants as outcome
-use Rattle.effect_term.specs.declared.reply.Reply.{Reply}
-use Rattle.effect_term.specs.declared.reply.Reply.TheVariants as reply
-use Rattle.derived_ops.specs.Tree.{Act, Action, Add, Always, Await, Cancel, Canceled, Cede, Complete, Ending}
-use Rattle.derived_ops.specs.Tree.{Get, Guarded, Handle, Handled, If0, Join, Let, Loop, Make, Mask, Masked}
-use Rattle.derived_ops.specs.Tree.{Modify, Never, New_deferred, New_ref, Note, Number, On_cancel, Pair, Poll}
-use Rattle.derived_ops.specs.Tree.{Polled, Pure, Raise, Request, Rest, Say, Seq, Set, Start, Times, Tree, Turns}
-use Rattle.derived_ops.specs.Tree.{Uncancelable, Operand}
-use Rattle.derived_ops.specs.Put.{Put, Put_handle, Put_mask, Put_value, put}
-use Rattle.fiber_frames.specs.declared.ask.Ask.{Ask}
-use Rattle.fiber_frames.specs.declared.ask.Ask.TheVariants as ask
-use Rattle.fiber_frames.specs.Path.{At_final, At_term, Broken, Final, Over, Root, Running, Runs, active_at, focus, is_effective, undone}
-use Rattle.fiber_frames.specs.Rows.{Row, after_end, after_read, branch, fits, is_ended, is_positive, is_zero}
-use Rattle.fiber_frames.specs.Rows.{looped, number_in, number_of, outcome_in, read_in, row_at, unit}
-use Rattle.fiber_frames.specs.Fiber.{Cuts, Fiber, Looks, Move_case, Reduces, Rests, ask_in, ask_of, move, move_case, move_in}
+use Rattle.std.{proofs.Common.{ℕ, Bool, true, false, List, [], ◌∷◌, ◌++◌, Option, Some, None, sym, subst}, specs.Prelude.{◌+ℤ◌, pos, if◌then◌else◌}}
+use Rattle.effect_term.specs.declared.reply.{Outcome.Outcome, Reply.Reply}
+use Rattle.derived_ops.specs.Tree.{Act, Action, Add, Always, Await, Cancel, Canceled, Ending, Guarded, Handle, Handled, If0, Join, Let}
+use Rattle.derived_ops.specs.Tree.{Loop, Make, Mask, Masked, New_deferred, New_ref, Note, Number, On_cancel, Pair, Poll, Polled, Pure, Raise}
+use Rattle.derived_ops.specs.{Tree.{Request, Rest, Seq, Start, Times, Tree, Turns, Uncancelable}, Put.{Put, Put_handle, Put_mask, Put_value}}
+use Rattle.derived_ops.specs.Put.{put}
+use Rattle.fiber_frames.specs.{declared.ask.Ask.Ask, Path.{At_final, At_term, Broken, Final, Over, Running, Runs, focus, is_effective, undone}}
+use Rattle.fiber_frames.specs.Rows.{Row, after_end, after_read, branch, fits, is_ended, is_positive, is_zero, looped, number_in, number_of, outcome_in, read_in}
+use Rattle.fiber_frames.specs.{Rows.{row_at, unit}, Fiber.{Cuts, Fiber, Looks, Move_case, Reduces, Rests, ask_in, ask_of, move, move_case, move_in}}
 use Rattle.fiber_frames.proofs.Walk.{End, Gives, Throws, Works, end_of, finalizers_below, pending_root, root_row, row_root, walk}
+use Rattle.effect_term.specs.declared.reply.Outcome.TheVariants as outcome
+use Rattle.effect_term.specs.declared.reply.Reply.TheVariants as reply
+use Rattle.fiber_frames.specs.declared.ask.Ask.TheVariants as ask
 
 -- no `start` stands in the term
 abbrev pub IsChildless : Tree → Type 0
@@ -58,11 +52,6 @@ IsOther ask.Start = ⊥
 IsOther _ = Unit {0}
 
 put_childless : (p : Put) (t : Tree) → IsChildless t → IsChildless (put p t)
-put_childless p (Pure v) h = tt
-put_childless p (Raise v) h = tt
-put_childless p (Act a) h = tt
-put_childless p (Note e q) h = tt
-put_childless p (Cancel f) h = tt
 put_childless p (Let e x k) h = (put_childless p e h.0, put_childless p k h.1)
 put_childless p (Seq w e k) h = (put_childless p e h.0, put_childless p k h.1)
 put_childless p (Handled e x k) h = (put_childless p e h.0, put_childless p k h.1)
@@ -77,6 +66,7 @@ put_childless p (On_cancel e fin) h = (put_childless p e h.0, put_childless p fi
 put_childless p (Masked m e) h = put_childless p e h
 put_childless p (Polled q e) h = put_childless p e h
 put_childless p (Guarded e fin) h = (put_childless p e h.0, put_childless p fin h.1)
+put_childless p _ h = tt
 
 -- ---- rows
 record Quiet (a : Row Tree) : Type 0 where
@@ -109,18 +99,11 @@ module _ (i n : ℕ) (r : Reply) where
             (λ b. IsChildless (if b then Pure (Number (number_of v +ℤ number_of w)) else Raise (Number (pos 1001)))) [ true ↦ tt | false ↦ tt ];
         other = tt;
       }
-  action_quiet (Say v) = record { becomes = tt; other = tt }
-  action_quiet Cede = record { becomes = tt; other = tt }
-  action_quiet Never = record { becomes = tt; other = tt }
-  action_quiet Canceled = record { becomes = tt; other = tt }
   action_quiet (Request f) =
       record { becomes = elim (is_ended r) as (λ b. IsChildless (if b then unit else Act (Ending f))) [ true ↦ tt | false ↦ tt ]; other = tt }
   action_quiet (Ending f) = record { becomes = elim (outcome_in r) as (λ o. IsChildless (after_end o f)) [ None ↦ tt | Some o ↦ tt ]; other = tt }
-  action_quiet (Get x) = record { becomes = tt; other = tt }
-  action_quiet (Set x v) = record { becomes = tt; other = tt }
-  action_quiet (Modify x v) = record { becomes = tt; other = tt }
-  action_quiet (Complete x v) = record { becomes = tt; other = tt }
   action_quiet (Await x) = record { becomes = elim (read_in r) as (λ o. IsChildless (after_read o x)) [ None ↦ tt | Some o ↦ tt ]; other = tt }
+  action_quiet _ = record { becomes = tt; other = tt }
 
   -- the row under a form, whose first part may be a result
   let_quiet : (up : List Mask) (x : ℕ) (k : Tree) → IsChildless k → (E : End) (a : Row Tree) → Quiet a →
@@ -160,11 +143,7 @@ module _ (i n : ℕ) (r : Reply) where
   polled_quiet up p Works a q = record { becomes = q.becomes; other = q.other }
 
   row_quiet : (t : Tree) (up : List Mask) → IsChildless t → Quiet (walk i n r up t)
-  row_quiet (Pure v) up h = record { becomes = tt; other = tt }
-  row_quiet (Raise v) up h = record { becomes = tt; other = tt }
   row_quiet (Act a) up h = action_quiet a
-  row_quiet (Note e q) up h = record { becomes = tt; other = tt }
-  row_quiet (Cancel f) up h = record { becomes = tt; other = tt }
   row_quiet (Let e x k) up h = let_quiet up x k h.1 (end_of e) (walk i n r up e) (row_quiet e up h.0)
   row_quiet (Seq w e k) up h = seq_quiet up w k h.1 (end_of e) (walk i n r up e) (row_quiet e up h.0)
   row_quiet (Handled e x k) up h = handle_quiet up x k h.1 (end_of e) (walk i n r up e) (row_quiet e up h.0)
@@ -180,6 +159,7 @@ module _ (i n : ℕ) (r : Reply) where
   row_quiet (Masked m e) up h = masked_quiet up m (end_of e) (walk i n r (Pair i m ∷ up) e) (row_quiet e (Pair i m ∷ up) h)
   row_quiet (Polled q e) up h = polled_quiet up q (end_of e) (walk i n r (undone q up) e) (row_quiet e (undone q up) h)
   row_quiet (Guarded e fin) up h = guarded_quiet up fin h.1 (end_of e) (walk i n r up e) (row_quiet e up h.0)
+  row_quiet _ up h = record { becomes = tt; other = tt }
 
 -- ---- a whole fiber
 record QuietRun (a : Row Running) : Type 0 where
@@ -199,12 +179,10 @@ module _ (i n : ℕ) (r : Reply) where
 
   run_quiet : (w : Running) → RunsChildless w → QuietRun (row_at i n r (focus w) w)
   run_quiet (Runs t) h = subst QuietRun (sym (row_root i n r At_term t)) (term_quiet (end_of t) (walk i n r [] t) (row_quiet i n r t [] h))
-  run_quiet (Final m []) h = record { becomes = tt; other = tt }
   run_quiet (Final m (g ∷ gs)) h =
       subst QuietRun (sym (row_root i n r (At_final m gs) g))
       (final_quiet m gs h.1 (end_of g) (walk i n r (Pair i m ∷ []) g) (row_quiet i n r g (Pair i m ∷ []) h.0))
-  run_quiet (Over o) h = record { becomes = tt; other = tt }
-  run_quiet Broken h = record { becomes = tt; other = tt }
+  run_quiet _ h = record { becomes = tt; other = tt }
 
 all_push : (ts : List Tree) (t : Tree) → AllChildless ts → IsChildless t → AllChildless (ts ++ t ∷ [])
 all_push [] t h k = (k, tt)
@@ -221,10 +199,8 @@ pending_childless _ h = tt
 
 cut_childless : (w : Running) → RunsChildless w → AllChildless (Rattle.fiber_frames.specs.Path.pending_at (focus w))
 cut_childless (Runs t) h = subst AllChildless (sym (pending_root t)) (pending_childless t h)
-cut_childless (Final m []) h = tt
 cut_childless (Final m (g ∷ gs)) h = subst AllChildless (sym (pending_root g)) (pending_childless g h.0)
-cut_childless (Over o) h = tt
-cut_childless Broken h = tt
+cut_childless _ h = tt
 
 -- such a fiber asks for no start
 pub asks_other : (f : Fiber) → RunsChildless f.running → IsOther (ask_of f)

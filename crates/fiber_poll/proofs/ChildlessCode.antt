@@ -1,15 +1,10 @@
 -- The code of a program in which no word starts a fiber.
-use Rattle.std.proofs.Common.{◌≡◌, ℕ, ◌+◌, Bool, true, false, List, [], ◌∷◌, ◌++◌, refl}
-use Rattle.std.specs.Prelude.{◌||◌}
-use Rattle.effect_term.specs.declared.term.Term.{Term, Row_of-Term, end_of-Term, more_of-Term}
-use Rattle.effect_term.specs.declared.term.Term.TheVariants as term
-use Rattle.effect_term.specs.Starts.{any_starts_fiber, starts_fiber}
-use Rattle.derived_ops.specs.Tree.{Tree}
-use Rattle.derived_ops.specs.Source as word
-use Rattle.derived_ops.specs.Source.{Source}
-use Rattle.derived_ops.specs.Reading.{seq_of, source_of}
-use Rattle.derived_ops.specs.Expansion.{bracket_case, code_of, expansion, guarantee}
+use Rattle.std.{proofs.Common.{◌≡◌, ℕ, ◌+◌, Bool, true, false, List, [], ◌∷◌, ◌++◌, refl}, specs.Prelude.◌||◌}
+use Rattle.effect_term.specs.{declared.term.Term.{Term, Row_of-Term, end_of-Term, more_of-Term}, Starts.{any_starts_fiber, starts_fiber}}
+use Rattle.derived_ops.specs.{Tree.Tree, Source.Source, Reading.{seq_of, source_of}, Expansion.{bracket_case, code_of, expansion, guarantee}}
 use Rattle.fiber_poll.proofs.Childless.{IsChildless}
+use Rattle.effect_term.specs.declared.term.Term.TheVariants as term
+use Rattle.derived_ops.specs.Source as word
 
 -- no word of a program's term starts a fiber
 abbrev IsSource : Source → Type 0
@@ -44,33 +39,20 @@ or_right false b h = h
 
 mutual
   source_childless : (t : Term) → starts_fiber t ≡ false → IsSource (source_of t)
-  source_childless (term.Pure v) h = tt
-  source_childless (term.Raise v) h = tt
   source_childless (term.Let' p e q k) h = (source_childless e (or_left _ _ h), source_childless k (or_right _ _ h))
   source_childless (term.Seq' p a q b s more) h =
       seq_childless (source_of a) (source_of b) more (source_childless a (or_left _ _ h)) (source_childless b (or_left _ _ (or_right _ _ h)))
       (or_right _ _ (or_right _ _ h))
   source_childless (term.Handle' p e q k) h = (source_childless e (or_left _ _ h), source_childless k (or_right _ _ h))
   source_childless (term.If0' v p s q e) h = (source_childless s (or_left _ _ h), source_childless e (or_right _ _ h))
-  source_childless (term.Add v w) h = tt
-  source_childless (term.Say v) h = tt
-  source_childless term.Cede h = tt
-  source_childless term.Never h = tt
-  source_childless term.Canceled h = tt
   source_childless (term.Uncancelable' p e) h = source_childless e h
   source_childless (term.Poll' n p e) h = source_childless e h
   source_childless (term.OnCancel' p e q fin) h = (source_childless e (or_left _ _ h), source_childless fin (or_right _ _ h))
   source_childless (term.Start' p e q k) h = absurd (cc)
   source_childless (term.Join' f p s q e r c) h =
       (source_childless s (or_left _ _ h), (source_childless e (or_left _ _ (or_right _ _ h)), source_childless c (or_right _ _ (or_right _ _ h))))
-  source_childless (term.Cancel f) h = tt
   source_childless (term.Ref' v p k) h = source_childless k h
-  source_childless (term.Get r) h = tt
-  source_childless (term.Set r v) h = tt
-  source_childless (term.Modify r v) h = tt
   source_childless (term.Deferred' p k) h = source_childless k h
-  source_childless (term.Complete d v) h = tt
-  source_childless (term.Await d) h = tt
   source_childless (term.Repeat' v p e) h = source_childless e h
   source_childless (term.Forever' p e) h = source_childless e h
   source_childless (term.Guarantee' p e q fin) h = (source_childless e (or_left _ _ h), source_childless fin (or_right _ _ h))
@@ -98,6 +80,7 @@ mutual
       )
   source_childless (term.Race' p a q b) h = absurd (cc)
   source_childless (term.Both' p a q b r k) h = absurd (cc)
+  source_childless _ h = tt
 
   seq_childless : {m : _} → (a b : Source) (more : Row_of-Term m) → IsSource a → IsSource b → any_starts_fiber more ≡ false → IsSource (seq_of a b more)
   seq_childless a b end_of-Term x y z = (x, y)
@@ -113,31 +96,18 @@ bracket_childless d acq body rs re rc ha hb hs he hc =
     (ha, (tt, (((hb, (tt, ((hc, (tt, tt)), tt))), (tt, ((he, tt), (tt, tt)))), (tt, ((hs, (tt, tt)), (tt, tt))))))
 
 expansion_childless : (m : List ℕ) (d : ℕ) (t : Source) → IsSource t → IsChildless (expansion m d t)
-expansion_childless m d (word.Pure v) h = tt
-expansion_childless m d (word.Raise v) h = tt
 expansion_childless m d (word.Let e k) h = (expansion_childless m d e h.0, expansion_childless (m ++ d ∷ []) (d + 1) k h.1)
 expansion_childless m d (word.Seq w e k) h = (expansion_childless m d e h.0, expansion_childless m d k h.1)
 expansion_childless m d (word.Handle e k) h = (expansion_childless m d e h.0, expansion_childless (m ++ d ∷ []) (d + 1) k h.1)
 expansion_childless m d (word.If0 v s e) h = (expansion_childless m d s h.0, expansion_childless m d e h.1)
-expansion_childless m d (word.Add v w) h = tt
-expansion_childless m d (word.Say v) h = tt
-expansion_childless m d word.Cede h = tt
-expansion_childless m d word.Never h = tt
-expansion_childless m d word.Canceled h = tt
 expansion_childless m d (word.Uncancelable e) h = expansion_childless (m ++ d ∷ []) (d + 1) e h
 expansion_childless m d (word.Poll p e) h = expansion_childless m d e h
 expansion_childless m d (word.On_cancel e fin) h = (expansion_childless m d e h.0, expansion_childless m d fin h.1)
 expansion_childless m d (word.Start e k) h = absurd h
 expansion_childless m d (word.Join f s e c) h =
     (expansion_childless (m ++ d ∷ []) (d + 1) s h.0, (expansion_childless (m ++ d ∷ []) (d + 1) e h.1.0, expansion_childless m d c h.1.1))
-expansion_childless m d (word.Cancel f) h = tt
 expansion_childless m d (word.Ref v k) h = expansion_childless (m ++ d ∷ []) (d + 1) k h
-expansion_childless m d (word.Get r) h = tt
-expansion_childless m d (word.Set r v) h = tt
-expansion_childless m d (word.Modify r v) h = tt
 expansion_childless m d (word.Deferred k) h = expansion_childless (m ++ d ∷ []) (d + 1) k h
-expansion_childless m d (word.Complete c v) h = tt
-expansion_childless m d (word.Await c) h = tt
 expansion_childless m d (word.Repeat v e) h = expansion_childless m d e h
 expansion_childless m d (word.Forever e) h = expansion_childless m d e h
 expansion_childless m d (word.Guarantee e fin) h =
@@ -163,6 +133,7 @@ expansion_childless m d (word.Bracket_full acq body rs re rc) h =
     (expansion_childless y (d + 4) rs h.1.1.0) (expansion_childless y (d + 4) re h.1.1.1.0) (expansion_childless x (d + 3) rc h.1.1.1.1)
 expansion_childless m d (word.Race a b) h = absurd h
 expansion_childless m d (word.Both a b k) h = absurd h
+expansion_childless m d _ h = tt
 
 pub code_childless : (t : Term) → starts_fiber t ≡ false → IsChildless (code_of (source_of t))
 code_childless t h = expansion_childless [] 0 (source_of t) (source_childless t h)

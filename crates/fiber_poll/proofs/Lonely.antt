@@ -1,31 +1,19 @@
 -- A fiber that starts nobody, at a registry that nobody else was given a pass of: its moves are those of the core under entries of its own number.
-use Rattle.std.proofs.Common.{Err, Ok, ◌≡◌, ◌≢◌, ℕ, zero, suc, ◌+◌, ◌<◌, Bool, List, [], ◌∷◌, ◌++◌, length}
-use Rattle.std.proofs.Common.{replicate, Some, None, refl, sym, ap, ◌∙◌, subst, arith, eqb, eq-eqb, cond}
+use Rattle.std.proofs.Common.{Err, Ok, ◌≡◌, ◌≢◌, ℕ, zero, suc, ◌+◌, ◌<◌, Bool, List, [], ◌∷◌, ◌++◌, length, replicate, Some, None, refl, sym, ap, ◌∙◌, subst}
+use Rattle.std.proofs.Common.{arith, eqb, eq-eqb, cond}
 use Rattle.effect_term.specs.declared.reply.Reply.{Reply}
-use Rattle.effect_term.specs.declared.reply.Reply.TheVariants as reply
-use Rattle.fiber_frames.specs.declared.ask.Ask.{Ask}
-use Rattle.fiber_frames.specs.declared.ask.Ask.TheVariants as ask
-use Rattle.fiber_frames.specs.Fiber.{Cuts, Fiber, Looks, Move_case, Reduces, Rests, ask_of, move, move_case, move_in}
-use Rattle.fiber_frames.specs.Answers.{Answers}
-use Rattle.cell_registry.specs.declared.limits.CellError.{CellError}
-use Rattle.cell_registry.specs.declared.limits.Limits.{Limits}
-use Rattle.cell_registry.specs.declared.limits.RunError.{RunError}
-use Rattle.cell_registry.specs.declared.call.Call.{Call}
-use Rattle.cell_registry.specs.declared.call.Call.TheVariants as call
-use Rattle.cell_registry.specs.declared.call.Entry.{Entry}
-use Rattle.cell_registry.specs.Cells.{Cells, after, refusal, reply_of}
-use Rattle.cell_registry.specs.Histories.{IsLegal, IsLegalFrom, calls_by, left, left_from}
-use Rattle.cell_registry.proofs.Legal.{calls_by-push, left-push}
-use Rattle.scheduled_core.specs.declared.wish.Wish.{Wish}
-use Rattle.scheduled_core.specs.declared.wish.Wish.TheVariants.{Shared, Alone, Nothing}
-use Rattle.scheduled_core.specs.Core.{World, answered, born, called, entered, fault_of, wish_of, wished}
-use Rattle.scheduled_core.proofs.Standing.Histories.{legal-pop}
-use Rattle.scheduled_core.proofs.Standing.Lists.{by_ends}
-use Rattle.scheduled_core.proofs.Standing.Schedules.{Course, grows, run_from}
-use Rattle.fiber_poll.specs.Turns.{AreAnswers, calls_of, moves}
-use Rattle.fiber_poll.specs.Turns as turns
-use Rattle.fiber_poll.proofs.Childless.{IsOther, RunsChildless, asks_other, move_childless}
+use Rattle.fiber_frames.specs.{declared.ask.Ask.Ask, Fiber.{Cuts, Fiber, Looks, Move_case, Reduces, Rests, ask_of, move, move_case, move_in}, Answers.Answers}
+use Rattle.cell_registry.specs.{declared.{limits.{CellError.CellError, Limits.Limits, RunError.RunError}, call.{Call.Call, Entry.Entry}}, Cells.{Cells, after}}
+use Rattle.cell_registry.{specs.{Cells.{refusal, reply_of}, Histories.{IsLegal, IsLegalFrom, calls_by, left, left_from}}, proofs.Legal.calls_by-push}
+use Rattle.cell_registry.proofs.Legal.{left-push}
+use Rattle.scheduled_core.specs.{declared.wish.Wish.{Wish, TheVariants.{Shared, Alone, Nothing}}, Core.{World, answered, born, called, entered, fault_of}}
+use Rattle.scheduled_core.{specs.Core.{wish_of, wished}, proofs.Standing.{Histories.legal-pop, Lists.by_ends, Schedules.{Course, grows, run_from}}}
+use Rattle.fiber_poll.{specs.Turns.{AreAnswers, calls_of, moves}, proofs.Childless.{IsOther, RunsChildless, asks_other, move_childless}}
 use Rattle.fiber_poll.proofs.MovesAndCalls.{is_done, no_wish}
+use Rattle.effect_term.specs.declared.reply.Reply.TheVariants as reply
+use Rattle.fiber_frames.specs.declared.ask.Ask.TheVariants as ask
+use Rattle.cell_registry.specs.declared.call.Call.TheVariants as call
+use Rattle.fiber_poll.specs.Turns as turns
 
 -- ---- calls that start nobody
 abbrev pub NoStart : List Entry → Type 0

@@ -2,21 +2,12 @@
 use Rattle.std.proofs.Common.{◌≡◌, ℕ, ◌+◌, List, [], ◌∷◌, ◌++◌, None, refl, sym, ap, ◌∙◌, subst, arith, append_assoc, append-nil, length-append}
 use mathlib.Core.List.{IsPrefix}
 use Rattle.effect_term.specs.declared.reply.Reply.{Reply}
+use Rattle.fiber_frames.specs.{declared.ask.Ask.Ask, Fiber.{Fiber, ask_of, move}, Answers.Answers}
+use Rattle.cell_registry.specs.{declared.call.Call.Call, Histories.calls_by, Rule.Has, Passes.{PassView, Calls}, Steps.entry}
+use Rattle.scheduled_core.{specs.{declared.wish.Wish.TheVariants.{Shared, Alone, Nothing}, Core.wish_of}, proofs.Replied.goes_on}
+use Rattle.fiber_poll.specs.{Turns.{AreAnswers, AreQuiet, call_of, calls_of, event_of, moves, wished}, Tasks.{TaskView, Went}}
 use Rattle.effect_term.specs.declared.reply.Reply.TheVariants as reply
-use Rattle.fiber_frames.specs.declared.ask.Ask.{Ask}
 use Rattle.fiber_frames.specs.declared.ask.Ask.TheVariants as ask
-use Rattle.fiber_frames.specs.Fiber.{Fiber, ask_of, move}
-use Rattle.fiber_frames.specs.Answers.{Answers}
-use Rattle.cell_registry.specs.declared.call.Call.{Call}
-use Rattle.cell_registry.specs.Histories.{calls_by}
-use Rattle.cell_registry.specs.Rule.{Has}
-use Rattle.cell_registry.specs.Passes.{PassView, Calls}
-use Rattle.cell_registry.specs.Steps.{entry}
-use Rattle.scheduled_core.specs.declared.wish.Wish.TheVariants.{Shared, Alone, Nothing}
-use Rattle.scheduled_core.specs.Core.{wish_of}
-use Rattle.fiber_poll.specs.Turns.{AreAnswers, AreQuiet, call_of, calls_of, event_of, moves, wished}
-use Rattle.fiber_poll.specs.Tasks.{TaskView, Went}
-use Rattle.scheduled_core.proofs.Replied.{goes_on}
 
 -- ---- replies
 -- a move without a call is answered `Done`
@@ -29,44 +20,13 @@ is_done i ask.Silent (reply.Number x) w h = absurd h
 is_done i ask.Silent (reply.Value x) w h = absurd h
 is_done i ask.Silent (reply.Completed x) w h = absurd h
 is_done i ask.Silent (reply.Read x) w h = absurd h
-is_done i ask.Look r w h = cc
-is_done i ask.Cut r w h = cc
-is_done i ask.Mask r w h = cc
-is_done i ask.Unmask r w h = cc
-is_done i (ask.Finish o) r w h = cc
-is_done i (ask.Cancel f) r w h = cc
-is_done i (ask.Join f) r w h = cc
-is_done i ask.Start r w h = cc
-is_done i ask.NewRef r w h = cc
-is_done i (ask.Get x) r w h = cc
-is_done i (ask.Set x v) r w h = cc
-is_done i (ask.Modify x v) r w h = cc
-is_done i ask.NewDeferred r w h = cc
-is_done i (ask.Complete x v) r w h = cc
-is_done i (ask.Read x) r w h = cc
-is_done i (ask.Over o) r w h = cc
-is_done i ask.Broken r w h = cc
+is_done i _ r w h = cc
 
 -- no move is answered where none is wanted
 pub no_wish : (i : ℕ) (a : Ask) (r : Reply) → wish_of a ≡ Nothing → Answers i a r → ⊥
 no_wish i (ask.Over o) r w h = h
 no_wish i ask.Broken r w h = h
-no_wish i ask.Silent r w h = cc
-no_wish i ask.Look r w h = cc
-no_wish i ask.Cut r w h = cc
-no_wish i ask.Mask r w h = cc
-no_wish i ask.Unmask r w h = cc
-no_wish i (ask.Finish o) r w h = cc
-no_wish i (ask.Cancel f) r w h = cc
-no_wish i (ask.Join f) r w h = cc
-no_wish i ask.Start r w h = cc
-no_wish i ask.NewRef r w h = cc
-no_wish i (ask.Get x) r w h = cc
-no_wish i (ask.Set x v) r w h = cc
-no_wish i (ask.Modify x v) r w h = cc
-no_wish i ask.NewDeferred r w h = cc
-no_wish i (ask.Complete x v) r w h = cc
-no_wish i (ask.Read x) r w h = cc
+no_wish i _ r w h = cc
 
 -- ---- lists of replies
 pub moves-append : (g : Fiber) (rs qs : List Reply) → moves g (rs ++ qs) ≡ moves (moves g rs) qs

@@ -1,37 +1,23 @@
 -- How a fiber has ended is what its ask tells.
-use Rattle.std.proofs.Common.{◌≡◌, Some, None, refl, sym, ap, subst}
+use Rattle.std.proofs.Common.{◌≡◌, Some, refl, sym, ap, subst}
 use Rattle.effect_term.specs.declared.reply.Outcome.{Outcome}
-use Rattle.fiber_frames.specs.declared.ask.Ask.{Ask}
-use Rattle.fiber_frames.specs.declared.ask.Ask.TheVariants as ask
-use Rattle.fiber_frames.specs.Fiber.{Fiber, ask_of, lost, outcome_of, outcome_in}
-use Rattle.fiber_frames.specs.Path.{Broken, Final, Over, Running, Runs}
+use Rattle.fiber_frames.specs.{declared.ask.Ask.Ask, Fiber.{Fiber, ask_of, lost, outcome_of, outcome_in}, Path.{Broken, Final, Over, Running, Runs}}
 use Rattle.fiber_frames.specs.Leading.{Asked, Has_ended, IsGoing, Is_lost, way_of}
+use Rattle.fiber_frames.specs.declared.ask.Ask.TheVariants as ask
 
 -- a fiber that is at this, and else like g
 abbrev at : Fiber → Running → Fiber
 at g w = record { number = g.number; running = w; look = g.look; next = g.next; marks = g.marks }
 
 over_in_way : (w : Running) (o : Outcome) → way_of w ≡ Has_ended o → outcome_in w ≡ Some o
-over_in_way (Runs t) o e = absurd (cc)
-over_in_way (Final m gs) o e = absurd (cc)
 over_in_way (Over p) o e = let same : p ≡ o = cc in ap Some same
-over_in_way Broken o e = absurd (cc)
+over_in_way _ o e = absurd (cc)
 
 pub outcome_over : (g : Fiber) (a : Ask) (o : Outcome) → Asked g a → a ≡ ask.Over o → outcome_of g ≡ Some o
 outcome_over g a o t e = over_in_way g.running o (subst (Asked g) e t)
 
 pub outcome_way : (g : Fiber) (o : Outcome) → way_of g.running ≡ Has_ended o → outcome_of g ≡ Some o
 outcome_way g o e = over_in_way g.running o e
-
--- a fiber that goes on has not ended
-pub outcome_going : (g : Fiber) → IsGoing (way_of g.running) → outcome_of g ≡ None
-outcome_going g h = go g.running h
-  where
-    go : (w : Running) → IsGoing (way_of w) → outcome_in w ≡ None
-    go (Runs t) i = refl
-    go (Final m gs) i = refl
-    go (Over o) i = absurd i
-    go Broken i = absurd i
 
 -- a fiber that has ended asks nothing
 pub over_asked : (g : Fiber) (o : Outcome) → outcome_of g ≡ Some o → ask_of g ≡ ask.Over o
@@ -54,10 +40,8 @@ not_over g over broken = go g.running refl
     go Broken e = absurd (broken (subst (λ w. ask_of (at g w) ≡ ask.Broken) (sym e) refl))
 
 broken_is : (w : Running) → way_of w ≡ Is_lost → w ≡ Broken
-broken_is (Runs t) q = absurd (cc)
-broken_is (Final m gs) q = absurd (cc)
-broken_is (Over p) q = absurd (cc)
 broken_is Broken q = refl
+broken_is _ q = absurd (cc)
 
 -- it asks nothing
 pub broken_asked : (g : Fiber) → way_of g.running ≡ Is_lost → ask_of g ≡ ask.Broken

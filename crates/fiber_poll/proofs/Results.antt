@@ -1,47 +1,24 @@
 -- What a fiber that starts nobody comes to, alone at its registry, is what the core says.
-use Rattle.std.proofs.Common.{◌≡◌, ◌⊎◌, inl, inr, ℕ, zero, suc, ◌+◌, ◌<◌, false, List, ◌∷◌, ◌++◌, length}
-use Rattle.std.proofs.Common.{replicate, Option, Some, None, Result, Ok, Err, refl, sym, ap, ◌∙◌, subst, arith}
-use Rattle.std.proofs.Common.{eq-eqb, cond, zero-add}
-use Rattle.effect_term.specs.declared.reply.Outcome.{Outcome}
-use Rattle.effect_term.specs.declared.reply.Reply.{Reply}
-use Rattle.derived_ops.specs.Tree.{Tree}
+use Rattle.std.proofs.Common.{◌≡◌, ◌⊎◌, inl, inr, ℕ, zero, suc, ◌+◌, ◌<◌, false, List, ◌∷◌, ◌++◌, length, replicate, Option, Some, None, Result, Ok, Err, refl}
+use Rattle.std.proofs.Common.{sym, ap, ◌∙◌, subst, arith, eq-eqb, cond, zero-add}
+use Rattle.effect_term.specs.{declared.{reply.{Outcome.Outcome, Reply.Reply}, term.Term.Term}, Starts.starts_fiber}
+use Rattle.derived_ops.specs.{Tree.Tree, Expansion.code_of, Reading.source_of}
 use Rattle.fiber_frames.specs.Fiber.{Fiber, ask_of, begins}
-use Rattle.cell_registry.specs.declared.cell.Stage.{Stage}
-use Rattle.cell_registry.specs.declared.limits.CellError.{CellError}
-use Rattle.cell_registry.specs.declared.limits.CellError.TheVariants as cell
-use Rattle.cell_registry.specs.declared.limits.Band.{Band}
-use Rattle.cell_registry.specs.declared.limits.Band.TheVariants.{Fibers, Refs, Deferreds}
-use Rattle.cell_registry.specs.declared.limits.Limits.{Limits}
-use Rattle.cell_registry.specs.declared.limits.RunError.{RunError}
-use Rattle.cell_registry.specs.declared.limits.RunError.TheVariants as run
-use Rattle.cell_registry.specs.declared.call.Call.{Call}
-use Rattle.cell_registry.specs.declared.call.Call.TheVariants as call
-use Rattle.cell_registry.specs.declared.call.Entry.{Entry}
-use Rattle.cell_registry.specs.Bands.{claim_of, limit_of, next_of}
-use Rattle.cell_registry.specs.Cells.{Cells, cell_of, opening, refusal}
-use Rattle.cell_registry.specs.Histories.{IsLegal, IsLegalFrom, calls_by, left, left_from}
-use Rattle.cell_registry.specs.Passes.{PassView, RegistryView, SeesAllGiven, first_pass}
-use Rattle.scheduled_core.specs.declared.wish.Wish.TheVariants.{Shared, Nothing}
-use Rattle.scheduled_core.specs.Core.{core, fault_of, first_world, wish_of}
+use Rattle.cell_registry.specs.declared.{cell.Stage.Stage, limits.{CellError.CellError, Band.{Band, TheVariants.{Fibers, Refs, Deferreds}}, Limits.Limits}}
+use Rattle.cell_registry.specs.{declared.{limits.RunError.RunError, call.{Call.Call, Entry.Entry}}, Bands.{claim_of, limit_of, next_of}, Cells.{Cells, cell_of}}
+use Rattle.cell_registry.specs.{Cells.{opening, refusal}, Histories.{IsLegal, IsLegalFrom, calls_by, left, left_from}, Passes.{PassView, RegistryView}}
+use Rattle.cell_registry.specs.Passes.{SeesAllGiven, first_pass}
+use Rattle.scheduled_core.specs.{declared.wish.Wish.TheVariants.{Shared, Nothing}, Core.{core, fault_of, first_world, wish_of}, Permits.IsChange}
 use Rattle.scheduled_core.proofs.Standing.Schedules.{Course, run_from}
-use Rattle.scheduled_core.specs.Permits.{IsChange}
-use Rattle.fiber_poll.specs.Turns.{calls_of}
-use Rattle.fiber_poll.specs.Tasks.{IsBroken, IsTask, TaskView, Went}
-use Rattle.fiber_poll.specs.Stepping.{Failed}
-use Rattle.fiber_poll.specs.declared.turn.Turn.{Turn}
-use Rattle.fiber_poll.specs.declared.turn.Turn.TheVariants as turn
-use Rattle.fiber_poll.specs.Turning.{Stopped, Turned}
-use Rattle.effect_term.specs.declared.term.Term.{Term}
-use Rattle.effect_term.specs.Starts.{starts_fiber}
-use Rattle.derived_ops.specs.Expansion.{code_of}
-use Rattle.derived_ops.specs.Reading.{source_of}
-use Rattle.fiber_poll.specs.Futures.{Comes, IsPending, IsResult, Polled, default_limits, first_result}
+use Rattle.fiber_poll.specs.{Turns.calls_of, Tasks.{IsBroken, IsTask, TaskView, Went}, Stepping.Failed, declared.turn.Turn.Turn, Turning.{Stopped, Turned}}
+use Rattle.fiber_poll.{specs.Futures.{Comes, IsPending, IsResult, Polled, default_limits, first_result}, proofs.Childless.IsChildless}
+use Rattle.fiber_poll.proofs.{ChildlessCode.code_childless, MovesAndCalls.went_on, Lonely.{IsLonely, NoStart, calls_no_start, core_append, lonely, one_fiber}}
+use Rattle.fiber_poll.proofs.{Lonely.{refused, rested, simulated}, Outcomes.{broken_asked, over_asked}}
 use Rattle.futures.specs.declared.task.Poll.TheVariants.{Pending}
-use Rattle.fiber_poll.proofs.Childless.{IsChildless}
-use Rattle.fiber_poll.proofs.ChildlessCode.{code_childless}
-use Rattle.fiber_poll.proofs.MovesAndCalls.{went_on}
-use Rattle.fiber_poll.proofs.Lonely.{IsLonely, NoStart, calls_no_start, core_append, lonely, one_fiber, refused, rested, simulated}
-use Rattle.fiber_poll.proofs.Outcomes.{broken_asked, over_asked}
+use Rattle.cell_registry.specs.declared.limits.CellError.TheVariants as cell
+use Rattle.cell_registry.specs.declared.limits.RunError.TheVariants as run
+use Rattle.cell_registry.specs.declared.call.Call.TheVariants as call
+use Rattle.fiber_poll.specs.declared.turn.Turn.TheVariants as turn
 
 -- what comes of a later task comes of this one
 pub comes_back : (a b : TaskView) (rs : List Reply) (r : Result (Option Outcome) RunError) → Went a rs b → Comes b r → Comes a r
@@ -51,21 +28,11 @@ comes_back a b rs r w c = record { replies = rs ++ c.replies; last = c.last; wen
 is_pending : (t : Turn) → ((o : Outcome) → t ≡ turn.Ended o → ⊥) → (t ≡ turn.OutOfMoves → ⊥) → IsPending t
 is_pending (turn.Ended o) e m = e o refl
 is_pending turn.OutOfMoves e m = m refl
-is_pending (turn.Waits w) e m = tt
-is_pending turn.Cedes e m = tt
-is_pending (turn.Started c) e m = tt
-is_pending (turn.WakeFiber f) e m = tt
-is_pending (turn.WakeTopic w) e m = tt
+is_pending _ e m = tt
 
 pub still_polled : (old new : TaskView) (budget : ℕ) (t : Turn) → Turned old budget t new → ((o : Outcome) → t ≡ turn.Ended o → ⊥) →
     (t ≡ turn.OutOfMoves → ⊥) → Polled old budget Pending new
 still_polled old new budget t turned e m = (t, is_pending t e m, turned)
-
-pub ended_comes : (old new : TaskView) (budget : ℕ) (o : Outcome) → Turned old budget (turn.Ended o) new → IsTask new → Comes old (Ok (Some o))
-ended_comes old new budget o t i = record { replies = t.replies; last = new; went = t.went; lawful = i; is = t.answered.0 }
-
-pub spent_comes : (old new : TaskView) (budget : ℕ) → Turned old budget turn.OutOfMoves new → IsTask new → Comes old (Ok None)
-spent_comes old new budget t i = record { replies = t.replies; last = new; went = t.went; lawful = i; is = (t.answered.2, t.answered.3) }
 
 pub fault_comes : (old new : TaskView) (budget : ℕ) (e : RunError) → Stopped old budget e new → Comes old (Err e)
 fault_comes old new budget e s = record { replies = s.replies; last = s.before; went = s.went; lawful = s.lawful; is = (s.left, (new, s.failed)) }

@@ -2,28 +2,17 @@
 use Rattle.std.proofs.Common.{◌≡◌, ℕ, suc, ◌+◌, List, [], ◌∷◌, ◌++◌, length, Result, Ok, Err, IfOk, IfErr, refl, sym, ap, ◌∙◌, subst, arith}
 use Rattle.std.proofs.lemmas.List.{length-append}
 use Rattle.effect_term.specs.declared.reply.Reply.{Reply}
-use Rattle.effect_term.specs.declared.reply.Reply.TheVariants as reply
 use Rattle.derived_ops.specs.Tree.{Tree}
-use Rattle.fiber_frames.specs.Fiber.{Fiber, ask_of, move}
-use Rattle.fiber_frames.specs.Answers.{Answers}
+use Rattle.fiber_frames.specs.{Fiber.{Fiber, ask_of, move}, Answers.Answers}
+use Rattle.cell_registry.specs.{declared.limits.RunError.RunError, Histories.calls_by, Passes.{PassView, RegistryView}, Steps.entry}
+use Rattle.scheduled_core.{specs.{declared.wish.Wish.{Wish, TheVariants.{Shared, Alone, Nothing}}, Stands.{Stands, wish}}, proofs.Standing.Led.{Bore, Later}}
+use Rattle.scheduled_core.proofs.Standing.{Led.{Led, Reaches}, AfterATurn.{later-reaches, stands-bore, stands-longer, stands-went, went-looked}}
+use Rattle.fiber_poll.specs.{declared.turn.Turn.Turn, Turns.{AreAnswers, calls_of, moves, wished}, Tasks.{IsTask, IsTaskOf, TaskView, Went}, Stepping.Failed}
+use Rattle.fiber_poll.{specs.Turning.{ChildIsOf, Starts, StaysOf, Stopped, Turned}, proofs.MovesAndCalls.{is_done, no_wish}}
+use Rattle.effect_term.specs.declared.reply.Reply.TheVariants as reply
 use Rattle.cell_registry.specs.declared.call.Call.TheVariants as call
-use Rattle.cell_registry.specs.declared.limits.RunError.{RunError}
 use Rattle.cell_registry.specs.declared.limits.RunError.TheVariants as run
-use Rattle.cell_registry.specs.Histories.{calls_by}
-use Rattle.cell_registry.specs.Passes.{PassView, RegistryView}
-use Rattle.cell_registry.specs.Steps.{entry}
-use Rattle.scheduled_core.specs.declared.wish.Wish.{Wish}
-use Rattle.scheduled_core.specs.declared.wish.Wish.TheVariants.{Shared, Alone, Nothing}
-use Rattle.scheduled_core.specs.Stands.{Stands, wish}
-use Rattle.scheduled_core.proofs.Standing.Led.{Bore, Later, Led, Reaches}
-use Rattle.scheduled_core.proofs.Standing.AfterATurn.{later-reaches, stands-bore, stands-longer, stands-went, went-looked}
-use Rattle.fiber_poll.specs.declared.turn.Turn.{Turn}
 use Rattle.fiber_poll.specs.declared.turn.Turn.TheVariants as turn
-use Rattle.fiber_poll.specs.Turns.{AreAnswers, calls_of, moves, wished}
-use Rattle.fiber_poll.specs.Tasks.{IsTask, IsTaskOf, TaskView, Went}
-use Rattle.fiber_poll.specs.Stepping.{Failed}
-use Rattle.fiber_poll.specs.Turning.{ChildIsOf, Starts, StaysOf, Stopped, Turned}
-use Rattle.fiber_poll.proofs.MovesAndCalls.{is_done, no_wish}
 
 module _ (code : Tree) where
   reach_one : (g : Fiber) (r : Reply) (rs : List Reply) → Answers g.number (ask_of g) r →
@@ -108,12 +97,7 @@ module _ (code : Tree) (most : ℕ) where
   turned_of : (r : RegistryView) (a new : TaskView) (budget : ℕ) (t : Turn) → Turned a budget t new → IsTaskOf r code most a → IsTaskOf r code most new ×
       ChildIsOf r code most t
   turned_of r a new budget (turn.Started c) t of = (went_of r a new t.replies t.went of, child_of r a new t.replies c t.went t.answered of)
-  turned_of r a new budget (turn.Ended o) t of = (went_of r a new t.replies t.went of, tt)
-  turned_of r a new budget (turn.Waits w) t of = (went_of r a new t.replies t.went of, tt)
-  turned_of r a new budget turn.Cedes t of = (went_of r a new t.replies t.went of, tt)
-  turned_of r a new budget (turn.WakeFiber f) t of = (went_of r a new t.replies t.went of, tt)
-  turned_of r a new budget (turn.WakeTopic w) t of = (went_of r a new t.replies t.went of, tt)
-  turned_of r a new budget turn.OutOfMoves t of = (went_of r a new t.replies t.went of, tt)
+  turned_of r a new budget _ t of = (went_of r a new t.replies t.went of, tt)
 
   -- a refusal leaves the fiber where it stood
   failed_of : (r : RegistryView) (a new : TaskView) (e : RunError) → Rattle.cell_registry.specs.Rule.Has a.pass.fibers a.pass.number →

@@ -2,44 +2,23 @@
 use Rattle.std.proofs.Common.{◌≡◌, ◌≢◌, inl, inr, ℕ, ◌+◌, ◌-◌, ◌<◌, ◌^◌, [], ◌∷◌, Some, None, refl, sym, ap, ◌∙◌, subst, arith}
 use mathlib.Core.List.{IsPrefix}
 use Rattle.effect_term.specs.declared.reply.Reply.{Reply}
+use Rattle.fiber_frames.specs.{declared.{ask.Ask.Ask, config.Moved.Moved}, Rows.{RowKind, Plain, Born, Ended}, Fiber.{Fiber, ask_of, kind_of}}
+use Rattle.fiber_frames.specs.{Fiber.{lost, move}, Moves.{moved, told}, Answers.Answers, Leading.{Asked, GoesOn, IsGoing, KindFits, Way, way_after, way_of}}
+use Rattle.fiber_frames.proofs.NamedMoves.{run_more}
+use Rattle.cell_registry.specs.{declared.{limits.{CellError.CellError, Band.{Band, TheVariants.{Fibers, Refs, Deferreds}}}, call.Call.Call}, Bands.limit_of}
+use Rattle.cell_registry.{specs.{Histories.left, Passes.{PassView, RegistryView, IsPass, OnlySees}}, proofs.Legal.next_of-prefix}
+use Rattle.scheduled_core.specs.{declared.wish.Wish.{Wish, TheVariants.{Shared, Alone, Nothing}}, Core.{fault_of, wish_of}, Permits.{IsInRange, MayMake}}
+use Rattle.scheduled_core.specs.{Permits.RefusedBy, Private.Asking.Asking, Fitting.{Fits, Registered, given_by, pass_registered}}
+use Rattle.scheduled_core.proofs.{Answered.alone_answers, Fitted.{If_shared, fits_alone, may_by_ask}, Replied.{call_answers, made_fits}}
+use Rattle.derived_ops.specs.Naming.{Given, IsMore}
+use Rattle.fiber_poll.specs.{Private.{Making.{MayAnswer, Refuses, Replies}, Told.{Follows, IsAsked, IsStep, Made, Tells, event_at, event_in}}, Turns.Ends}
+use Rattle.fiber_poll.specs.{Turns.{event_of, told_by}, Tasks.{IsTask, TaskView, Went}, Stepping.Failed, declared.move_end.MoveEnd.MoveEnd}
+use Rattle.fiber_poll.proofs.MovesAndCalls.{went_alone, went_call}
 use Rattle.effect_term.specs.declared.reply.Reply.TheVariants as reply
-use Rattle.fiber_frames.specs.declared.ask.Ask.{Ask}
 use Rattle.fiber_frames.specs.declared.ask.Ask.TheVariants as ask
-use Rattle.fiber_frames.specs.declared.config.Moved.{Moved}
-use Rattle.fiber_frames.specs.Rows.{RowKind, Plain, Waited, Ceded, Born, Ended}
-use Rattle.fiber_frames.specs.Fiber.{Fiber, ask_of, kind_of, lost, move}
-use Rattle.fiber_frames.specs.Moves.{moved, told}
-use Rattle.fiber_frames.specs.Answers.{Answers}
-use Rattle.cell_registry.specs.declared.limits.CellError.{CellError}
 use Rattle.cell_registry.specs.declared.limits.CellError.TheVariants as error
 use Rattle.cell_registry.specs.declared.limits.RunError.TheVariants as run
-use Rattle.cell_registry.specs.declared.limits.Band.{Band}
-use Rattle.cell_registry.specs.declared.limits.Band.TheVariants.{Fibers, Refs, Deferreds}
-use Rattle.cell_registry.specs.declared.call.Call.{Call}
 use Rattle.cell_registry.specs.declared.call.Call.TheVariants as call
-use Rattle.cell_registry.specs.Bands.{limit_of}
-use Rattle.cell_registry.specs.Histories.{left}
-use Rattle.cell_registry.specs.Passes.{PassView, RegistryView, IsPass, OnlySees}
-use Rattle.cell_registry.proofs.Legal.{next_of-prefix}
-use Rattle.scheduled_core.specs.declared.wish.Wish.{Wish}
-use Rattle.scheduled_core.specs.declared.wish.Wish.TheVariants.{Shared, Alone, Nothing}
-use Rattle.scheduled_core.specs.Core.{fault_of, wish_of}
-use Rattle.scheduled_core.specs.Permits.{IsInRange, MayMake, RefusedBy}
-use Rattle.scheduled_core.proofs.Answered.{alone_answers}
-use Rattle.scheduled_core.specs.Private.Asking.{Asking}
-use Rattle.scheduled_core.proofs.Fitted.{If_shared, fits_alone, may_by_ask}
-use Rattle.scheduled_core.proofs.Replied.{call_answers, made_fits}
-use Rattle.fiber_frames.specs.Leading.{Asked, GoesOn, IsGoing, KindFits, Way, way_after, way_of}
-use Rattle.derived_ops.specs.Naming.{Given, IsMore}
-use Rattle.fiber_frames.proofs.NamedMoves.{run_more}
-use Rattle.scheduled_core.specs.Fitting.{Fits, Registered, given_by, pass_registered}
-use Rattle.fiber_poll.specs.Private.Making.{MayAnswer, Refuses, Replies}
-use Rattle.fiber_poll.specs.Turns.{Ends, event_of, told_by}
-use Rattle.fiber_poll.specs.Tasks.{IsTask, TaskView, Went}
-use Rattle.fiber_poll.specs.Stepping.{Failed}
-use Rattle.fiber_poll.specs.declared.move_end.MoveEnd.{MoveEnd}
-use Rattle.fiber_poll.specs.Private.Told.{Follows, IsAsked, IsStep, Made, Tells, event_at, event_in}
-use Rattle.fiber_poll.proofs.MovesAndCalls.{went_alone, went_call}
 
 -- ---- a fiber that goes on
 -- it fits its pass
@@ -61,9 +40,6 @@ step_asked g ask.Start t i o = absurd (o refl)
 step_asked g (ask.Over p) t i o = subst IsGoing t i
 step_asked g ask.Broken t i o = subst IsGoing t i
 step_asked g _ t i o = tt
-
-pub asked_start : (g : Fiber) → ask_of g ≡ ask.Start → wish_of (ask_of g) ≡ Shared call.Start
-asked_start g e = ap wish_of e
 
 -- a step calls for no start
 step_other : (a : Ask) (c : Call) → IsStep a → wish_of a ≡ Shared c → c ≢ call.Start
@@ -174,17 +150,12 @@ module _ (t : TaskView) (q : PassView) (i : IsTask t) (lawful : IsPass q) where
 
 -- ---- what is told of a move
 goes_told : (a : Ask) (c : Fiber) (k : RowKind) → GoesOn k → Follows a (told c k)
-goes_told a c Plain h = tt
-goes_told a c Waited h = tt
-goes_told a c Ceded h = tt
 goes_told a c (Born t) h = absurd h
 goes_told a c (Ended o) h = absurd h
+goes_told a c _ h = tt
 
 follows_by : (c : Fiber) (a : Ask) (k : RowKind) → IsStep a → KindFits a k → Follows a (told c k)
-follows_by c ask.Start k s h = absurd s
 follows_by c (ask.Finish o) k s h = subst (λ x. Follows (ask.Finish o) (told c x)) (sym h) refl
-follows_by c (ask.Over o) k s h = absurd s
-follows_by c ask.Broken k s h = absurd s
 follows_by c ask.Look k s h = goes_told ask.Look c k h
 follows_by c ask.Cut k s h = goes_told ask.Cut c k h
 follows_by c ask.Mask k s h = goes_told ask.Mask c k h
@@ -199,13 +170,11 @@ follows_by c ask.NewDeferred k s h = goes_told ask.NewDeferred c k h
 follows_by c (ask.Complete x v) k s h = goes_told (ask.Complete x v) c k h
 follows_by c (ask.Read x) k s h = goes_told (ask.Read x) c k h
 follows_by c ask.Silent k s h = goes_told ask.Silent c k h
+follows_by c _ k s h = absurd s
 
 event_as : (i : ℕ) (a : Ask) (r : Reply) (c : Fiber) (k : RowKind) → event_in i a r (told c k) ≡ told_by i a r k
 event_as i a r c Plain = refl
-event_as i a r c Waited = refl
-event_as i a r c Ceded = refl
-event_as i a r c (Born t) = refl
-event_as i a r c (Ended o) = refl
+event_as i a r c _ = refl
 
 event_is : (m : Moved) (g : Fiber) (a : Ask) (r : Reply) → a ≡ ask_of g → m ≡ moved g r → event_in g.number a r m ≡ event_of g r
 event_is m g a r is e = ap (event_in g.number a r) e ∙ event_as g.number a r _ (kind_of g r) ∙ ap (λ x. told_by g.number x r (kind_of g r)) is
@@ -240,23 +209,9 @@ module _ (t : TaskView) (a : Ask) (q : PassView) (r : Reply) (i : IsTask t) (g :
   here_by Alone m = ap (λ (p : PassView). p.registry) m.1 ∙ i.here
   here_by Nothing m = absurd m
 
-  number_by : (w : Wish) → Replies t.pass w r q → t.state.number ≡ q.number
-  number_by (Shared c) m = i.number ∙ sym (ap (λ (p : PassView). p.number) m.same)
-  number_by Alone m = i.number ∙ sym (ap (λ (p : PassView). p.number) m.1)
-  number_by Nothing m = absurd m
-
   module _ (replied : Replies t.pass (wish_of a) r q) where
     pub replied_answers : Answers t.state.number a r
     replied_answers = answers_by (wish_of a) refl replied
-
-    -- memory was refused in the move
-    pub lost_task : (new : Fiber) → new ≡ lost t.state → IsTask record { home = t.home; pass = q; state = new; moves = t.moves }
-    lost_task new e = record {
-      here = here_by (wish_of a) replied;
-      pass = lawful;
-      number = ap (λ (x : Fiber). x.number) e ∙ number_by (wish_of a) replied;
-      fits = inl (ap (λ (x : Fiber). way_of x.running) e);
-    }
 
     lost_failed_by : (w : Wish) → wish_of a ≡ w → Replies t.pass w r q → (new : Fiber) → new ≡ lost t.state →
         Failed t run.NoMemory (record { home = t.home; pass = q; state = new; moves = t.moves })
@@ -340,9 +295,6 @@ module _ (t now : TaskView) (view : t ≡ now) (i : IsTask t) (a : Ask) (asks : 
     module _ (r : Reply) (replied : Replies t.pass (wish_of a) r q) where
       pub here_answers : Answers t.state.number (ask_of t.state) r
       here_answers = subst (λ (x : Ask). Answers t.state.number x r) is (replied_answers t a q r i going asked starts_none is lawful replied)
-
-      pub here_lost : (new : Fiber) → new ≡ lost t.state → IsTask record { home = t.home; pass = q; state = new; moves = t.moves }
-      here_lost = lost_task t a q r i going asked starts_none is lawful replied
 
       pub here_no_memory : (new : Fiber) → new ≡ lost t.state → Failed now run.NoMemory (record { home = t.home; pass = q; state = new; moves = t.moves })
       here_no_memory new e = subst (λ (x : TaskView). Failed x run.NoMemory (record { home = t.home; pass = q; state = new; moves = t.moves })) view

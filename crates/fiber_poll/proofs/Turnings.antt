@@ -1,24 +1,15 @@
 -- A turn, move by move.
 use Rattle.std.proofs.Common.{◌≡◌, inl, inr, ℕ, ◌+◌, ◌<◌, ◌≤◌, List, [], ◌∷◌, ◌++◌, length, Some, None, refl, sym, ap, ◌∙◌, subst, arith, length-append}
-use Rattle.effect_term.specs.declared.reply.Outcome.{Outcome}
-use Rattle.effect_term.specs.declared.reply.Reply.{Reply}
-use Rattle.fiber_frames.specs.declared.ask.Ask.{Ask}
+use Rattle.effect_term.specs.declared.reply.{Outcome.Outcome, Reply.Reply}
+use Rattle.fiber_frames.specs.{declared.ask.Ask.Ask, Fiber.{Fiber, outcome_of}, Leading.{Asked, IsGoing, way_after, way_of}}
+use Rattle.fiber_poll.specs.{declared.{turn.Turn.Turn, move_end.MoveEnd.MoveEnd}, Turns.{AreQuiet, Ends, Event, TellsLast, Waits_for, Wakes_fiber, Wakes_topic}}
+use Rattle.fiber_poll.specs.{Turns.{Yields, event_of}, Tasks.{IsTask, TaskView, Went}, Turning.{Answered, Stopped, Turned}, Private.Told.Bears}
+use Rattle.fiber_poll.{specs.Private.Told.{IsAsked, IsLast, Made, ended_at, event_at, event_told, woken_at}, proofs.MovesAndCalls.{quiet-push, went_nowhere}}
+use Rattle.fiber_poll.proofs.{MovesAndCalls.went_on, Outcomes.{broken_lost, outcome_over, outcome_way}}
 use Rattle.fiber_frames.specs.declared.ask.Ask.TheVariants as ask
-use Rattle.fiber_frames.specs.Fiber.{Fiber, outcome_of}
-use Rattle.cell_registry.specs.declared.limits.RunError.{RunError}
 use Rattle.cell_registry.specs.declared.limits.RunError.TheVariants as run
-use Rattle.fiber_poll.specs.declared.turn.Turn.{Turn}
 use Rattle.fiber_poll.specs.declared.turn.Turn.TheVariants as turn
-use Rattle.fiber_poll.specs.declared.move_end.MoveEnd.{MoveEnd}
 use Rattle.fiber_poll.specs.declared.move_end.MoveEnd.TheVariants as move_end
-use Rattle.fiber_frames.specs.Leading.{Asked, IsGoing, way_after, way_of}
-use Rattle.fiber_poll.specs.Turns.{AreQuiet, Ends, Event, TellsLast, Waits_for, Wakes_fiber, Wakes_topic, Yields, event_of}
-use Rattle.fiber_poll.specs.Tasks.{IsTask, TaskView, Went}
-use Rattle.fiber_poll.specs.Stepping.{Failed}
-use Rattle.fiber_poll.specs.Turning.{Answered, Stopped, Turned}
-use Rattle.fiber_poll.specs.Private.Told.{Bears, IsAsked, IsLast, Made, ended_at, event_at, event_told, woken_at}
-use Rattle.fiber_poll.proofs.MovesAndCalls.{quiet-push, went_nowhere, went_on}
-use Rattle.fiber_poll.proofs.Outcomes.{broken_lost, outcome_going, outcome_over, outcome_way}
 
 -- ---- an ended fiber, and a broken one
 pub over_turned : (t : TaskView) (budget : ℕ) (a : Ask) (o : Outcome) → Asked t.state a → a ≡ ask.Over o → Turned t budget (turn.Ended o) t
@@ -70,50 +61,21 @@ loop_goes old mid new n a l m = record {
 pub loop_asked : (t now : TaskView) (a : Ask) → t ≡ now → IsAsked t.state a → IsAsked now.state a
 loop_asked t now a view k = subst (λ (x : TaskView). IsAsked x.state a) view k
 
-pub loop_out : (old now : TaskView) (n budget : ℕ) → Loops old n now → n < budget → now.moves ≡ 0 → Turned old budget turn.OutOfMoves now
-loop_out old now n budget l less none =
-    record {
-      replies = l.replies;
-      went = l.went;
-      most = (let m = l.many in omega arith);
-      answered =
-          (l.quiet, (let m = l.many in omega arith), none, outcome_going now.state l.going);
-    }
-
-pub loop_ends : (old now : TaskView) (budget : ℕ) → Loops old budget now → Turned old budget turn.Cedes now
-loop_ends old now budget l = record { replies = l.replies; went = l.went; most = (let m = l.many in omega arith); answered = inl (l.quiet, l.many) }
-
-pub loop_fails : (old mid new : TaskView) (n budget : ℕ) (e : RunError) → Loops old n mid → n < budget → 0 < mid.moves → IsTask mid →
-    Failed mid e new → Stopped old budget e new
-loop_fails old mid new n budget e l less some i f =
-    record {
-      replies = l.replies;
-      before = mid;
-      went = l.went;
-      quiet = l.quiet;
-      most = (let m = l.many in omega arith);
-      left = inl some;
-      lawful = i;
-      failed = f;
-    }
-
 -- ---- the last move of a turn
 -- a fiber ends by asking so
 ends_at : (a : Ask) (s : MoveEnd) (o : Outcome) → event_at a s ≡ Some (Ends o) → a ≡ ask.Finish o
-ends_at a move_end.Plain o e = absurd (cc)
 ends_at a move_end.Woke o e = absurd (woke a e)
   where
     woke : (a : Ask) → woken_at a ≡ Some (Ends o) → ⊥
     woke (ask.Cancel f) e = cc
     woke (ask.Complete d v) e = cc
     woke _ e = cc
-ends_at a move_end.Waited o e = absurd (cc)
-ends_at a move_end.Ceded o e = absurd (cc)
 ends_at a move_end.Ended o e = ended a e
   where
     ended : (a : Ask) → ended_at a ≡ Some (Ends o) → a ≡ ask.Finish o
     ended (ask.Finish p) e = let same : p ≡ o = cc in ap ask.Finish same
     ended _ e = cc
+ends_at a _ o e = absurd (cc)
 
 module _ (old mid new : TaskView) (n budget : ℕ) (l : Loops old n mid) (less : n < budget) where
   -- one move more is within the budget

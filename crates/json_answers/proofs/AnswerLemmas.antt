@@ -1,26 +1,19 @@
 -- Answers to texts in JSON.
 use Rattle.std.proofs.Common.{◌≡◌, ◌≢◌, ◌⊎◌, ℕ, List, Result, Ok, Err, IfOk, OnOk, inl, inr, subst}
-use Rattle.cell_registry.specs.declared.limits.Limits.{Limits}
-use Rattle.cell_registry.specs.declared.limits.RunError.{RunError}
-use Rattle.cell_registry.specs.declared.limits.RunError.TheVariants as run
-use Rattle.effect_term.specs.declared.term.Term.{Term}
-use Rattle.effect_term.specs.declared.refusal.TermError.{TermError}
-use Rattle.effect_term.specs.declared.refusal.TermError.TheVariants as term
+use Rattle.cell_registry.specs.declared.limits.{Limits.Limits, RunError.RunError}
+use Rattle.effect_term.specs.declared.{term.Term.Term, refusal.TermError.TermError}
 use Rattle.term_parse.specs.declared.error.ParseError.{ParseError}
-use Rattle.term_parse.specs.declared.error.ParseError.TheVariants as parse
-use Rattle.serde_json.specs.View.{view}
-use Rattle.serde_json.specs.declared.value.Value.{Value}
-use Rattle.outcome_trace.specs.declared.text_order.Answer.{Answer}
-use Rattle.text_io.specs.declared.status.Status.TheVariants as ends
-use Rattle.outcome_trace.specs.declared.lines.Refused.{Refused}
-use Rattle.outcome_trace.specs.declared.lines.Refused.TheVariants as refusals
+use Rattle.serde_json.specs.{View.view, declared.value.Value.Value}
+use Rattle.outcome_trace.specs.{declared.{text_order.Answer.Answer, lines.Refused.Refused}, Answers.IsRefused, ReplayAnswers.{replayed, report_status}}
 use Rattle.scheduled_core.specs.declared.report.Report.{Report}
-use Rattle.outcome_trace.specs.Answers.{IsRefused}
-use Rattle.outcome_trace.specs.ReplayAnswers.{replayed, report_status}
-use Rattle.json_answers.specs.Answers.{IsJsonRefusal, IsJsonRun, faults, no_program, no_term, reports}
-use Rattle.json_answers.specs.ReportData.{fault_data, line_of_data, report_data}
-use Rattle.json_answers.specs.Refusals as values
+use Rattle.json_answers.specs.{Answers.{IsJsonRefusal, IsJsonRun, faults, no_program, no_term, reports}, ReportData.{fault_data, line_of_data, report_data}}
 use Rattle.json_answers.specs.Refusals.{IsRefusalData, parse_data, term_data}
+use Rattle.cell_registry.specs.declared.limits.RunError.TheVariants as run
+use Rattle.effect_term.specs.declared.refusal.TermError.TheVariants as term
+use Rattle.term_parse.specs.declared.error.ParseError.TheVariants as parse
+use Rattle.text_io.specs.declared.status.Status.TheVariants as ends
+use Rattle.outcome_trace.specs.declared.lines.Refused.TheVariants as refusals
+use Rattle.json_answers.specs.Refusals as values
 
 pub parse_refused : {E : Type 0} (text : List ℕ) (e : ParseError) (r : Refused) → r ≡ refusals.Parse e → IsRefused text r → (a : Result Answer E) →
     IfOk a (λ a. a.text.items ≡ line_of_data (parse_data e)) → IfOk a (λ a. a.status ≡ ends.Refused) → OnOk a (e ≢ parse.NoMemory) →

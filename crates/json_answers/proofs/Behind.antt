@@ -1,12 +1,9 @@
 -- Items after others, one more at a time.
-use Rattle.std.proofs.Common.{◌≡◌, ℕ, ◌+◌, ◌<◌, ◌≤◌, List, [], ◌∷◌, ◌++◌, length, drop, get_or, map, refl, sym, ap, ◌∙◌}
-use Rattle.std.proofs.lemmas.List.{drop_all}
+use Rattle.std.proofs.{Common.{◌≡◌, ℕ, ◌+◌, ◌<◌, ◌≤◌, List, [], ◌∷◌, ◌++◌, length, drop, get_or, refl, sym, ap, ◌∙◌}, lemmas.List.drop_all}
 use Rattle.fiber_frames.specs.declared.mark.Mark.{Mark}
 use Rattle.scheduled_core.specs.declared.report.FiberReport.{FiberReport}
 use Rattle.exploration_text.proofs.Parts.{from_here}
-use Rattle.serde_json.specs.Data.{Data, Items, no_items, item}
-use Rattle.serde_json.specs.View.{items_of, items_view, view}
-use Rattle.serde_json.specs.declared.value.Value.{Value}
+use Rattle.serde_json.specs.{Data.{Items, no_items, item}, View.{items_view, view}, declared.value.Value.Value}
 use Rattle.json_answers.specs.ReportData.{fiber_data, fibers_items, mark_data, marks_items}
 
 abbrev pub items_behind : Items → Items → Items

@@ -1,22 +1,13 @@
 -- No value of an exploration or of a sample holds a number with a point.
-use Rattle.std.proofs.Common.{◌≡◌, ℕ, Bool, true, false, not, List, [], ◌∷◌, ◌++◌, ◌||◌, Result, Ok, Err, refl, sym, ap, ◌∙◌}
-use Rattle.std.specs.List.{filter}
+use Rattle.std.{proofs.Common.{◌≡◌, ℕ, Bool, true, false, not, List, [], ◌∷◌, ◌++◌, ◌||◌, Result, Ok, Err, refl, sym, ap, ◌∙◌}, specs.List.filter}
 use Rattle.cell_registry.specs.declared.limits.RunError.{RunError}
 use Rattle.scheduled_core.specs.declared.report.Report.{Report}
-use Rattle.every_schedule.specs.declared.exploration.Answer.{Answer}
-use Rattle.every_schedule.specs.declared.exploration.Exploration.{Exploration}
-use Rattle.exploration_text.specs.declared.wants.Want.{Want}
-use Rattle.exploration_text.specs.ExplorationText.{is_listed_so}
-use Rattle.sampled_schedules.specs.declared.comings.Coming.{Coming}
-use Rattle.sampled_schedules.specs.declared.comings.Sample.{Sample}
-use Rattle.serde_json.specs.Data.{Data, Items}
-use Rattle.serde_json.specs.View.{items_of}
-use Rattle.serde_json.specs.Written.{has_float, items_have_float}
-use Rattle.json_answers.specs.ExplorationData.{AreAnswersData, IsExplorationData, exploration_data, found_data}
-use Rattle.json_answers.specs.ReportData.{fault_data, report_data}
-use Rattle.exploration_text.specs.SampleText.{is_unwanted}
-use Rattle.json_answers.specs.SampleData.{AreComingsData, IsSampleData, came_data}
-use Rattle.json_answers.proofs.Plain.{fault_plain, or_plain, report_plain}
+use Rattle.every_schedule.specs.declared.exploration.{Answer.Answer, Exploration.Exploration}
+use Rattle.exploration_text.specs.{declared.wants.Want.Want, ExplorationText.is_listed_so, SampleText.is_unwanted}
+use Rattle.sampled_schedules.specs.declared.comings.{Coming.Coming, Sample.Sample}
+use Rattle.serde_json.specs.{Data.{Data, Items}, View.items_of, Written.{has_float, items_have_float}}
+use Rattle.json_answers.specs.{ExplorationData.{AreAnswersData, IsExplorationData, exploration_data, found_data}, ReportData.{fault_data, report_data}}
+use Rattle.json_answers.{specs.SampleData.{AreComingsData, IsSampleData, came_data}, proofs.Plain.{fault_plain, or_plain, report_plain}}
 
 or_assoc : (a b c : Bool) → ((a || b) || c) ≡ (a || (b || c))
 or_assoc true b c = refl

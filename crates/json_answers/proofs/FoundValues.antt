@@ -1,60 +1,16 @@
 -- The values of answers, one answer at a time.
-use Rattle.std.proofs.Common.{◌≡◌, ◌+◌, ◌<◌, ◌≤◌, ℕ, Bool, true, false, not, cond, List, [], ◌∷◌, ◌++◌, Result, Ok, Err}
-use Rattle.std.proofs.Common.{IfOk, length, drop, get_or, map, refl, sym, ap, ◌∙◌, subst, append_assoc, append-nil}
-use Rattle.std.specs.List.{filter}
-use Rattle.std.proofs.lemmas.List.{drop_all, map-append}
+use Rattle.std.proofs.Common.{◌≡◌, ◌+◌, ◌<◌, ◌≤◌, ℕ, Bool, true, false, not, List, [], ◌∷◌, ◌++◌, Result, Ok, Err, IfOk, length, drop, get_or, map, refl}
+use Rattle.std.proofs.{Common.{sym, ap, ◌∙◌, subst, append_assoc, append-nil}, lemmas.List.{drop_all, map-append}}
 use Rattle.text_io.specs.Schedule.{SpellsEntries}
-use Rattle.every_schedule.specs.declared.exploration.Answer.{Answer}
-use Rattle.every_schedule.specs.declared.exploration.Exploration.{Exploration}
-use Rattle.exploration_text.specs.declared.wants.Want.{Want}
-use Rattle.exploration_text.specs.ExplorationText.{is_listed_so}
-use Rattle.exploration_text.proofs.Parts.{from_here}
-use Rattle.sampled_schedules.specs.declared.comings.Coming.{Coming}
-use Rattle.sampled_schedules.specs.declared.comings.Sample.{Sample}
-use Rattle.serde_json.specs.Data.{Data}
-use Rattle.serde_json.specs.View.{items_of, items_view, view}
-use Rattle.serde_json.specs.declared.value.Value.{Value}
-use Rattle.json_answers.specs.ExplorationData.{AreAnswersData, IsAnswerData, IsExplorationData, IsPartData, exploration_data, found_data}
-use Rattle.exploration_text.specs.SampleText.{is_unwanted}
+use Rattle.every_schedule.specs.declared.exploration.{Answer.Answer, Exploration.Exploration}
+use Rattle.exploration_text.{specs.{declared.wants.Want.Want, SampleText.is_unwanted}, proofs.Parts.from_here}
+use Rattle.sampled_schedules.specs.declared.comings.{Coming.Coming, Sample.Sample}
+use Rattle.serde_json.specs.{Data.Data, View.{items_of, items_view, view}, declared.value.Value.Value}
+use Rattle.json_answers.specs.ExplorationData.{IsAnswerData, IsExplorationData, IsPartData, exploration_data, found_data}
 use Rattle.json_answers.specs.SampleData.{AreComingsData, IsComingData, IsSampleData, came_data, sample_data}
 
 pub one_more : (vs new : List Value) (v : Value) → new ≡ vs ++ v ∷ [] → map view new ≡ map view vs ++ view v ∷ []
 one_more vs new v is = ap (λ xs. map view xs) is ∙ map-append view vs (v ∷ [])
-
--- followed by the values of the answers from number i on, the values are those of all answers
-abbrev pub IsFront : Bool → List Want → List Answer → ℕ → List Data → Type 0
-IsFront u wants all i ds =
-    (behind : List Data) → IsPartData u wants (drop i all) behind → IsPartData u wants all (ds ++ behind)
-
-pub listed : (u : Bool) (wants : List Want) (all : List Answer) (i : ℕ) (a : Answer) (ds new : List Data) (d : Data) → i < length all →
-    a ≡ get_or all i a → is_listed_so u wants a ≡ true → IsAnswerData u a d → new ≡ ds ++ d ∷ [] →
-    IsFront u wants all i ds → IsFront u wants all (i + 1) new
-listed u wants all i a ds new d low at so is new_is front = λ behind h.
-    let rest = filter (λ x. is_listed_so u wants x) (drop (i + 1) all) in
-    let first : AreAnswersData u (a ∷ rest) (d ∷ behind) = (d, behind, refl, is, h) in
-    let whole : IsPartData u wants (a ∷ drop (i + 1) all) (d ∷ behind) =
-    subst (λ b. AreAnswersData u (cond b (a ∷ rest) rest) (d ∷ behind)) (sym so) first in
-    let here : IsPartData u wants (drop i all) (d ∷ behind) =
-    subst (λ xs. IsPartData u wants xs (d ∷ behind)) (sym (from_here all i a low at)) whole in
-    subst (λ t. IsPartData u wants all t) (sym (ap (λ t. t ++ behind) new_is ∙ append_assoc ds (d ∷ []) behind))
-    (front (d ∷ behind) here)
-
-pub passed : (u : Bool) (wants : List Want) (all : List Answer) (i : ℕ) (a : Answer) (ds new : List Data) → i < length all →
-    a ≡ get_or all i a → is_listed_so u wants a ≡ false → new ≡ ds → IsFront u wants all i ds → IsFront u wants all (i + 1) new
-passed u wants all i a ds new low at so new_is front = λ behind h.
-    let rest = filter (λ x. is_listed_so u wants x) (drop (i + 1) all) in
-    let whole : IsPartData u wants (a ∷ drop (i + 1) all) behind =
-    subst (λ b. AreAnswersData u (cond b (a ∷ rest) rest) behind) (sym so) h in
-    let here : IsPartData u wants (drop i all) behind =
-    subst (λ xs. IsPartData u wants xs behind) (sym (from_here all i a low at)) whole in
-    subst (λ t. IsPartData u wants all (t ++ behind)) (sym new_is) (front behind here)
-
-pub all_listed : (u : Bool) (wants : List Want) (all : List Answer) (i : ℕ) (ds : List Data) → length all ≤ i →
-    IsFront u wants all i ds → IsPartData u wants all ds
-all_listed u wants all i ds past front =
-    let none : IsPartData u wants (drop i all) [] =
-    subst (λ xs. IsPartData u wants xs []) (sym (drop_all i all past)) refl in
-    subst (λ t. IsPartData u wants all t) (append-nil ds) (front [] none)
 
 -- followed by the values of the ends from number i on, the values are those of all ends
 abbrev pub IsCameFront : List Want → List Coming → ℕ → List Data → Type 0

@@ -1,21 +1,16 @@
 -- No value of an answer holds a number with a point.
-use Rattle.std.proofs.Common.{◌≡◌, ℕ, ◌+◌, ℤ, pos, negsuc, Bool, true, false, List, [], ◌∷◌, ◌||◌, Option, Some, None, refl, ap, ap₂, ◌∙◌}
+use Rattle.std.proofs.Common.{◌≡◌, ℕ, ◌+◌, ℤ, pos, negsuc, Bool, false, List, [], ◌∷◌, ◌||◌, Option, Some, None, refl, ap₂, ◌∙◌}
 use Rattle.cell_registry.specs.declared.limits.RunError.{RunError}
-use Rattle.cell_registry.specs.declared.limits.RunError.TheVariants as run
-use Rattle.effect_term.specs.declared.refusal.TermError.{TermError}
-use Rattle.effect_term.specs.declared.refusal.TermError.TheVariants as term
-use Rattle.effect_term.specs.declared.reply.Outcome.{Outcome}
-use Rattle.effect_term.specs.declared.reply.Outcome.TheVariants.{Succeeded, Errored, Canceled}
+use Rattle.effect_term.specs.declared.{refusal.TermError.TermError, reply.Outcome.{Outcome, TheVariants.{Succeeded, Errored, Canceled}}}
 use Rattle.term_parse.specs.declared.error.ParseError.{ParseError}
-use Rattle.term_parse.specs.declared.error.ParseError.TheVariants as parse
-use Rattle.fiber_frames.specs.declared.mark.Mark.{Mark}
-use Rattle.fiber_frames.specs.declared.mark.Mark.TheVariants.{Say, Enter, Leave, PollIn, PollOut, Cut, Acquired}
-use Rattle.fiber_frames.specs.declared.mark.Mark.TheVariants.{Releasing, Released, Dropped}
+use Rattle.fiber_frames.specs.declared.mark.Mark.{Mark, TheVariants.{Say, Dropped}}
 use Rattle.scheduled_core.specs.declared.report.FiberReport.{FiberReport}
-use Rattle.serde_json.specs.Find.{is_float, of_integer}
-use Rattle.serde_json.specs.Written.{has_float, items_have_float}
-use Rattle.json_answers.specs.ReportData.{fault_data, fiber_data, fibers_items, mark_data, marks_items, outcome_data, report_data}
-use Rattle.json_answers.specs.Refusals.{parse_data, term_data}
+use Rattle.serde_json.specs.{Find.{is_float, of_integer}, Written.{has_float, items_have_float}}
+use Rattle.json_answers.specs.{ReportData.{fault_data, fiber_data, fibers_items, mark_data, marks_items, outcome_data, report_data}, Refusals.parse_data}
+use Rattle.json_answers.specs.Refusals.{term_data}
+use Rattle.cell_registry.specs.declared.limits.RunError.TheVariants as run
+use Rattle.effect_term.specs.declared.refusal.TermError.TheVariants as term
+use Rattle.term_parse.specs.declared.error.ParseError.TheVariants as parse
 
 integer_plain : (z : ℤ) → is_float (of_integer z) ≡ false
 integer_plain (pos n) = refl
@@ -26,15 +21,8 @@ or_plain a b h k = ap₂ (λ x y. x || y) h k
 
 mark_plain : (m : Mark) → has_float (mark_data m) ≡ false
 mark_plain (Say v) = or_plain (is_float (of_integer v)) false (integer_plain v) refl
-mark_plain (Enter m) = refl
-mark_plain (Leave m) = refl
-mark_plain (PollIn m) = refl
-mark_plain (PollOut m) = refl
-mark_plain Cut = refl
-mark_plain (Acquired m) = refl
-mark_plain (Releasing m) = refl
-mark_plain (Released m) = refl
 mark_plain (Dropped c) = or_plain (is_float (of_integer c)) false (integer_plain c) refl
+mark_plain _ = refl
 
 marks_plain : (ms : List Mark) → items_have_float (marks_items ms) ≡ false
 marks_plain [] = refl
@@ -61,27 +49,12 @@ report_plain fs = or_plain (items_have_float (fibers_items 0 fs)) false (fibers_
 
 pub fault_plain : (e : RunError) → has_float (fault_data e) ≡ false
 fault_plain (run.Full band n) = refl
-fault_plain (run.Spent f) = refl
-fault_plain run.NoMemory = refl
-fault_plain (run.Lost f) = refl
-fault_plain run.NoWorker = refl
+fault_plain _ = refl
 
 pub parse_plain : (e : ParseError) → has_float (parse_data e) ≡ false
 parse_plain parse.NoMemory = refl
-parse_plain (parse.BadByte p) = refl
-parse_plain (parse.End p) = refl
-parse_plain (parse.UnknownWord p) = refl
-parse_plain (parse.Arity p) = refl
-parse_plain (parse.BadNumber p) = refl
-parse_plain (parse.UnknownName p) = refl
-parse_plain (parse.NameKind p) = refl
-parse_plain (parse.TooDeep p) = refl
-parse_plain (parse.TooLong p) = refl
-parse_plain (parse.Trailing p) = refl
+parse_plain _ = refl
 
 pub term_plain : (e : TermError) → has_float (term_data e) ≡ false
 term_plain term.NoMemory = refl
-term_plain (term.Unbound s) = refl
-term_plain (term.WrongKind s) = refl
-term_plain (term.DeepMasks n) = refl
-term_plain term.Large = refl
+term_plain _ = refl

@@ -1,12 +1,8 @@
 -- The stack of truths after one more word.
-use Rattle.std.proofs.Common.{◌≡◌, ◌<◌, ◌+◌, ◌++◌, ℕ, ℤ, Bool, List, [], ◌∷◌, Option, length, get_or, take, ap, sym, ◌∙◌}
+use Rattle.std.proofs.{Common.{◌≡◌, ◌<◌, ◌+◌, ◌++◌, ℕ, ℤ, Bool, List, [], ◌∷◌, Option, length, get_or, take, ap, sym, ◌∙◌}, lemmas.List.Sums.fold_more}
 use Rattle.std.specs.List.{fold}
-use Rattle.std.proofs.lemmas.List.Sums.{fold_more}
 use Rattle.model_terms.specs.declared.source.Source.{Source}
-use Rattle.model_claims.specs.declared.answer.Seen.{Seen}
-use Rattle.model_claims.specs.declared.condition.Condition.{Condition}
-use Rattle.model_claims.specs.declared.condition.Word.{Word}
-use Rattle.model_claims.specs.Conditions.{step, word_rest, word_truth}
+use Rattle.model_claims.specs.{declared.{answer.Seen.Seen, condition.{Condition.Condition, Word.Word}}, Conditions.{step, word_rest, word_truth}}
 
 pub one_more : (source : Source) (c : Condition) (seen : Seen) (held : Option ℤ) (s0 : List Bool) (ws : List Word) (i : ℕ) (w : Word) (s rest new : List Bool) (t : Bool) →
     i < length ws → w ≡ get_or ws i w → s ≡ fold (λ s w. step source c seen held s w) s0 (take i ws) →

@@ -126,6 +126,20 @@ fn no_settings() -> Settings {
     }
 }
 
+/// Returns the first fault of the defaults of a file: a number out of range, at its place.
+pub fn check_defaults(alloc: Global, source: &Source) -> Result<(), Refused> {
+    let mut settings = no_settings();
+    for item in source.file.items.as_slice() {
+        match *item {
+            Item::Defaults(block) => set_all(alloc, source, block, &mut settings)?,
+            Item::Constant(_) => {}
+            Item::Definition(_) => {}
+            Item::Model(_) => {}
+        }
+    }
+    Ok(())
+}
+
 /// Returns the bounds of a model. Its own bounds override those of the file's defaults above it, and a later bound
 /// overrides an earlier one. A number out of range is a fault at the place of the number.
 pub fn read_settings(alloc: Global, source: &Source, model: &Model) -> Result<Settings, Refused> {

@@ -31,6 +31,4 @@ pub struct Claim {
     pub moment: Option<Vec<MomentWord>>,
     /// The ways to end that a `want` names, in its order; empty for another claim.
     pub wants: Vec<Want>,
-    /// Whether the claim is undecided unless one answer decides it by itself.
-    pub blind: bool,
 }

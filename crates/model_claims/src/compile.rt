@@ -29,24 +29,27 @@ enum Join {
 // What is left to do.
 #[derive(Clone, Copy)]
 enum Task {
-    // Compile the condition with this number.
-    Condition(usize),
-    // Compile the conditions of this block, each joined to those before it.
-    Each(Block, Join),
+    // Compile the condition with this number. The flag says whether it holds only of answers that have its fibers.
+    Condition(usize, bool),
+    // Compile the conditions of this block, each joined to those before it, with the same flag.
+    Each(Block, Join, bool),
     // Add this word.
     Put(Word),
 }
 
-/// Adds the words of the condition with this number, and what the condition is about to `subjects`.
+/// Adds the words of the condition with this number, and what the condition is about to `subjects`. If `strict` is set,
+/// `ends` and `says` hold only of an answer in which such a fiber was started; under a `not`, if `strict` isn't set. So
+/// an answer that decides a claim by them has such a fiber.
 pub(crate) fn compile(
     alloc: Global,
     place: &Place,
     at: usize,
+    strict: bool,
     condition: &mut Condition,
     subjects: &mut Subjects,
 ) -> Result<(), Refused> {
     let mut tasks = Vec::new(alloc);
-    tasks.push(Task::Condition(at))?;
+    tasks.push(Task::Condition(at, strict))?;
     let steps = place
         .source
         .file
@@ -78,9 +81,9 @@ fn make(
     tasks: &mut Vec<Task>,
 ) -> Result<(), Refused> {
     match task {
-        Task::Condition(at) => one(alloc, place, at, condition, subjects, tasks),
-        Task::Each(block, join) => {
-            each(place, block, join, tasks)?;
+        Task::Condition(at, strict) => one(alloc, place, at, strict, condition, subjects, tasks),
+        Task::Each(block, join, strict) => {
+            each(place, block, join, strict, tasks)?;
             Ok(())
         }
         Task::Put(word) => {
@@ -99,13 +102,19 @@ fn joining(join: Join) -> Word {
 }
 
 // Adds the tasks for a block: its first condition, then the word that joins it, then the rest of the block.
-fn each(place: &Place, block: Block, join: Join, tasks: &mut Vec<Task>) -> Result<(), AllocError> {
+fn each(
+    place: &Place,
+    block: Block,
+    join: Join,
+    strict: bool,
+    tasks: &mut Vec<Task>,
+) -> Result<(), AllocError> {
     let Some(first) = first_at(place.source, block) else {
         return Ok(());
     };
-    tasks.push(Task::Each(behind(place.source, block), join))?;
+    tasks.push(Task::Each(behind(place.source, block), join, strict))?;
     tasks.push(Task::Put(joining(join)))?;
-    tasks.push(Task::Condition(first))?;
+    tasks.push(Task::Condition(first, strict))?;
     Ok(())
 }
 
@@ -114,6 +123,7 @@ fn one(
     alloc: Global,
     place: &Place,
     at: usize,
+    strict: bool,
     condition: &mut Condition,
     subjects: &mut Subjects,
     tasks: &mut Vec<Task>,
@@ -123,17 +133,17 @@ fn one(
     };
     match test {
         Test::And => {
-            joined(place, at, Word::Yes, Join::All, condition, tasks)?;
+            joined(place, at, Word::Yes, Join::All, strict, condition, tasks)?;
             Ok(())
         }
         Test::Or => {
-            joined(place, at, Word::No, Join::Any, condition, tasks)?;
+            joined(place, at, Word::No, Join::Any, strict, condition, tasks)?;
             Ok(())
         }
-        Test::Not => negated(alloc, place, at, tasks),
-        Test::Ends => ends(alloc, place, at, condition, subjects),
+        Test::Not => negated(alloc, place, at, strict, tasks),
+        Test::Ends => ends(alloc, place, at, strict, condition, subjects),
         Test::Said => said(alloc, place, at, condition, subjects),
-        Test::Says => says(alloc, place, at, condition, subjects),
+        Test::Says => says(alloc, place, at, strict, condition, subjects),
         Test::Compares(comparison) => {
             compares(alloc, place, at, comparison, condition, subjects)
         }
@@ -148,21 +158,28 @@ fn joined(
     at: usize,
     none: Word,
     join: Join,
+    strict: bool,
     condition: &mut Condition,
     tasks: &mut Vec<Task>,
 ) -> Result<(), AllocError> {
     condition.words.push(none)?;
-    tasks.push(Task::Each(parts_at(place.source, at), join))?;
+    tasks.push(Task::Each(parts_at(place.source, at), join, strict))?;
     Ok(())
 }
 
 // `(not c)`.
-fn negated(alloc: Global, place: &Place, at: usize, tasks: &mut Vec<Task>) -> Result<(), Refused> {
+fn negated(
+    alloc: Global,
+    place: &Place,
+    at: usize,
+    strict: bool,
+    tasks: &mut Vec<Task>,
+) -> Result<(), Refused> {
     let Some(part) = only_at(place.source, parts_at(place.source, at)) else {
         return Err(no_condition(alloc, place, at));
     };
     tasks.push(Task::Put(Word::Not))?;
-    tasks.push(Task::Condition(part))?;
+    tasks.push(Task::Condition(part, !strict))?;
     Ok(())
 }
 
@@ -214,6 +231,7 @@ fn ends(
     alloc: Global,
     place: &Place,
     at: usize,
+    strict: bool,
     condition: &mut Condition,
     subjects: &mut Subjects,
 ) -> Result<(), Refused> {
@@ -226,6 +244,17 @@ fn ends(
     push_outcomes(alloc, place, rest, &mut condition.outcomes)?;
     let to = condition.outcomes.len();
     condition.words.push(Word::Ends(who, from, to))?;
+    if strict {
+        push_started(who, condition)?;
+    }
+    Ok(())
+}
+
+// Adds to a truth that one of these fibers was started. None was if each of them ended in one of no ways.
+fn push_started(who: Who, condition: &mut Condition) -> Result<(), AllocError> {
+    condition.words.push(Word::Ends(who, 0, 0))?;
+    condition.words.push(Word::Not)?;
+    condition.words.push(Word::And)?;
     Ok(())
 }
 
@@ -288,6 +317,7 @@ fn says(
     alloc: Global,
     place: &Place,
     at: usize,
+    strict: bool,
     condition: &mut Condition,
     subjects: &mut Subjects,
 ) -> Result<(), Refused> {
@@ -297,6 +327,9 @@ fn says(
     push_values(alloc, place, at, rest, condition)?;
     let to = condition.values.len();
     condition.words.push(Word::Says(who, from, to))?;
+    if strict {
+        push_started(who, condition)?;
+    }
     Ok(())
 }
 

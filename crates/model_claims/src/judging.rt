@@ -1,6 +1,6 @@
 //! The verdict of a claim over all answers of an exploration.
 
-ghost use Rattle.std.specs.Prelude.{◌≡◌, ◌&&◌, not};
+ghost use Rattle.std.specs.Prelude.{◌≡◌};
 ghost use Rattle.model_claims.specs.Judging.{IsJudged, IsShown, decides, plain_verdict, turned, under};
 
 /// Whether a claim is about every answer or about some answer.
@@ -116,22 +116,14 @@ pub fn under(fails: bool, verdict: Verdict) -> Verdict
     if fails { turned(verdict) } else { verdict }
 }
 
-fn is_closed(complete: bool, blind: bool) -> bool
-    ensures { result ≡ (complete && not blind) }
-{
-    complete && !blind
-}
-
 /// Returns the verdict of a claim over the answers that were found, and the first answer that decides the claim.
-/// `fails` says that the claim has to be refuted, `complete` that there are no other answers, and `blind` that the
-/// claim is undecided unless one answer decides it by itself.
-pub fn judge(truths: &[Truth], rule: Rule, fails: bool, complete: bool, blind: bool) -> Judged
+/// `fails` says that the claim has to be refuted, and `complete` that there are no other answers.
+pub fn judge(truths: &[Truth], rule: Rule, fails: bool, complete: bool) -> Judged
     ensures shown { IsShown rule truths.now result.shown }
-    ensures verdict { IsJudged rule (complete && not blind) truths.now result.shown (under fails result.verdict) }
+    ensures verdict { IsJudged rule complete truths.now result.shown (under fails result.verdict) }
 {
     let shown = first_decisive(truths, rule);
-    let closed = is_closed(complete, blind);
-    let plain = plain_verdict(rule, shown, closed);
+    let plain = plain_verdict(rule, shown, complete);
     let verdict = under(fails, plain);
     Judged { verdict, shown }
 }

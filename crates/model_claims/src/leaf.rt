@@ -74,7 +74,7 @@ fn wants_cut(wanted: Wanted) -> bool
 }
 
 /// Whether a condition about these fibers is about the fibers of this name.
-pub(crate) fn speaks_of(source: &Source, who: Who, name: FiberName) -> bool
+pub fn speaks_of(source: &Source, who: Who, name: FiberName) -> bool
     ensures { result ≡ speaks_of source.now who name }
 {
     match name {

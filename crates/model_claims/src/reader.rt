@@ -164,7 +164,6 @@ fn plain_claim(
         condition,
         moment,
         wants,
-        blind: false,
     })
 }
 
@@ -275,18 +274,19 @@ fn parts_fault(alloc: Global, place: &Place, at: usize, words: &str) -> Refused 
     )
 }
 
-// Compiles the one condition of a claim, and returns what the condition is about.
+// Compiles the one condition of a claim, and returns what the condition is about. `strict` is as for `compile`.
 fn only_condition(
     alloc: Global,
     place: &Place,
     at: usize,
+    strict: bool,
     condition: &mut Condition,
 ) -> Result<Subjects, Refused> {
     let Some(part) = only_at(place.source, parts_at(place.source, at)) else {
         return Err(parts_fault(alloc, place, at, " has one condition"));
     };
     let mut subjects = no_subjects();
-    compile(alloc, place, part, condition, &mut subjects)?;
+    compile(alloc, place, part, strict, condition, &mut subjects)?;
     Ok(subjects)
 }
 
@@ -298,7 +298,8 @@ fn at_the_end(
     rule: Rule,
     condition: &mut Condition,
 ) -> Result<(Rule, Look), Refused> {
-    let subjects = only_condition(alloc, place, at, condition)?;
+    let strict = rule == Rule::Some;
+    let subjects = only_condition(alloc, place, at, strict, condition)?;
     match subjects.cell {
         Some(_) => Err(ref_fault(alloc, place, at, REF_AT_THE_END)),
         None => Ok((rule, Look::Ends(names_probe(place, subjects.names)))),
@@ -322,7 +323,7 @@ fn at_any_moment(
     rule: Rule,
     condition: &mut Condition,
 ) -> Result<(Rule, Look), Refused> {
-    let subjects = only_condition(alloc, place, at, condition)?;
+    let subjects = only_condition(alloc, place, at, false, condition)?;
     match subjects.cell {
         Some(cell) => {
             let look = look_at_moments(alloc, place, at, subjects, cell, condition)?;
@@ -379,7 +380,7 @@ fn never(
     at: usize,
     condition: &mut Condition,
 ) -> Result<(Rule, Look), Refused> {
-    let subjects = only_condition(alloc, place, at, condition)?;
+    let subjects = only_condition(alloc, place, at, true, condition)?;
     condition.words.push(Word::Not)?;
     match subjects.cell {
         Some(cell) => {

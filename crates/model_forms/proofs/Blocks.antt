@@ -1,14 +1,9 @@
 -- A row as a range of the forms of a text.
-use Rattle.std.proofs.Common.{◌≡◌, ◌≤◌, ◌<◌, ◌+◌, ◌-◌, ℕ, suc, List, [], ◌∷◌, ◌++◌, length, get_or, take, drop, min, refl, ap, sym, ◌∙◌}
-use Rattle.std.proofs.Common.{arith, subst, length-append, drop-cons, add-one, Some, None}
-use Rattle.std.proofs.Math.Seq.{take-append_seam, drop-append_seam}
-use Rattle.std.proofs.lemmas.List.{drop-take, drop-drop}
-use Rattle.std.specs.List.{slice_range}
-use Rattle.std.proofs.lemmas.Grind.{common_steps}
-use Rattle.model_forms.specs.Rows.{Row, nothing, a_word, a_text, a_list, flat, IsBlock, first_of, inside_of, behind_of}
-use Rattle.model_forms.specs.declared.block.Block.{Block}
-use Rattle.model_forms.specs.declared.form.Form.{Form}
-use Rattle.model_forms.proofs.RowLaws.{word_form, text_form, list_form}
+use Rattle.std.proofs.Common.{◌≡◌, ◌≤◌, ◌<◌, ◌+◌, ◌-◌, ℕ, suc, List, [], ◌∷◌, ◌++◌, length, get_or, take, drop, min, refl, ap, sym, ◌∙◌, arith, subst}
+use Rattle.std.proofs.{Common.{length-append, drop-cons, add-one, Some, None}, Math.Seq.{take-append_seam, drop-append_seam}, lemmas.List.drop-take}
+use Rattle.std.{proofs.lemmas.{List.drop-drop, Grind.common_steps}, specs.List.slice_range}
+use Rattle.model_forms.specs.{Rows.{Row, nothing, a_word, a_text, a_list, flat, IsBlock, first_of, inside_of, behind_of}, declared.block.Block.Block}
+use Rattle.model_forms.{specs.declared.form.Form.Form, proofs.RowLaws.{word_form, text_form, list_form}}
 
 -- the first form of a range, and the rest
 range_next : (fs : List Form) (a e : ℕ) (d : Form) → a < e → a < length fs → slice_range fs a e ≡ get_or fs a d ∷ slice_range fs (a + 1) e
@@ -18,9 +13,6 @@ range_next fs a e d h l =
 
 range_none : (fs : List Form) (a e : ℕ) → e ≤ a → slice_range fs a e ≡ []
 range_none fs a e h = let n : e - a ≡ 0 = omega arith in rw n refl
-
-range_over : (fs : List Form) (a e : ℕ) → length fs ≤ a → slice_range fs a e ≡ []
-range_over fs a e h = grind (arith, common_steps)
 
 length_range : (fs : List Form) (a e : ℕ) → length (slice_range fs a e) ≤ e - a
 length_range fs a e = grind (arith, common_steps)
@@ -73,12 +65,6 @@ inside_of_none f h = cc
 pub inside_is : (fs : List Form) (block : Block) (f : Form) (m : ℕ) (row : Row) → block.first < block.end → m ≡ min f.inside (block.end - (block.first + 1)) →
     Some f ≡ first_of row → IsBlock fs block row → slice_range fs (block.first + 1) (block.first + 1 + m) ≡ flat (inside_of row)
 inside_is fs block f m nothing l e s b = absurd (inside_of_none f s)
-inside_is fs block f m (a_word start end r) l e s b =
-    let n : f.inside ≡ 0 = cc in
-    range_none fs (block.first + 1) (block.first + 1 + m) (omega arith)
-inside_is fs block f m (a_text start end r) l e s b =
-    let n : f.inside ≡ 0 = cc in
-    range_none fs (block.first + 1) (block.first + 1 + m) (omega arith)
 inside_is fs block f m (a_list opening inner closing r) l e s b =
     let n : f.inside ≡ length (flat inner) = cc in
     let t : slice_range fs (block.first + 1) block.end ≡ flat inner ++ flat r =
@@ -87,6 +73,9 @@ inside_is fs block f m (a_list opening inner closing r) l e s b =
     let k : m ≡ length (flat inner) = omega arith in
     range_front fs (block.first + 1) block.end m (omega arith) ∙ ap (take m) t ∙ ap (λ (j : ℕ). take j (flat inner ++ flat r)) k
     ∙ take-append_seam (flat inner) (flat r)
+inside_is fs block f m _ l e s b =
+    let n : f.inside ≡ 0 = cc in
+    range_none fs (block.first + 1) (block.first + 1 + m) (omega arith)
 
 pub behind_is : (fs : List Form) (block : Block) (f : Form) (m : ℕ) (row : Row) → block.first < block.end → m ≡ min f.inside (block.end - (block.first + 1)) →
     Some f ≡ first_of row → IsBlock fs block row → slice_range fs (block.first + 1 + m) block.end ≡ flat (behind_of row)

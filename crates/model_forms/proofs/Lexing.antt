@@ -1,17 +1,12 @@
 -- The tokens of a text, byte by byte.
-use Rattle.std.proofs.Common.{◌≡◌, ◌≢◌, ◌≤◌, ◌<◌, ◌+◌, ◌-◌, ◌==◌, ◌||◌, ℕ, suc, Bool, true, false, List, [], ◌∷◌, ◌++◌, length, get_or}
-use Rattle.std.proofs.Common.{drop, refl, ap, sym, ◌∙◌, arith, rules, length-drop, append_assoc, drop-cons, add-one, Option, Some, None}
-use Rattle.std.specs.List.{slice_range}
-use Rattle.std.proofs.Math.Seq.{take-suc}
-use Rattle.std.proofs.lemmas.List.{get_or-drop}
-use Rattle.std.proofs.lemmas.Bool.{ne_eqb}
-use Rattle.std.proofs.lemmas.Grind.{common_steps}
-use Rattle.model_forms.specs.Lexemes.{Within, between, in_word, in_string, in_comment, class_of, is_plain, ends_string, word_of, string_of, string_lexeme, before_all, begun, after, lexemes, lexemes_at, word, quoted, unclosed}
-use Rattle.model_forms.specs.Seen.{IsNext, EndsString}
-use Rattle.model_forms.specs.declared.token.Class.{Class}
+use Rattle.std.proofs.Common.{◌≡◌, ◌≢◌, ◌≤◌, ◌<◌, ◌+◌, ◌-◌, ◌==◌, ◌||◌, ℕ, suc, Bool, true, false, List, [], ◌∷◌, ◌++◌, length, get_or, drop, refl, ap, sym}
+use Rattle.std.proofs.{Common.{◌∙◌, arith, rules, length-drop, append_assoc, drop-cons, add-one, Option, Some, None}, Math.Seq.take-suc}
+use Rattle.std.{proofs.lemmas.{List.get_or-drop, Bool.ne_eqb, Grind.common_steps}, specs.List.slice_range}
+use Rattle.model_forms.specs.Lexemes.{Within, between, in_word, in_string, in_comment, class_of, is_plain, ends_string, word_of, string_of, string_lexeme}
+use Rattle.model_forms.specs.{Lexemes.{before_all, begun, after, lexemes, lexemes_at, word, quoted, unclosed}, Seen.{IsNext, EndsString}}
+use Rattle.model_forms.specs.declared.token.{Class.Class, Token.Token}
 use Rattle.model_forms.specs.declared.token.Class.TheVariants as classes
 use Rattle.model_forms.specs.declared.token.TokenKind.TheVariants as tokens
-use Rattle.model_forms.specs.declared.token.Token.{Token}
 
 slice_more : (text : List ℕ) (from at : ℕ) → from ≤ at → at < length text → slice_range text from (at + 1) ≡ slice_range text from at ++ (get_or text at 0 ∷ [])
 slice_more text from at f h =
@@ -23,9 +18,6 @@ slice_first : (text : List ℕ) (at end : ℕ) → at < end → at < length text
 slice_first text at end h l =
     let n : end - at ≡ suc (end - (at + 1)) = omega arith in
     rw (n, drop-cons text at 0 l, add-one) refl
-
-slice_none : (text : List ℕ) (at : ℕ) → slice_range text at at ≡ []
-slice_none text at = grind (arith, common_steps)
 
 drop_next : (text : List ℕ) (at : ℕ) → at < length text → drop at text ≡ get_or text at 0 ∷ drop (at + 1) text
 drop_next text at h = rw add-one (drop-cons text at 0 h)
@@ -65,11 +57,7 @@ comment_stops text at h n =
 -- a word
 plain_is : (c : Class) → is_plain c ≡ true → c ≡ classes.Plain
 plain_is classes.Plain h = refl
-plain_is classes.Space h = cc
-plain_is classes.Comment h = cc
-plain_is classes.Open h = cc
-plain_is classes.Close h = cc
-plain_is classes.Quote h = cc
+plain_is _ h = cc
 
 -- a word from `from` up to `at`
 pub record WordTo (text : List ℕ) (from at : ℕ) : Type 0 where
@@ -83,9 +71,6 @@ word_of-more b bs h = rw h refl
 
 word_of-over : (b : ℕ) (bs : List ℕ) → is_plain (class_of b) ≡ false → word_of (b ∷ bs) ≡ []
 word_of-over b bs h = rw h refl
-
-pub word_begins : (text : List ℕ) (from : ℕ) → from ≤ length text → WordTo text from from
-word_begins text from h = record { low = omega arith; high = h; word = ap (λ x. x ++ word_of (drop from text)) (slice_none text from); skipped = refl }
 
 pub word_goes_on : (text : List ℕ) (from at : ℕ) → WordTo text from at → at < length text → is_plain (class_of (get_or text at 0)) ≡ true → WordTo text from (at + 1)
 unfolding begun after
@@ -135,23 +120,11 @@ behind_all-more : (bs : List ℕ) (b : ℕ) (o : Option (List ℕ)) → behind_a
 behind_all-more bs b None = refl
 behind_all-more bs b (Some cs) = ap Some (sym (append_assoc bs (b ∷ []) cs))
 
-behind_all-nothing : (o : Option (List ℕ)) → behind_all [] o ≡ o
-behind_all-nothing None = refl
-behind_all-nothing (Some cs) = refl
-
 pub record StringTo (text : List ℕ) (from at : ℕ) : Type 0 where
   pub low : from ≤ at
   pub high : at ≤ length text
   pub inside : string_of (drop from text) ≡ behind_all (slice_range text from at) (string_of (drop at text))
   pub skipped : lexemes in_string from (drop from text) ≡ lexemes in_string at (drop at text)
-
-pub string_begins : (text : List ℕ) (from : ℕ) → from ≤ length text → StringTo text from from
-string_begins text from h = record {
-  low = omega arith;
-  high = h;
-  inside = sym (ap (λ x. behind_all x (string_of (drop from text))) (slice_none text from) ∙ behind_all-nothing (string_of (drop from text)));
-  skipped = refl;
-}
 
 or_false : (x y : Bool) → (x || y) ≡ false → (x ≡ false) × (y ≡ false)
 or_false true y h = cc

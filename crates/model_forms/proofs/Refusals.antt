@@ -1,11 +1,9 @@
 -- No forms spell a text with a fault.
 use Rattle.std.proofs.Common.{◌≡◌, ◌≢◌, ℕ, suc, zero, List, [], ◌∷◌, ◌++◌, length, refl, ap, sym, ◌∙◌, append_assoc, Option, Some, None}
-use Rattle.model_forms.specs.Lexemes.{Lexeme, opens, closes, word, quoted, unclosed, Placed, lexemes_at}
-use Rattle.model_forms.specs.Rows.{Row, nothing, a_word, a_text, a_list, tokens_of, Spells}
-use Rattle.model_forms.specs.Faults.{Opening, tokens_up_to, AreOpen, IsFaultOf}
-use Rattle.model_forms.specs.declared.fault.FormFault.{FormFault}
-use Rattle.model_forms.specs.declared.fault.FormFault.TheVariants as faults
+use Rattle.model_forms.specs.{Lexemes.{Lexeme, opens, closes, word, quoted, unclosed, Placed, lexemes_at}, Rows.{Row, nothing, a_word, a_text, a_list}}
+use Rattle.model_forms.specs.{Rows.{tokens_of, Spells}, Faults.{Opening, tokens_up_to, AreOpen, IsFaultOf}, declared.fault.FormFault.FormFault}
 use Rattle.model_forms.proofs.RowLaws.{append_none}
+use Rattle.model_forms.specs.declared.fault.FormFault.TheVariants as faults
 
 -- the number of open brackets behind a token, if `n` are open before it; `None` if the token is a fault
 abbrev depth_next : Lexeme → ℕ → Option ℕ

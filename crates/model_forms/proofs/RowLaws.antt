@@ -1,17 +1,11 @@
 -- How one more token changes the forms that have been read.
-use Rattle.std.proofs.Common.{◌≡◌, ◌<◌, ◌+◌, ◌-◌, ℕ, suc, List, [], ◌∷◌, ◌++◌, length, get_or, refl, ap, sym, ◌∙◌}
-use Rattle.std.proofs.Common.{arith, append_assoc, Some, None, length-append, false, true}
-use Rattle.std.proofs.Math.ListN.{set}
-use Rattle.std.proofs.Math.Seq.{set-append_seam, get_or-append_seam}
-use Rattle.model_forms.specs.declared.form.Form.{Form}
-use Rattle.model_forms.specs.declared.reader.Read.{Read}
-use Rattle.model_forms.specs.Lexemes.{opens, closes, word, quoted, Placed, lexemes_at}
-use Rattle.model_forms.specs.Rows.{Row, nothing, a_word, a_text, a_list, tokens_of, flat}
-use Rattle.model_forms.specs.Faults.{Opening, tokens_up_to}
+use Rattle.std.proofs.Common.{◌≡◌, ◌<◌, ◌+◌, ◌-◌, ℕ, suc, List, [], ◌∷◌, ◌++◌, length, get_or, refl, ap, sym, ◌∙◌, arith, append_assoc, Some}
+use Rattle.std.{proofs.{Common.{length-append, true}, Math.{ListN.set, Seq.{set-append_seam, get_or-append_seam}}}, specs.List.slice_range}
+use Rattle.model_forms.specs.{declared.{form.Form.Form, reader.Read.Read}, Lexemes.{opens, closes, word, quoted, Placed, lexemes_at}, Rows.{Row, nothing}}
+use Rattle.model_forms.specs.{Rows.{a_word, a_text, a_list, tokens_of, flat}, Faults.{Opening, tokens_up_to}, Reading.{Closed, fault_at_end, joined}}
+use Rattle.model_forms.specs.Reading.{flat_up_to, places_of, list_opening, Shaped}
 use Rattle.model_forms.specs.declared.form.FormKind.TheVariants as kinds
 use Rattle.model_forms.specs.declared.fault.FormFault.TheVariants as faults
-use Rattle.std.specs.List.{slice_range}
-use Rattle.model_forms.specs.Reading.{Closed, fault_at_end, joined, flat_up_to, places_of, list_opening, Shaped}
 
 pub append_none : {A : Type 0} → (xs : List A) → xs ++ [] ≡ xs
 append_none [] = refl
@@ -167,11 +161,6 @@ close_so read new (o ∷ os) row i end n f s h g m e =
       },
     )
 
--- no list closes where none is open
-pub none_closes : (read new : Read) (os : List Opening) (row : Row) (end : ℕ) → Shaped read os row → read.open_lists.items ≡ [] → Closed os row end false new
-none_closes read new [] row end s h = refl
-none_closes read new (o ∷ os) row end s h = absurd (not_nothing (places_of os) _ (sym s.open_ones ∙ h))
-
 length-places_of : (os : List Opening) → length (places_of os) ≡ length os
 length-places_of [] = refl
 length-places_of (o ∷ os) =
@@ -194,7 +183,3 @@ end_so read (o ∷ os) row ps i n f s h m g =
     let count : n ≡ length (o ∷ os) = m ∙ ap length s.open_ones ∙ length-places_of (o ∷ os) in
     ap (λ (k : ℕ). Some (faults.Unclosed k f.start)) count
     ∙ ap (λ (k : ℕ). Some (faults.Unclosed (length (o ∷ os)) k)) (ap (λ (g : Form). g.start) found)
-
-pub no_end : (read : Read) (os : List Opening) (row : Row) → Shaped read os row → read.open_lists.items ≡ [] → None ≡ fault_at_end os
-no_end read [] row s h = refl
-no_end read (o ∷ os) row s h = absurd (not_nothing (places_of os) _ (sym s.open_ones ∙ h))

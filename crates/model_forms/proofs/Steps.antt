@@ -1,15 +1,11 @@
 -- How one more token, and the end of the text, change what has been read.
 use Rattle.std.proofs.Common.{◌≡◌, ◌+◌, ℕ, List, [], ◌∷◌, ◌++◌, length, refl, ap, sym, ◌∙◌, Some, None, subst, true, false}
-use Rattle.model_forms.specs.Lexemes.{Lexeme, opens, closes, unclosed, Placed, lexemes_at}
-use Rattle.model_forms.specs.Rows.{Row, nothing, a_list, tokens_of, flat, AreForms}
-use Rattle.model_forms.specs.Faults.{Opening, tokens_up_to, AreOpen, IsFaultOf, IsUnopened, IsUnclosed, IsUnclosedText}
-use Rattle.model_forms.specs.Reading.{joined, places_of, list_opening, Shaped, HasRead, Closed, fault_at_end}
-use Rattle.model_forms.specs.Seen.{seen, IsNext}
-use Rattle.model_forms.specs.declared.fault.FormFault.{FormFault}
+use Rattle.model_forms.specs.{Lexemes.{Lexeme, opens, closes, Placed, lexemes_at}, Rows.{Row, nothing, a_list, tokens_of, flat}}
+use Rattle.model_forms.specs.{Faults.{Opening, tokens_up_to, AreOpen, IsFaultOf, IsUnclosed}, Reading.{joined, places_of}}
+use Rattle.model_forms.specs.{Reading.{list_opening, HasRead, Closed, fault_at_end}, Seen.{seen, IsNext}, declared.fault.FormFault.FormFault}
+use Rattle.model_forms.{specs.declared.{reader.Read.Read, token.Token.Token}, proofs.RowLaws.{goes_on, forms_go_on, tokens_open, forms_open}}
+use Rattle.model_forms.proofs.RowLaws.{tokens_close}
 use Rattle.model_forms.specs.declared.fault.FormFault.TheVariants as faults
-use Rattle.model_forms.specs.declared.reader.Read.{Read}
-use Rattle.model_forms.specs.declared.token.Token.{Token}
-use Rattle.model_forms.proofs.RowLaws.{append_none, goes_on, forms_go_on, tokens_open, forms_open, tokens_close}
 
 -- the next token
 next_is : (text : List ℕ) (at : ℕ) (t : Token) (x : Lexeme) (front : List Placed) → IsNext text at t → seen text t.kind t.start t.end ≡ x →
@@ -60,21 +56,6 @@ pub has_closed : (text : List ℕ) (at : ℕ) (read new : Read) (t : Token) → 
     seen text t.kind t.start t.end ≡ closes → t.end ≡ t.start + 1 → Closed r.os r.row t.end true new → HasRead text t.end new
 has_closed text at read new t r n k e c = closes_so text at new t r.os r.row r.tokens n k e c
 
-unopened_so : (text : List ℕ) (at : ℕ) (new : Read) (t : Token) (os : List Opening) (row : Row) →
-    lexemes_at 0 text ≡ (tokens_up_to text os ++ tokens_of text row) ++ lexemes_at at text → IsNext text at t →
-    seen text t.kind t.start t.end ≡ closes → Closed os row t.end false new → IsUnopened text t.start
-unopened_so text at new t [] row h n k c = record { row = row; rest = lexemes_at t.end text; balanced = next_is text at t closes _ n k h }
-unopened_so text at new t (o ∷ os) row h n k c = let t : false ≡ true = c.0 in cc
-
-pub is_unopened : (text : List ℕ) (at : ℕ) (read new : Read) (t : Token) → (r : HasRead text at read) → IsNext text at t →
-    seen text t.kind t.start t.end ≡ closes → Closed r.os r.row t.end false new → IsUnopened text t.start
-is_unopened text at read new t r n k c = unopened_so text at new t r.os r.row r.tokens n k c
-
-pub is_unclosed_text : (text : List ℕ) (at : ℕ) (read : Read) (t : Token) → HasRead text at read → IsNext text at t →
-    seen text t.kind t.start t.end ≡ unclosed → IsUnclosedText text t.start
-is_unclosed_text text at read t r n k =
-    record { open_ones = r.os; row = r.row; rest = lexemes_at t.end text; open_so = next_is text at t unclosed _ n k r.tokens }
-
 -- the end of the text
 fault_so : (text : List ℕ) (os : List Opening) (row : Row) (e : FormFault) → AreOpen text os row [] → Some e ≡ fault_at_end os → IsFaultOf text e
 fault_so text [] row e h s = let t : Some e ≡ None = s in cc
@@ -88,13 +69,3 @@ pub is_fault : (text : List ℕ) (at : ℕ) (read : Read) (e : FormFault) → (r
     Some e ≡ fault_at_end r.os → IsFaultOf text e
 is_fault text at read e r over s =
     fault_so text r.os r.row e (r.tokens ∙ ap (λ ts. (tokens_up_to text r.os ++ tokens_of text r.row) ++ ts) over) s
-
-forms_so : (text : List ℕ) (read : Read) (os : List Opening) (row : Row) → AreOpen text os row [] → Shaped read os row → None ≡ fault_at_end os →
-    AreForms text read.forms.items
-forms_so text read [] row h s n = record { row = row; spelled = h ∙ append_none (tokens_of text row); forms_are = s.forms }
-forms_so text read (o ∷ os) row h s n = cc
-
-pub are_forms : (text : List ℕ) (at : ℕ) (read : Read) → (r : HasRead text at read) → lexemes_at at text ≡ [] → None ≡ fault_at_end r.os →
-    AreForms text read.forms.items
-are_forms text at read r over n =
-    forms_so text read r.os r.row (r.tokens ∙ ap (λ ts. (tokens_up_to text r.os ++ tokens_of text r.row) ++ ts) over) r.shaped n

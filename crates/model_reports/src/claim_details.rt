@@ -16,14 +16,15 @@ use std::alloc::{AllocError, Global};
 const SHOWN: usize = 60;
 
 /// Returns the details of a model, which a report has after the lines of all models: its warnings, a line each, and for
-/// each claim that didn't pass its place, what was found, and a timeline. `AllocError` if memory runs out.
-pub fn model_details(alloc: Global, judged: JudgedModel) -> Result<Vec<u8>, AllocError> {
+/// each claim that didn't pass its place, what was found, and a timeline. If `all` is set, each `fails` that passed has
+/// these, too. `AllocError` if memory runs out.
+pub fn model_details(alloc: Global, judged: JudgedModel, all: bool) -> Result<Vec<u8>, AllocError> {
     let mut told = Vec::new(alloc);
     for warning in judged.result.warnings.iter() {
         push_warning(&mut told, alloc, judged, *warning)?;
     }
     for claim in judged.result.claims.iter() {
-        if claim.verdict != Verdict::Passed {
+        if claim.verdict != Verdict::Passed || (all && claim.fails) {
             push_claim(&mut told, alloc, judged, claim)?;
         }
     }
@@ -63,6 +64,7 @@ fn warning_words(warning: Warning) -> &'static str {
             "`: the ref is read before it is changed: two moves, and another fiber may come between\n"
         }
         Warning::Unmet(_) => "` is wanted, and no schedule comes to it\n",
+        Warning::Unstarted(_) => "`: no schedule starts a fiber of this name\n",
     }
 }
 
@@ -97,7 +99,7 @@ fn push_why(
 ) -> Result<(), AllocError> {
     push_reasons(told, alloc, judged, claim, search)?;
     match (claim.verdict, &claim.replay) {
-        (Verdict::Failed, Some(replay)) => {
+        (Verdict::Failed | Verdict::Passed, Some(replay)) => {
             told.push(b'\n')?;
             push_timeline(told, alloc, judged.file, judged.source, replay)
         }
@@ -106,7 +108,8 @@ fn push_why(
 }
 
 /// Adds why a claim has its verdict, in lines: for a failed claim what refutes it, for an undecided claim the bound
-/// that was met, and for a passed claim the answer that decides it, if any. `AllocError` if memory runs out.
+/// that was met, and for a passed claim the answer that decides it, if any, or that no schedule meets what had to fail.
+/// `AllocError` if memory runs out.
 pub(crate) fn push_reasons(
     told: &mut Vec<u8>,
     alloc: Global,
@@ -116,11 +119,24 @@ pub(crate) fn push_reasons(
 ) -> Result<(), AllocError> {
     match claim.verdict {
         Verdict::Passed => match answer_of(claim, search) {
-            Some(answer) => push_shown_answer(told, alloc, judged, claim, search, answer),
+            Some(answer) => {
+                push_word(told, refuted_words(claim.fails))?;
+                push_shown_answer(told, alloc, judged, claim, search, answer)
+            }
+            None if claim.fails => push_none_meets(told, judged, claim, search),
             None => Ok(()),
         },
         Verdict::Undecided => push_undecided(told, claim.rule, search),
         Verdict::Failed => push_failed(told, alloc, judged, claim, search),
+    }
+}
+
+// The words for a claim that passed by an answer: if it had to be refuted, the answer refutes it.
+fn refuted_words(fails: bool) -> &'static str {
+    if fails {
+        "     it fails, as it is to:\n"
+    } else {
+        ""
     }
 }
 

@@ -76,7 +76,7 @@ fn push_element(
     judged: JudgedModel,
     element: Element,
 ) -> Result<(), AllocError> {
-    let details = model_details(alloc, judged)?;
+    let details = model_details(alloc, judged, false)?;
     push_word(told, element.start)?;
     push_escaped(told, alloc, details.as_slice())?;
     push_word(told, element.end)

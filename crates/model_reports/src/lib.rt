@@ -2,7 +2,7 @@
 //! formats of the Test Anything Protocol and of JUnit.
 //!
 //! This crate writes the results of models (`model_runs`) in the names and the places of the file (`model_terms`), and
-//! a page with pictures (`timelines`). It promises the status of verdicts. Tests show what the texts say.
+//! a page with pictures (`timelines`). The crate promises that no call fails at run time. Tests show what the texts say.
 #![tactic(auto)]
 
 mod claim_details;
@@ -36,4 +36,4 @@ pub use junit::{junit_case, junit_document};
 pub use named_file::NamedFile;
 pub use source_faults::{fault_text, unread_text};
 pub use tap::{tap_head, tap_model};
-pub use verdicts::{Counts, counts_of, status_of, summary};
+pub use verdicts::{Counts, counts_of, summary};

@@ -28,7 +28,7 @@ pub fn tap_model(alloc: Global, number: usize, judged: JudgedModel) -> Result<Ve
         push_word(&mut told, " # TODO undecided")?;
     }
     told.push(b'\n')?;
-    let details = model_details(alloc, judged)?;
+    let details = model_details(alloc, judged, false)?;
     push_diagnostics(&mut told, details.as_slice())?;
     Ok(told)
 }

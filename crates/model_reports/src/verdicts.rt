@@ -1,13 +1,8 @@
-//! The verdicts of all models: the number of each, and their status.
-
-ghost use Rattle.std.specs.Prelude.{◌≡◌};
-ghost use Rattle.std.specs.List.{list_any};
-ghost use Rattle.model_reports.specs.Verdicts.{is_failed, is_undecided, status_of};
+//! The verdicts of all models: the number of each.
 
 use crate::digits::{push_number, push_word};
 use model_claims::Verdict;
 use std::alloc::{AllocError, Global};
-use text_io::Status;
 
 /// The number of models with each verdict.
 #[derive(Clone, Copy, PartialEq, Eq, Debug)]
@@ -38,45 +33,6 @@ fn count_of(verdicts: &[Verdict], wanted: Verdict) -> usize {
         }
     }
     count
-}
-
-/// Returns the status of these verdicts: 1 if a model failed, else 3 if one is undecided, else 0.
-pub fn status_of(verdicts: &[Verdict]) -> Status
-    ensures { result ≡ status_of verdicts.now }
-{
-    if has_failed(verdicts) {
-        Status::Errored
-    } else if has_undecided(verdicts) {
-        Status::Unended
-    } else {
-        Status::Succeeded
-    }
-}
-
-// Whether one of these verdicts is `Failed`.
-fn has_failed(verdicts: &[Verdict]) -> bool
-    ensures { result ≡ list_any is_failed verdicts.now }
-{
-    for verdict in verdicts {
-        match *verdict {
-            Verdict::Failed => return true,
-            Verdict::Passed | Verdict::Undecided => (),
-        }
-    }
-    false
-}
-
-// Whether one of these verdicts is `Undecided`.
-fn has_undecided(verdicts: &[Verdict]) -> bool
-    ensures { result ≡ list_any is_undecided verdicts.now }
-{
-    for verdict in verdicts {
-        match *verdict {
-            Verdict::Undecided => return true,
-            Verdict::Passed | Verdict::Failed => (),
-        }
-    }
-    false
 }
 
 /// Returns the last line of a report, after a blank line: how many models passed, failed and are undecided.

@@ -1,21 +1,12 @@
 -- The result of a claim follows from one of the searches.
-use Rattle.std.proofs.Common.{◌≡◌, ℕ, List, Some, None, Result, Ok, Err, IfOk, true, ap, ◌∙◌}
-use Rattle.std.specs.List.{slice_get}
-use Rattle.std.specs.Option.{is_some}
-use Rattle.model_terms.specs.declared.refused.Refused.{Refused}
-use Rattle.model_terms.specs.declared.source.Source.{Source}
+use Rattle.std.{proofs.Common.{◌≡◌, ℕ, List, Some, None, Result, Ok, Err, IfOk, true, ap, ◌∙◌}, specs.{List.slice_get, Option.is_some}}
+use Rattle.model_terms.specs.declared.{refused.Refused.Refused, source.Source.Source}
 use Rattle.derived_ops.specs.Tree.{Tree}
 use Rattle.cell_registry.specs.declared.limits.Limits.{Limits}
 use Rattle.every_schedule.specs.declared.claims.ClaimWord.{ClaimWord}
 use Rattle.model_claims.specs.declared.claim.Claim.{Claim}
-use Rattle.model_runs.specs.declared.moments.Moments.{Moments}
-use Rattle.model_runs.specs.declared.result.ClaimResult.{ClaimResult}
-use Rattle.model_runs.specs.declared.result.Search.{Search}
-use Rattle.model_runs.specs.Deciding.{IsDecided, IsResultOf}
-use Rattle.model_runs.specs.Marks.{IsFit}
-use Rattle.model_runs.specs.Moments.{IsDecidedAtMoments, IsJudgedMoment}
-use Rattle.model_runs.specs.Private.Looking.{IsRightAt, IsRightOf}
-use Rattle.model_runs.proofs.Looks.{some_in}
+use Rattle.model_runs.specs.{declared.{moments.Moments.Moments, result.{ClaimResult.ClaimResult, Search.Search}}, Deciding.{IsDecided, IsResultOf}, Marks.IsFit}
+use Rattle.model_runs.{specs.{Moments.{IsDecidedAtMoments, IsJudgedMoment}, Private.Looking.{IsRightAt, IsRightOf}}, proofs.Looks.some_in}
 
 pub decided_by : (source : Source) (claim : Claim) (searches : List Search) (n : ℕ) (s : Search) (it : Result ClaimResult Refused) →
     slice_get searches n ≡ Some s → claim.moment ≡ None → IfOk it (λ r. IsFit claim s) → IfOk it (IsResultOf source claim s) →

@@ -1,25 +1,16 @@
 -- The verdicts of claims at any moment.
-use Rattle.std.proofs.Common.{◌≡◌, ℕ, zero, suc, ◌+◌, ◌<◌, Bool, true, false, List, [], ◌∷◌, ◌++◌, length, drop, take, map, refl}
-use Rattle.std.proofs.Common.{sym, ap, ◌∙◌, subst, arith, inl, inr, get_or}
-use Rattle.std.specs.Prelude.{Option, Some, None, IfSome, IfNone}
-use Rattle.std.specs.List.{All, AllWithin, slice_get}
-use Rattle.std.specs.Option.{is_some}
-use Rattle.std.proofs.lemmas.List.{at_drop_more, drop-drop, drop_at, map_more, map_push}
-use Rattle.std.proofs.lemmas.List.Elements.{All-get_or}
-use Rattle.std.proofs.lemmas.Option.{get_or_from_slice_get, same_Some, slice_get_within}
+use Rattle.std.proofs.Common.{◌≡◌, ℕ, zero, suc, ◌+◌, ◌<◌, Bool, true, false, List, [], ◌∷◌, ◌++◌, length, drop, take, map, refl, sym, ap, ◌∙◌, subst, arith}
+use Rattle.std.proofs.{Common.{inl, inr, get_or}, lemmas.List.{at_drop_more, drop-drop, drop_at, map_more, map_push, Elements.All-get_or}}
+use Rattle.std.{proofs.lemmas.Option.{get_or_from_slice_get, same_Some, slice_get_within}, specs.{Prelude.{Option, Some, None, IfSome, IfNone}, List.All}}
+use Rattle.std.specs.{List.{AllWithin, slice_get}, Option.is_some}
 use Rattle.derived_ops.specs.Tree.{Tree}
 use Rattle.cell_registry.specs.declared.limits.Limits.{Limits}
-use Rattle.world_search.specs.declared.claims.Met.{Met}
-use Rattle.world_search.specs.Claims.{IsFound}
-use Rattle.every_schedule.specs.declared.claims.ClaimWord.{ClaimWord}
-use Rattle.every_schedule.specs.Claims.{IsMetIn, Meets}
-use Rattle.model_claims.specs.declared.claim.Claim.{Claim}
-use Rattle.model_claims.specs.declared.judging.Rule.{Rule}
+use Rattle.world_search.specs.{declared.claims.Met.Met, Claims.IsFound}
+use Rattle.every_schedule.specs.{declared.claims.ClaimWord.ClaimWord, Claims.{IsMetIn, Meets}}
+use Rattle.model_claims.specs.declared.{claim.Claim.Claim, judging.Rule.Rule}
+use Rattle.model_runs.specs.{declared.{moments.Moments.Moments, result.NamedAnswer.NamedAnswer}, Moments.{IsJudgedAt, IsShownAt, NoneMeets, SomeMeets}}
+use Rattle.model_runs.specs.{Moments.{sought_in, soughts}, Private.Looking.{IsMetAt, IsRightAt, IsRightOf, IsRightAtSome, moment_verdict}}
 use Rattle.model_claims.specs.declared.judging.Rule.TheVariants as rules
-use Rattle.model_runs.specs.declared.moments.Moments.{Moments}
-use Rattle.model_runs.specs.declared.result.NamedAnswer.{NamedAnswer}
-use Rattle.model_runs.specs.Moments.{IsJudgedAt, IsShownAt, NoneMeets, SomeMeets, sought_in, soughts}
-use Rattle.model_runs.specs.Private.Looking.{IsMetAt, IsRightAt, IsRightOf, IsRightAtSome, moment_verdict}
 
 all_at : {A : Type 0} (P : A → Type 0) (xs : List A) (i : ℕ) (x : A) → slice_get xs i ≡ Some x → All P xs → P x
 all_at P xs i x e h = subst P (get_or_from_slice_get xs i x x e) (All-get_or P xs i x (slice_get_within xs i x e) h)

@@ -1,24 +1,15 @@
 -- A search of outcomes is right: its answers are those of an exploration, without long ones, sorted.
-use Rattle.std.proofs.Common.{◌≡◌, ◌≤◌, ◌==◌, ◌&&◌, ℕ, suc, Bool, true, false, cond, List, [], ◌∷◌, length, leb, refl, sym, ap, ◌∙◌, subst, arith}
-use Rattle.std.specs.Prelude.{Option, Some, Result, Ok, Err}
-use Rattle.std.specs.List.{All, filter, slice_get}
-use Rattle.std.specs.List.Sorted.{IsPermutation}
-use Rattle.std.proofs.lemmas.Bool.{eqb-true, leb-true}
-use Rattle.std.proofs.lemmas.List.Elements.{All-filter, filter_passes}
-use Rattle.std.proofs.lemmas.List.Sorted.{All-permutation, IsPermutation-sym}
+use Rattle.std.proofs.{Common.{◌≡◌, ◌≤◌, ◌==◌, ◌&&◌, ℕ, Bool, true, false, List, length, leb, refl, sym, ap, ◌∙◌, subst, arith}, lemmas.Bool.eqb-true}
+use Rattle.std.{proofs.lemmas.{Bool.leb-true, List.{Elements.{All-filter, filter_passes}, Sorted.{All-permutation, IsPermutation-sym}}}, specs.Prelude.Option}
+use Rattle.std.specs.{Prelude.{Some, Result, Ok, Err}, List.{All, filter, slice_get, Sorted.IsPermutation}}
 use Rattle.derived_ops.specs.Tree.{Tree}
 use Rattle.effect_term.specs.declared.reply.Outcome.{Outcome}
-use Rattle.cell_registry.specs.declared.limits.Limits.{Limits}
-use Rattle.cell_registry.specs.declared.limits.RunError.{RunError}
-use Rattle.cell_registry.specs.declared.limits.RunError.TheVariants as run
+use Rattle.cell_registry.specs.declared.limits.{Limits.Limits, RunError.RunError}
 use Rattle.scheduled_core.specs.Core.{World, core}
-use Rattle.every_outcome.specs.declared.outcomes.OutcomeAnswer.{OutcomeAnswer}
-use Rattle.every_outcome.specs.declared.outcomes.OutcomeExploration.{OutcomeExploration}
-use Rattle.every_outcome.specs.Outcomes.{IsCovered, IsListed, IsReached, counted}
-use Rattle.every_outcome.proofs.Told.{all_at, all_from}
-use Rattle.model_runs.specs.declared.result.NamedAnswer.{NamedAnswer}
-use Rattle.model_runs.specs.declared.result.Search.{Search}
-use Rattle.model_runs.specs.Seeing.{AreAll, AreOutcomesOf, IsRight, IsSeen}
+use Rattle.every_outcome.{proofs.{Filtered.filter_whole, Told.{all_at, all_from}}, specs.declared.outcomes.OutcomeAnswer.OutcomeAnswer}
+use Rattle.every_outcome.specs.{declared.outcomes.OutcomeExploration.OutcomeExploration, Outcomes.{IsCovered, IsListed, IsReached, counted}}
+use Rattle.model_runs.specs.{declared.result.{NamedAnswer.NamedAnswer, Search.Search}, Seeing.{AreAll, AreOutcomesOf, IsRight, IsSeen}}
+use Rattle.cell_registry.specs.declared.limits.RunError.TheVariants as run
 
 -- this answer is one of these
 IsIn : List OutcomeAnswer → OutcomeAnswer → Type 0
@@ -36,10 +27,7 @@ listed_sorted xs ys end moved l =
 covered_sorted : (k : Limits) (xs ys : List OutcomeAnswer) (x : Result World RunError) → IsPermutation xs ys → IsCovered k xs x → IsCovered k ys x
 covered_sorted k xs ys (Ok w) moved h = λ keeps. listed_sorted xs ys _ moved (h keeps)
 covered_sorted k xs ys (Err (run.Full band n)) moved h = listed_sorted xs ys _ moved h
-covered_sorted k xs ys (Err (run.Spent f)) moved h = tt
-covered_sorted k xs ys (Err run.NoMemory) moved h = tt
-covered_sorted k xs ys (Err (run.Lost f)) moved h = tt
-covered_sorted k xs ys (Err run.NoWorker) moved h = tt
+covered_sorted k xs ys _ moved h = tt
 
 -- a search with all answers that there are is right
 pub right_search : (code : Tree) (k : Limits) (s : Search) (marked : Bool) → s.marked ≡ marked → All (IsSeen code k) s.answers.items →
@@ -52,25 +40,6 @@ right_search code k s marked is seen all = record {
 both_true : (a b : Bool) → (a && b) ≡ true → (a ≡ true) × (b ≡ true)
 both_true true b e = (refl, e)
 both_true false b e = absurd (cc)
-
-module _ {A : Type 0} (p : A → Bool) where
-  shorter_step : (b : Bool) (x : A) (xs ys : List A) → length ys ≤ length xs → length (cond b (x ∷ ys) ys) ≤ suc (length xs)
-  shorter_step true x xs ys low = omega arith
-  shorter_step false x xs ys low = omega arith
-
-  filter_shorter : (xs : List A) → length (filter p xs) ≤ length xs
-  filter_shorter [] = omega arith
-  filter_shorter (x ∷ xs) = shorter_step (p x) x xs (filter p xs) (filter_shorter xs)
-
-  whole_step : (b : Bool) (x : A) (xs : List A) → (length (filter p xs) ≡ length xs → filter p xs ≡ xs) →
-      length (cond b (x ∷ filter p xs) (filter p xs)) ≡ suc (length xs) → cond b (x ∷ filter p xs) (filter p xs) ≡ x ∷ xs
-  whole_step true x xs rest many = ap (λ l. x ∷ l) (rest (omega arith))
-  whole_step false x xs rest many = absurd (let low = filter_shorter xs in omega arith)
-
-  -- if as many elements are kept as there were, all are kept
-  filter_whole : (xs : List A) → length (filter p xs) ≡ length xs → filter p xs ≡ xs
-  filter_whole [] many = refl
-  filter_whole (x ∷ xs) many = whole_step (p x) x xs (filter_whole xs) many
 
 abbrev is_short : ℕ → OutcomeAnswer → Bool
 is_short most a = leb (length a.schedule) most

@@ -1,5 +1,5 @@
 -- The results of claims, by the searches.
-use Rattle.std.specs.Prelude.{◌≡◌, ◌⊎◌, ◌&&◌, not, ℕ, List, map, Option, Some, None}
+use Rattle.std.specs.Prelude.{◌≡◌, ◌⊎◌, ℕ, List, map, Option, Some, None}
 use Rattle.std.specs.List.{slice_get}
 use Rattle.model_terms.specs.declared.source.Source.{Source}
 use Rattle.model_claims.specs.declared.claim.Claim.{Claim}
@@ -14,7 +14,7 @@ use Rattle.model_runs.specs.Moments.{IsDecidedAtMoments}
 -- the verdict of a claim by the answers of its search, and the answer that is shown
 abbrev pub IsJudgedBy : Source → Claim → Search → Option ℕ → Verdict → Type 0
 IsJudgedBy source claim s shown verdict =
-    IsJudged claim.rule (s.complete && not claim.blind) (map (λ a. truth_in source claim a.seen) s.answers.items) shown
+    IsJudged claim.rule s.complete (map (λ a. truth_in source claim a.seen) s.answers.items) shown
     (under claim.fails verdict)
 
 -- the result of a claim follows from this search

@@ -18,9 +18,11 @@ use crate::named::{Named, replay_named};
 use crate::plan::Plan;
 use crate::prepared::prepare;
 use crate::result::{ClaimResult, NamedAnswer, Search};
+use crate::waits::with_waits;
 use model_claims::{Claim, Judged, Truth, judge, truth_in};
 use model_terms::{Probe, Refused, Source};
 use model_text::Model;
+use scheduled_core::same_end;
 use std::alloc::{AllocError, Global};
 
 // Returns the truth of a claim at each of these answers.
@@ -49,13 +51,7 @@ pub(crate) fn judge_claim(
     ensures { IfOk result (λ it. IsJudgedBy source.now claim.now search.now it.shown it.verdict) }
 {
     let truths = truths_of(alloc, source, claim, search.answers.as_slice())?;
-    Ok(judge(
-        truths.as_slice(),
-        claim.rule,
-        claim.fails,
-        search.complete,
-        claim.blind,
-    ))
+    Ok(judge(truths.as_slice(), claim.rule, claim.fails, search.complete))
 }
 
 /// Returns the result of a claim, with the replay of the answer that decides the claim.
@@ -87,6 +83,7 @@ pub(crate) fn claim_result(
         plan,
         judged.shown,
         answers,
+        true,
     )?;
     Ok(ClaimResult {
         form: claim.form,
@@ -129,6 +126,7 @@ pub(crate) fn moment_result(
         plan,
         judged.shown,
         answers,
+        false,
     )?;
     Ok(ClaimResult {
         form: claim.form,
@@ -155,7 +153,8 @@ fn decisive_answers<'a>(
     }
 }
 
-// The replay of the answer of this number, if there is one, in the term with this probe.
+// The replay of the answer of this number, if there is one, in the term with this probe. If `waits` is set, it goes on
+// until each fiber that hasn't ended waits.
 fn replay_of(
     alloc: Global,
     source: &Source,
@@ -164,6 +163,7 @@ fn replay_of(
     plan: Plan,
     shown: Option<usize>,
     answers: &[NamedAnswer],
+    waits: bool,
 ) -> Result<Option<Named>, Refused>
     requires limits { AreLimits plan.limits }
 {
@@ -174,6 +174,17 @@ fn replay_of(
         return Ok(None);
     };
     let prepared = prepare(alloc, source, model, probe)?;
-    let replay = replay_named(alloc, &prepared, answer.schedule.as_slice(), plan.limits)?;
-    Ok(Some(replay))
+    let entries = answer.schedule.as_slice();
+    let replay = replay_named(alloc, &prepared, entries, plan.limits)?;
+    if !waits {
+        return Ok(Some(replay));
+    }
+    let longer = with_waits(alloc, &prepared.program, entries, plan.limits)?;
+    let waiting = replay_named(alloc, &prepared, longer.as_slice(), plan.limits)?;
+    // What fibers wait for is shown only if the report is the same.
+    if same_end(&waiting.end, &replay.end) {
+        Ok(Some(waiting))
+    } else {
+        Ok(Some(replay))
+    }
 }

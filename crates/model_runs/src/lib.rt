@@ -32,6 +32,7 @@ mod run;
 mod searching;
 mod seeing;
 mod verdicts;
+mod waits;
 mod warnings;
 mod word_places;
 

@@ -7,10 +7,12 @@ ghost use Rattle.cell_registry.specs.Cells.{AreLimits};
 ghost use Rattle.model_runs.specs.Moments.{AreMet, claim_comparison, claim_word, sought, sought_in, turning};
 ghost use Rattle.model_runs.specs.Moments.{soughts as all_soughts};
 
+use crate::marks::may_leave_marks;
 use crate::plan::Plan;
+use crate::prepared::Prepared;
 use crate::searching::{FIRST, TIMES_MORE};
 use cell_registry::RunError;
-use effect_term::Program;
+use every_outcome::search_outcome_claims;
 use every_schedule::{
     Claim as Sought, ClaimWord, Claimed, Comparison as SoughtComparison, search_claims,
 };
@@ -107,27 +109,27 @@ pub(crate) fn soughts(alloc: Global, claims: &[Claim]) -> Result<Vec<Sought>, Al
 /// times as many, until the search is complete, each condition is met, or the watcher ends the search.
 pub(crate) fn search_by_plan<V: Watcher>(
     alloc: Global,
-    program: &Program,
+    prepared: &Prepared,
     plan: Plan,
     wanted: &[Sought],
     watcher: &mut V,
 ) -> Result<Claimed, RunError>
     requires limits { AreLimits plan.limits }
     ensures { IfOk result (λ it.
-        AreMet (code_of (source_of program.now)) plan.limits wanted.now it.complete it.met.items) }
+        AreMet (code_of (source_of prepared.now.program)) plan.limits wanted.now it.complete it.met.items) }
 {
     let mut worlds = FIRST;
     for _ in 0..TIMES_MORE {
         if worlds >= plan.worlds {
             break;
         }
-        let found = search_with(alloc, program, plan, wanted, worlds, &mut *watcher)?;
+        let found = search_with(alloc, prepared, plan, wanted, worlds, &mut *watcher)?;
         if is_last(&found, wanted.len(), worlds) {
             return Ok(found);
         }
         worlds = worlds.saturating_mul(10);
     }
-    search_with(alloc, program, plan, wanted, plan.worlds, watcher)
+    search_with(alloc, prepared, plan, wanted, plan.worlds, watcher)
 }
 
 // Whether a search with a greater bound of worlds would find no more, or the watcher has ended the search.
@@ -135,10 +137,11 @@ fn is_last(found: &Claimed, wanted: usize, worlds: usize) -> bool {
     found.complete || found.halted || found.met.len() >= wanted || found.worlds < worlds
 }
 
-// Searches for worlds that meet these conditions, with at most this number of worlds.
+// Searches for worlds that meet these conditions, with at most this number of worlds. These keep no marks if they
+// needn't.
 fn search_with<V: Watcher>(
     alloc: Global,
-    program: &Program,
+    prepared: &Prepared,
     plan: Plan,
     wanted: &[Sought],
     worlds: usize,
@@ -146,13 +149,18 @@ fn search_with<V: Watcher>(
 ) -> Result<Claimed, RunError>
     requires limits { AreLimits plan.limits }
     ensures { IfOk result (λ it.
-        AreMet (code_of (source_of program.now)) plan.limits wanted.now it.complete it.met.items) }
+        AreMet (code_of (source_of prepared.now.program)) plan.limits wanted.now it.complete it.met.items) }
 {
     let bounds = Bounds {
         worlds,
         entries: plan.entries as usize,
         memory: plan.memory,
     };
+    let program = &prepared.program;
+    if may_leave_marks(prepared, plan) {
+        let found = search_outcome_claims(alloc, program, plan.limits, bounds, wanted, watcher)?;
+        return Ok(found);
+    }
     let found = search_claims(alloc, program, plan.limits, bounds, wanted, watcher)?;
     Ok(found)
 }

@@ -12,16 +12,20 @@ use code_sources::StartRole;
 use model_claims::{Claim, Who, Word};
 use model_terms::Probe;
 
-/// Whether the search with this probe keeps marks: the term has no loop without end, and a search with marks is several
-/// times as fast; a schedule within the bound on entries can use up a count; a claim with the probe isn't judged by
+/// Whether a search whose claims aren't about marks leaves the marks out: the term has a loop without end, else a
+/// search with marks is several times as fast; and no schedule within the bound on entries can use up a count.
+pub(crate) fn may_leave_marks(prepared: &Prepared, plan: Plan) -> bool
+    ensures { result ≡ true → plan.entries ≤ plan.limits.count }
+{
+    prepared.endless && u64::from(plan.entries) <= plan.limits.count
+}
+
+/// Whether the search with this probe keeps marks: it can't leave them out; a claim with the probe isn't judged by
 /// outcomes alone; or such a claim is about `*` in a term with fibers that the file doesn't name.
 pub(crate) fn needs_marks(prepared: &Prepared, plan: Plan, claims: &[Claim], probe: &Probe) -> bool
     ensures { result ≡ false → plan.entries ≤ plan.limits.count }
 {
-    if !prepared.endless {
-        return true;
-    }
-    if plan.limits.count < u64::from(plan.entries) {
+    if !may_leave_marks(prepared, plan) {
         return true;
     }
     let hidden = has_hidden_fibers(prepared);

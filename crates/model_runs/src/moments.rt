@@ -18,6 +18,7 @@ ghost use Rattle.model_runs.specs.Private.Looking.{moment_verdict as the_verdict
 
 use crate::held::held_refs;
 use crate::looking::{search_by_plan, soughts};
+use crate::marks::may_leave_marks;
 use crate::plan::Plan;
 use crate::prepared::{Prepared, prepare};
 use crate::result::{NamedAnswer, Search};
@@ -75,7 +76,7 @@ fn look<V: Watcher>(
     if wanted.is_empty() {
         return Ok(nothing_found(alloc));
     }
-    let found = search_by_plan(alloc, &prepared.program, plan, wanted.as_slice(), watcher)?;
+    let found = search_by_plan(alloc, prepared, plan, wanted.as_slice(), watcher)?;
     let answers = answers_of(
         alloc,
         prepared,
@@ -83,7 +84,8 @@ fn look<V: Watcher>(
         wanted.as_slice(),
         found.met.as_slice(),
     )?;
-    Ok(found_moments(found, answers))
+    let marked = !may_leave_marks(prepared, plan);
+    Ok(found_moments(found, marked, answers))
 }
 
 // The result without a search.
@@ -105,8 +107,8 @@ fn nothing_found(alloc: Global) -> Moments
     }
 }
 
-// The result of a search, with these answers.
-fn found_moments(found: Claimed, answers: Vec<NamedAnswer>) -> Moments
+// The result of a search, with these answers. `marked` says whether its worlds kept marks.
+fn found_moments(found: Claimed, marked: bool, answers: Vec<NamedAnswer>) -> Moments
     ensures met { result.met.items ≡ found.met.items }
     ensures complete { result.search.complete ≡ found.complete }
     ensures answers { result.search.answers.items ≡ answers.items }
@@ -119,7 +121,7 @@ fn found_moments(found: Claimed, answers: Vec<NamedAnswer>) -> Moments
         search: Search {
             complete,
             halted,
-            marked: true,
+            marked,
             worlds,
             sampled: 0,
             answers,

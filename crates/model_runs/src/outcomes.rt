@@ -1,7 +1,7 @@
 //! The searches of a model's term for the outcomes of its fibers, in worlds without marks.
 
-ghost use Rattle.std.specs.Prelude.{◌≡◌, ◌≤◌, ◌==◌, ◌&&◌, length, nat_le, true, false, IfOk, ℕ, List};
-ghost use Rattle.std.specs.List.{All, filter};
+ghost use Rattle.std.specs.Prelude.{◌≡◌, ◌≤◌, true, false, IfOk, ℕ, List};
+ghost use Rattle.std.specs.List.{All};
 ghost use Rattle.std.specs.List.Sorted.{IsPermutation};
 ghost use Rattle.derived_ops.specs.Expansion.{code_of};
 ghost use Rattle.derived_ops.specs.Reading.{source_of};
@@ -17,7 +17,7 @@ use crate::searching::{FIRST, Known, TIMES_MORE, drawn_by_plan, named_end, with_
 use cell_registry::RunError;
 use effect_term::Program;
 use every_outcome::{
-    Bounds, OutcomeAnswer, OutcomeExploration, Outcomes, Watcher, explore_outcomes,
+    Bounds, OutcomeAnswer, OutcomeExploration, Outcomes, Watcher, explore_outcomes, shortened,
 };
 use std::alloc::{AllocError, Global};
 
@@ -94,32 +94,6 @@ pub(crate) fn search_outcomes<V: Watcher>(
     let comings = drawn.comings.as_slice();
     let more = with_drawn(alloc, prepared, plan, known, comings, answers)?;
     Ok(search_of(&found, drawn.schedules, more))
-}
-
-// The same exploration, without the answers whose schedules have more than `entries` entries; it isn't complete if
-// there were any.
-fn shortened(found: OutcomeExploration, entries: usize) -> OutcomeExploration
-    ensures answers { result.answers.items ≡ filter (λ a. nat_le (length a.schedule) entries) found.answers.items }
-    ensures complete { result.complete ≡
-        (found.complete && (length result.answers.items == length found.answers.items)) }
-{
-    let OutcomeExploration {
-        mut answers,
-        worlds,
-        bytes,
-        complete,
-        halted,
-    } = found;
-    let many = answers.len();
-    answers.retain(|answer| answer.schedule.as_slice().len() <= entries);
-    let whole = answers.len() == many;
-    OutcomeExploration {
-        answers,
-        worlds,
-        bytes,
-        complete: complete && whole,
-        halted,
-    }
 }
 
 // The same exploration, with outcomes before faults, and in each group shorter schedules first.

@@ -34,8 +34,9 @@ use std::alloc::Global;
 /// answers. Each claim is judged by the search of the term with its probe. If the term has a loop without end, and all
 /// claims of a search are judged by the outcomes of fibers alone, its worlds keep no marks ([`Search::marked`]): a loop
 /// with masks and brackets in it leads back to a known world, and answers are the outcomes that no further entry
-/// changes. Claims at any moment on refs of known numbers are checked together, in each world of one more search; a
-/// fault refutes such a claim about every moment. A model with a fault is refused as by [`check_model`].
+/// changes. Claims at any moment on refs of known numbers are checked together, in each world of one more search, which
+/// keeps no marks either if the term has a loop without end; a fault refutes such a claim about every moment. A model
+/// with a fault is refused as by [`check_model`].
 pub fn run_model(
     alloc: Global,
     source: &Source,
@@ -90,6 +91,7 @@ pub fn run_model_watched<V: Watcher>(
     )?;
     let warnings = warnings_of(
         alloc,
+        source,
         &term,
         claims.as_slice(),
         results.as_slice(),

@@ -1,17 +1,20 @@
 //! Warnings about models.
 
 use crate::result::{ClaimResult, NamedAnswer, Search};
-use model_claims::{Claim, Verdict, Want, is_wanted};
-use model_terms::ModelTerm;
+use model_claims::{Claim, Verdict, Want, Who, Word, is_wanted, speaks_of};
+use model_terms::{ModelTerm, Source};
 use std::alloc::{AllocError, Global};
 
 /// A warning about a model. No verdict depends on it.
 #[derive(Clone, Copy, PartialEq, Eq, Debug)]
 pub enum Warning {
-    /// The form of this number reads a ref and then changes it, in two moves: another fiber can move between them.
+    /// The form of this number reads a ref whose value then changes the ref, in two moves: another fiber can move in
+    /// between.
     Torn(usize),
     /// The form of this number is a wanted outcome to which no schedule leads.
     Unmet(usize),
+    /// The form of this number is, in a claim, the name of a fiber that no schedule starts.
+    Unstarted(usize),
 }
 
 impl Warning {
@@ -20,6 +23,7 @@ impl Warning {
         match self {
             Warning::Torn(_) => "W01",
             Warning::Unmet(_) => "W02",
+            Warning::Unstarted(_) => "W03",
         }
     }
 
@@ -28,6 +32,7 @@ impl Warning {
         match self {
             Warning::Torn(form) => form,
             Warning::Unmet(form) => form,
+            Warning::Unstarted(form) => form,
         }
     }
 }
@@ -35,6 +40,7 @@ impl Warning {
 /// Returns the warnings about a model with this term, these claims, and their results by these searches.
 pub(crate) fn warnings_of(
     alloc: Global,
+    source: &Source,
     term: &ModelTerm,
     claims: &[Claim],
     results: &[ClaimResult],
@@ -46,8 +52,80 @@ pub(crate) fn warnings_of(
     }
     for (claim, found) in claims.iter().zip(results.iter()) {
         add_unmet(&mut warnings, claim, found, searches)?;
+        add_unstarted(&mut warnings, source, claim, found, searches)?;
     }
     Ok(warnings)
+}
+
+// Adds the names of fibers in a claim that no answer has, if its search is complete.
+fn add_unstarted(
+    warnings: &mut Vec<Warning>,
+    source: &Source,
+    claim: &Claim,
+    found: &ClaimResult,
+    searches: &[Search],
+) -> Result<(), AllocError> {
+    let Some(search) = searches.get(found.search) else {
+        return Ok(());
+    };
+    if !search.complete {
+        return Ok(());
+    }
+    for word in claim.condition.words.as_slice() {
+        if let Some(who) = who_of(*word)
+            && let Some(form) = name_form(source, who)
+            && !is_started(source, who, search.answers.as_slice())
+        {
+            add_once(warnings, Warning::Unstarted(form))?;
+        }
+    }
+    Ok(())
+}
+
+// Adds a warning, unless it is there.
+fn add_once(warnings: &mut Vec<Warning>, warning: Warning) -> Result<(), AllocError> {
+    if !warnings.as_slice().contains(&warning) {
+        warnings.push(warning)?;
+    }
+    Ok(())
+}
+
+// The fibers that a word of a condition is about, if it is about fibers.
+fn who_of(word: Word) -> Option<Who> {
+    match word {
+        Word::Ended(who) => Some(who),
+        Word::Ends(who, _, _) => Some(who),
+        Word::Said(who, _, _) => Some(who),
+        Word::Says(who, _, _) => Some(who),
+        Word::Yes | Word::No | Word::And | Word::Or | Word::Not => None,
+        Word::Late(_) | Word::Compares(_, _, _) => None,
+    }
+}
+
+// The number of the form that spells the name of these fibers; none of `main` and `*`.
+fn name_form(source: &Source, who: Who) -> Option<usize> {
+    let start = match who {
+        Who::Named(start, _) => start,
+        Who::OneOf(start, _, _) => start,
+        Who::Main | Who::Everyone => return None,
+    };
+    source
+        .file
+        .forms
+        .iter()
+        .position(|form| form.start == start)
+}
+
+// Whether one of these fibers was started in one of these answers.
+fn is_started(source: &Source, who: Who, answers: &[NamedAnswer]) -> bool {
+    for answer in answers {
+        for fiber in answer.seen.fibers.as_slice() {
+            if speaks_of(source, who, fiber.name) {
+                return true;
+            }
+        }
+    }
+    false
 }
 
 // Adds the outcomes that a passed claim wants and no schedule leads to, if its search is complete.

@@ -2,7 +2,7 @@
 use Rattle.std.proofs.Common.{Bool, true, false, List, if◌then◌else◌}
 use Rattle.std.specs.List.{list_any}
 use Rattle.model_claims.specs.declared.judging.Verdict.{Verdict}
-use Rattle.model_reports.specs.Verdicts.{is_failed, is_undecided, status_of}
+use Rattle.model_suites.specs.Verdicts.{is_failed, is_undecided, status_of}
 use Rattle.model_suites.specs.Statuses.{IsSuiteStatus}
 use Rattle.text_io.specs.declared.status.Status.TheVariants.{Succeeded, Errored, Unended}
 

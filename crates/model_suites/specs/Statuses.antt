@@ -2,7 +2,7 @@
 use Rattle.std.specs.Prelude.{◌==◌, ◌∷◌, ℕ, List, [], if◌then◌else◌}
 use Rattle.model_claims.specs.declared.judging.Verdict.{Verdict}
 use Rattle.model_claims.specs.declared.judging.Verdict.TheVariants.{Failed}
-use Rattle.model_reports.specs.Verdicts.{status_of}
+use Rattle.model_suites.specs.Verdicts.{status_of}
 use Rattle.model_suites.specs.declared.tested.Became.{Became}
 use Rattle.model_suites.specs.declared.tested.Became.TheVariants as ways
 use Rattle.text_io.specs.declared.status.Status.{Status}

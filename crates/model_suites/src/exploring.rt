@@ -4,8 +4,10 @@ ghost use Rattle.std.specs.Prelude.{◌≡◌, IfOk};
 ghost use Rattle.model_runs.specs.Verdicts.{worst};
 
 use crate::board::Board;
+use crate::progress::Progress;
 use crate::suite::{Models, SuiteForm};
 use crate::tested::{Became, Explored, Tested};
+use crate::watching::{Noting, Shows, Silent};
 use model_runs::{ModelResult, SearchBounds, TimeLimit, run_model_watched};
 use model_terms::{Refused, Source};
 use model_text::Model;
@@ -14,13 +16,19 @@ use std::sync::Wait;
 use std::thread;
 use std::thread::Threads;
 use std::time::{Clock, Instant};
+use text_io::TextOut;
+
+// The greatest number of seconds for which a thread that waits for a model shows progress.
+const MOST_SECONDS: usize = 10_000_000;
 
 // Explores the model of this number, unless models are only listed.
-fn explore<C: Clock>(
+fn explore<C: Clock, S: Shows>(
     clock: &C,
     alloc: Global,
     models: &Models<'_>,
+    board: &Board,
     index: usize,
+    shows: &mut S,
 ) -> Result<Became, AllocError> {
     let Some(entry) = models.entries.get(index) else {
         return Ok(Became::Listed);
@@ -35,24 +43,32 @@ fn explore<C: Clock>(
     match models.order.form {
         SuiteForm::List => Ok(Became::Listed),
         SuiteForm::Report | SuiteForm::Json | SuiteForm::Tap => {
-            let seconds = models.order.seconds;
-            explore_model(clock, alloc, &file.source, &entry.model, bounds, seconds)
+            let mut noting = Noting {
+                limit: TimeLimit::new(clock, models.order.seconds),
+                models,
+                board,
+                index,
+                shows,
+            };
+            board.note(index, 0);
+            let became = explore_model(alloc, &file.source, &entry.model, bounds, &mut noting);
+            board.rest(index);
+            became
         }
     }
 }
 
-// Explores and judges a model, within this number of seconds if one is given.
-fn explore_model<C: Clock>(
-    clock: &C,
+// Explores and judges a model, while its searches are watched.
+fn explore_model<C: Clock, S: Shows>(
     alloc: Global,
     source: &Source,
     model: &Model,
     bounds: SearchBounds,
-    seconds: Option<u64>,
+    noting: &mut Noting<'_, '_, '_, C, S>,
 ) -> Result<Became, AllocError> {
-    let mut limit = TimeLimit::new(clock, seconds);
-    let begun = limit.begun;
-    match run_model_watched(alloc, source, model, bounds, &mut limit) {
+    let clock = noting.limit.clock;
+    let begun = noting.limit.begun;
+    match run_model_watched(alloc, source, model, bounds, noting) {
         Ok(result) => {
             let milliseconds = milliseconds_since(clock, begun);
             Ok(Became::Explored(explored(result, milliseconds)))
@@ -92,7 +108,8 @@ fn help<R: Clock + Wait>(rt: &R, alloc: Global, models: &Models<'_>, board: &Boa
         let Some(index) = board.claim() else {
             return;
         };
-        board.put(rt, index, explore(rt, alloc, models, index));
+        let found = explore(rt, alloc, models, board, index, &mut Silent);
+        board.put(rt, index, found);
     }
 }
 
@@ -108,40 +125,63 @@ pub(crate) fn help_all<R: Clock + Threads + Wait + Sync>(
 }
 
 /// Returns the result of the model of this number, from the board or by exploring the model. While another thread
-/// explores the model, the calling thread explores others, and then waits.
-pub(crate) fn tested_at<R: Clock + Wait>(
+/// explores the model, the calling thread explores others, and then waits. Meanwhile it shows progress.
+pub(crate) fn tested_at<R: Clock + Wait, E: TextOut>(
     rt: &R,
     alloc: Global,
     models: &Models<'_>,
     board: &Board,
     index: usize,
+    progress: &mut Progress<'_, '_, R, E>,
 ) -> Result<Tested, AllocError>
     ensures { IfOk result (λ it. it.index ≡ index) }
 {
-    let became = became_at(rt, alloc, models, board, index)?;
+    let became = became_at(rt, alloc, models, board, index, progress)?;
     Ok(Tested { index, became })
 }
 
 // Returns this result without the number of the model.
-fn became_at<R: Clock + Wait>(
+fn became_at<R: Clock + Wait, E: TextOut>(
     rt: &R,
     alloc: Global,
     models: &Models<'_>,
     board: &Board,
     index: usize,
+    progress: &mut Progress<'_, '_, R, E>,
 ) -> Result<Became, AllocError> {
     for _ in 0..models.entries.len() {
         if board.has(rt, index) {
             return board.take(rt, index);
         }
         let Some(free) = board.claim() else {
+            wait_showing(rt, models, board, index, progress);
             return board.take(rt, index);
         };
-        let found = explore(rt, alloc, models, free);
+        let found = explore(rt, alloc, models, board, free, &mut *progress);
         if free == index {
             return found;
         }
         board.put(rt, free, found);
     }
     board.take(rt, index)
+}
+
+// Waits until the result of a model is on the board, and shows progress each second. Returns at once if no progress is
+// shown.
+fn wait_showing<R: Clock + Wait, E: TextOut>(
+    rt: &R,
+    models: &Models<'_>,
+    board: &Board,
+    index: usize,
+    progress: &mut Progress<'_, '_, R, E>,
+) {
+    if !progress.is_shown() {
+        return;
+    }
+    for _ in 0..MOST_SECONDS {
+        if board.waits_a_second(rt, index) {
+            return;
+        }
+        progress.tell(models, board);
+    }
 }

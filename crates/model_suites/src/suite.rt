@@ -5,11 +5,13 @@ ghost use Rattle.model_suites.specs.Statuses.{verdict_in};
 
 use crate::board::Board;
 use crate::exploring::{help_all, tested_at};
+use crate::progress::Progress;
 use crate::reading::{ReadProblem, read_path};
 use crate::terms::push_terms;
 use crate::tested::Tested;
 use crate::told::Told;
 use itoa::Buffer;
+use model_claims::check_defaults;
 use model_forms::form_bytes;
 use model_reports::{NamedFile, fault_text, tap_head, unread_text};
 use model_runs::check_model;
@@ -20,6 +22,7 @@ use std::rt::Files;
 use std::sync::Wait;
 use std::thread::Threads;
 use std::time::Clock;
+use text_io::TextOut;
 
 /// The form of what is printed.
 #[derive(Clone, Copy, PartialEq, Eq, Debug)]
@@ -126,6 +129,22 @@ impl<'a> Suite<'a> {
         self.models.entries.len()
     }
 
+    /// Returns a line for standard error that no model's name contains the filter; empty if one does. `AllocError` if
+    /// memory runs out.
+    pub fn missing(&self) -> Result<Vec<u8>, AllocError> {
+        let mut line = Vec::new(self.alloc);
+        let Some(part) = self.models.order.filter else {
+            return Ok(line);
+        };
+        if !self.models.entries.is_empty() {
+            return Ok(line);
+        }
+        line.extend_from_slice(b"no model is tested: no name contains `")?;
+        line.extend_from_slice(part.as_bytes())?;
+        line.extend_from_slice(b"`\n")?;
+        Ok(line)
+    }
+
     /// Returns what is printed before all models. `AllocError` if memory runs out.
     pub fn opening(&self) -> Result<Vec<u8>, AllocError> {
         match self.models.order.form {
@@ -154,17 +173,18 @@ impl<'a> Suite<'a> {
     }
 
     /// Returns the result of the model of this number, from the board or by exploring the model. While another thread
-    /// explores the model, the calling thread explores others, and then waits. Each model is asked for once.
-    /// `AllocError` if memory runs out.
-    pub fn tested<R: Clock + Wait>(
+    /// explores the model, the calling thread explores others, and then waits. Meanwhile it shows progress. Each model
+    /// is asked for once. `AllocError` if memory runs out.
+    pub fn tested<R: Clock + Wait, E: TextOut>(
         &self,
         rt: &R,
         board: &Board,
         index: usize,
+        progress: &mut Progress<'_, '_, R, E>,
     ) -> Result<Tested, AllocError>
         ensures { IfOk result (λ it. it.index ≡ index) }
     {
-        tested_at(rt, self.alloc, &self.models, board, index)
+        tested_at(rt, self.alloc, &self.models, board, index, progress)
     }
 
     /// Adds the result of a model, and returns what is printed of the model at once. Models are added in the order of
@@ -273,6 +293,13 @@ fn add_source<'a>(
     models: &mut Models<'a>,
     file: SuiteFile<'a>,
 ) -> Result<(), AllocError> {
+    match check_defaults(alloc, &file.source) {
+        Ok(()) => {}
+        Err(Refused::NoMemory) => return Err(AllocError),
+        Err(Refused::Fault(fault)) => {
+            return add_fault(alloc, &mut models.faults, named(&file), &fault);
+        }
+    }
     let number = models.files.len();
     for item in file.source.file.items.iter() {
         match item {

@@ -3,13 +3,14 @@
 ghost use Rattle.std.specs.Prelude.{◌≡◌, ◌++◌, ◌∷◌, [], OnOk};
 ghost use Rattle.model_suites.specs.Statuses.{IsSuiteStatus, suite_status, verdict_in};
 
+use crate::statuses::status_of;
 use crate::suite::{Models, SuiteFile, SuiteForm, SuiteOrder, named};
 use crate::tested::{Became, Explored, Tested};
 use model_claims::Verdict;
 use model_forms::form_bytes;
 use model_reports::{
     HtmlPage, JudgedModel, fault_text, json_report, junit_case, junit_document, listed_model,
-    model_details, model_json, model_line, status_of, summary, tap_model,
+    model_details, model_json, model_line, summary, tap_model,
 };
 use model_terms::SourceFault;
 use model_text::Model;
@@ -130,7 +131,7 @@ impl Told {
     {
         match order.form {
             SuiteForm::Report => {
-                let details = model_details(alloc, judged)?;
+                let details = model_details(alloc, judged, order.filter.is_some())?;
                 self.details.extend_from_slice(details.as_slice())?;
                 model_line(alloc, judged, order.color)
             }

@@ -1,14 +1,16 @@
 //! The messages for a fault of a file that is found before its models are translated.
 
+use crate::nearness::{distance, least_apart};
 use crate::reading::bytes_of;
 use crate::refused::{Refused, SourceFault};
 use crate::source::NameFault;
 use crate::told::{tell, tell_count, tell_quoted};
-use crate::wording::{note_place, tell_no_number};
+use crate::wording::{note_meant, note_place, tell_no_number};
 use crate::wrong::Span;
 use model_forms::{FormFault, read_forms};
 use model_text::{FileFault, ItemFault};
 use std::alloc::{AllocError, Global};
+use term_parse::word_of;
 
 // Appends the fault of the brackets and strings of a file.
 fn tell_form(told: &mut Vec<u8>, fault: FormFault) -> Result<(), AllocError> {
@@ -92,6 +94,87 @@ fn end_of(alloc: Global, text: &[u8], place: usize) -> usize {
     }
 }
 
+// The words of items.
+const ITEMS: [&str; 3] = ["define", "defaults", "model"];
+
+// The words of what a model has.
+const CLAIMS: [&str; 19] = [
+    "all-end",
+    "always",
+    "before",
+    "can",
+    "ever",
+    "fails",
+    "must",
+    "never",
+    "no-deadlock",
+    "want",
+    "worlds",
+    "entries",
+    "fibers",
+    "refs",
+    "deferreds",
+    "count",
+    "times",
+    "seed",
+    "run",
+];
+
+// The word at the head of a list with these bytes.
+fn head_of(list: &[u8]) -> &[u8] {
+    let inside = list.get(1..).unwrap_or(&[]);
+    let word = |byte: &u8| !matches!(
+        *byte,
+        b' ' | b'\n' | b'\t' | b'\r' | b'(' | b')' | b'"' | b';'
+    );
+    match inside.iter().position(|byte| !word(byte)) {
+        Some(end) => inside.get(..end).unwrap_or(inside),
+        None => inside,
+    }
+}
+
+// The word that is nearest to a spelling; empty if none is near.
+fn near_word(words: &[&'static str], spelled: &[u8]) -> &'static [u8] {
+    let mut best: &'static [u8] = b"";
+    let mut apart = least_apart(spelled.len());
+    for word in words {
+        let far = distance(spelled, word.as_bytes());
+        if far < apart {
+            apart = far;
+            best = word.as_bytes();
+        }
+    }
+    best
+}
+
+// Adds the notes on the fault of a form with these bytes.
+fn note_file(
+    alloc: Global,
+    notes: &mut Vec<Vec<u8>>,
+    fault: FileFault,
+    spelled: &[u8],
+) -> Result<(), AllocError> {
+    let head = head_of(spelled);
+    match fault {
+        FileFault::Item(ItemFault::NotAnItem(_)) if word_of(head).is_some() => {
+            let mut told = Vec::new(alloc);
+            tell(
+                &mut told,
+                "this is a term: `fiber_cli explore` reads one from standard input",
+            )?;
+            notes.push(told)?;
+            Ok(())
+        }
+        FileFault::Item(ItemFault::NotAnItem(_)) => {
+            note_meant(alloc, notes, near_word(&ITEMS, head))
+        }
+        FileFault::Item(ItemFault::NotAClaim(_)) => {
+            note_meant(alloc, notes, near_word(&CLAIMS, head))
+        }
+        _ => Ok(()),
+    }
+}
+
 // The fault of a file with its message. The fault begins at `start`.
 fn file_fault(
     alloc: Global,
@@ -106,7 +189,8 @@ fn file_fault(
         FileFault::Form(form) => tell_form(&mut message, form)?,
         FileFault::Item(item) => tell_item(&mut message, item, spelled)?,
     }
-    let notes = Vec::new(alloc);
+    let mut notes = Vec::new(alloc);
+    note_file(alloc, &mut notes, fault, spelled)?;
     Ok(SourceFault {
         code: fault.code(),
         message,

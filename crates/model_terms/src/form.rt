@@ -319,7 +319,7 @@ fn plan_torn(
             name_at(read, out, at, work.here.view, NameKind::Ref)?
         }
     };
-    out.then(Task::Torn(start, name, work.at))
+    out.then(Task::Torn(start, name))
 }
 
 // Plans the parts of a form.

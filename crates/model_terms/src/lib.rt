@@ -15,13 +15,15 @@
 //! text has at most 65,536 bytes and 100 open brackets, and the steps of a translation are bounded: a model that
 //! exceeds one of these limits has fault `E23`.
 //!
-//! Proved are four facts. The file of a source is the one that the grammar of `model_text` gives for its text. The text
-//! behind the prelude is the file that was read. A term has at most 65,536 bytes, and its binders and places are within
-//! it. No call fails at run time, and each returns. The meaning of the terms is only tested.
+//! Proved are five facts. The file of a source is the one that the grammar of `model_text` gives for its text. The text
+//! behind the prelude is the file that was read. The text of a translation is one that the grammar of terms spells, as
+//! a term that is closed and well kinded. It has at most 65,536 bytes, and its binders and places are within it. No
+//! call fails at run time, and each returns. That the term means what the file says is only tested.
 #![tactic(auto)]
 
 mod binder;
 mod condition;
+mod effect_names;
 mod file_fault;
 mod form;
 mod look;
@@ -33,6 +35,7 @@ mod reading;
 mod refused;
 mod row;
 mod scope;
+mod shapes;
 mod source;
 mod spelling;
 mod task;
@@ -47,6 +50,7 @@ mod wrong;
 
 pub use binder::{Binder, BinderName, NameKind, WordPlace};
 pub use name_says::is_name;
+pub use nearness::{distance, least_apart};
 pub use refused::{Refused, SourceFault};
 pub use source::{Source, prelude, read_source};
 pub use translation::{LATE, ModelTerm, Probe, Said, translate};

@@ -179,29 +179,37 @@ fn say_late(out: &mut Writing, at: usize, was: usize) -> Result<(), Stop> {
     out.then(Task::Close(2))
 }
 
-/// Notes the form with this number if the bytes of the term from `start` on read the ref with this name.
-pub(crate) fn note_torn(
-    out: &mut Writing,
-    start: usize,
-    name: usize,
-    form: usize,
-) -> Result<(), Stop> {
-    if reads(out, start, name) && !out.torn.as_slice().contains(&form) {
+/// Notes the form by which the bytes of the term from `start` on first read the ref with this name, if they do.
+pub(crate) fn note_torn(out: &mut Writing, start: usize, name: usize) -> Result<(), Stop> {
+    if let Some(at) = read_from(out, start, name)
+        && let Some(form) = form_of(out, at)
+        && !out.torn.as_slice().contains(&form)
+    {
         out.torn.push(form)?;
     }
     Ok(())
 }
 
-// Whether the bytes of the term from `start` on read the ref with this name.
-fn reads(out: &Writing, start: usize, name: usize) -> bool {
+// The first place of the term from `start` on that reads the ref with this name, if there is one.
+fn read_from(out: &Writing, start: usize, name: usize) -> Option<usize> {
     let spelled = out.spellings.spelled(name);
     let text = out.text.as_slice();
     for at in start..text.len() {
         if is_get(text.get(at..).unwrap_or(&[]), spelled) {
-            return true;
+            return Some(at);
         }
     }
-    false
+    None
+}
+
+// The form of the file for which the form at this place of the term is written.
+fn form_of(out: &Writing, at: usize) -> Option<usize> {
+    for place in out.places.iter() {
+        if place.term == at {
+            return Some(place.form);
+        }
+    }
+    None
 }
 
 // Whether these bytes begin with the `get` of a name.

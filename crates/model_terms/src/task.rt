@@ -29,7 +29,7 @@ pub(crate) enum Task {
     Statements(Block, bool, Here),
     /// A form of the language with a name of a row as its first part: the number of the form, and the name.
     One(usize, usize, Here),
-    /// Notes the form, which changes a ref, if the term reads the ref from this byte on: the byte, the ref's name, and
-    /// the form.
-    Torn(usize, usize, usize),
+    /// Notes the form that reads a ref, if the term reads the ref from this byte on, before it changes the ref: the
+    /// byte and the ref's name.
+    Torn(usize, usize),
 }

@@ -44,7 +44,7 @@ fn step(read: Reading, out: &mut Writing, task: Task) -> Result<(), Stop> {
         Task::Term(at, here) => term(read, out, at, here),
         Task::Statements(block, is_open, here) => statements(read, out, block, is_open, here),
         Task::One(at, name, here) => one(read, out, at, name, here),
-        Task::Torn(start, name, form) => note_torn(out, start, name, form),
+        Task::Torn(start, name) => note_torn(out, start, name),
     }
 }
 

@@ -1,6 +1,7 @@
 //! The term of a model.
 
-ghost use Rattle.std.specs.Prelude.{◌≡◌, ◌<◌, ◌≤◌, ◌↔◌, All, IfOk, IsTrue, vec_len};
+ghost use Rattle.std.specs.Prelude.{◌≡◌, ◌<◌, ◌≤◌, ◌↔◌, All, IfOk, IsTrue, true, vec_len};
+ghost use Rattle.model_terms.specs.Texts.{IsTermText};
 
 use crate::binder::{Binder, BinderName, NameKind, WordPlace};
 use crate::reading::{Reading, first_of, span_of};
@@ -14,8 +15,8 @@ use crate::writing::{MOST_BYTES, SaidBy, Writing};
 use crate::wrong::{Limit, Stop};
 use effect_term::Value;
 use model_text::Model;
-use std::alloc::Global;
-use term_parse::Word;
+use std::alloc::{AllocError, Global};
+use term_parse::{ParseError, Word, parse};
 
 /// A fiber's name in a file, and a value that it says.
 #[derive(Clone, Copy)]
@@ -53,7 +54,7 @@ pub struct ModelTerm {
     pub binders: Vec<Binder>,
     /// The places in the file that its forms come from, in the order of the text.
     pub places: Vec<WordPlace>,
-    /// The forms of the file that read a ref and then change it with the value. Another fiber can move in between.
+    /// The forms of the file that read a ref whose value then changes the ref. Another fiber can move in between.
     pub torn: Vec<usize>,
 }
 
@@ -128,6 +129,7 @@ pub fn translate(
     probe: Probe,
 ) -> Result<ModelTerm, Refused>
     ensures short { IfOk result (λ t. vec_len t.text ≤ 65536) }
+    ensures term { IfOk result (λ t. IsTermText t.text.items) }
     ensures binders { IfOk result (λ t. All (λ b. (b.start ≤ b.end) × (b.end ≤ vec_len t.text)) t.binders.items) }
     ensures places { IfOk result (λ t. All (λ p. p.term < vec_len t.text) t.places.items) }
 {
@@ -159,14 +161,28 @@ fn are_places_within(places: &[WordPlace], count: usize) -> bool
     places.iter().all(|place| place.term < count)
 }
 
-// Returns the written term if it has at most 65,536 bytes, and its binders and places are within it.
+// Whether the grammar of terms spells this text, as a term that is closed and well kinded.
+fn is_term(alloc: Global, text: &[u8]) -> Result<bool, AllocError>
+    ensures { IfOk result (λ b. b ≡ true → IsTermText text.now) }
+{
+    match parse(alloc, text) {
+        Ok(_) => Ok(true),
+        Err(ParseError::NoMemory) => Err(AllocError),
+        Err(_) => Ok(false),
+    }
+}
+
+// Returns the written term if it has at most 65,536 bytes, its text is that of a term, and its binders and places are
+// within it.
 fn finished(alloc: Global, read: Reading, out: Writing, model: &Model) -> Result<ModelTerm, Refused>
     ensures short { IfOk result (λ t. vec_len t.text ≤ 65536) }
+    ensures term { IfOk result (λ t. IsTermText t.text.items) }
     ensures binders { IfOk result (λ t. All (λ b. (b.start ≤ b.end) × (b.end ≤ vec_len t.text)) t.binders.items) }
     ensures places { IfOk result (λ t. All (λ p. p.term < vec_len t.text) t.places.items) }
 {
     let length = out.text.len();
     if MOST_BYTES < length
+        || !is_term(alloc, out.text.as_slice())?
         || !are_within(out.binders.as_slice(), length)
         || !are_places_within(out.places.as_slice(), length)
     {

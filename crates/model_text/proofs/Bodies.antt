@@ -1,14 +1,9 @@
 -- The fault of a row of statements is that of its list of forms.
-use Rattle.std.proofs.Common.{◌≡◌, ◌≢◌, ◌<◌, ◌≤◌, ◌+◌, ◌==◌, ◌++◌, ℕ, suc, Bool, true, false, List, [], ◌∷◌, length, drop, get_or, Option, Some, None, refl, ap, sym, ◌∙◌}
-use Rattle.std.proofs.Common.{append_assoc, add-one, drop-cons, arith}
-use Rattle.std.specs.List.{slice_range}
-use Rattle.std.proofs.lemmas.Bool.{ne_eqb}
-use Rattle.std.proofs.lemmas.Grind.{common_steps}
-use Rattle.model_forms.specs.Rows.{Row, nothing, a_word, a_text, a_list, flat}
-use Rattle.model_forms.specs.declared.form.Form.{Form}
+use Rattle.std.proofs.Common.{◌≡◌, ◌≢◌, ◌<◌, ◌≤◌, ◌+◌, ◌==◌, ◌++◌, ℕ, suc, false, List, [], ◌∷◌, length, drop, get_or, Option, Some, None, refl, ap}
+use Rattle.std.{proofs.{Common.{sym, ◌∙◌, append_assoc, add-one, drop-cons, arith}, lemmas.{Bool.ne_eqb, Grind.common_steps}}, specs.List.slice_range}
+use Rattle.model_forms.specs.{Rows.{Row, nothing, a_word, a_text, a_list, flat}, declared.form.Form.Form}
+use Rattle.model_text.specs.{Bodies.{or_else, number_fault, row_fault, head_fault, first_fault, flat_fault}, declared.fault.ItemFault.ItemFault}
 use Rattle.model_forms.specs.declared.form.FormKind.TheVariants as kinds
-use Rattle.model_text.specs.Bodies.{or_else, number_fault, list_fault, row_fault, head_fault, first_fault, flat_fault}
-use Rattle.model_text.specs.declared.fault.ItemFault.{ItemFault}
 
 or_else-assoc : (a b c : Option ItemFault) → or_else (or_else a b) c ≡ or_else a (or_else b c)
 or_else-assoc (Some e) b c = refl

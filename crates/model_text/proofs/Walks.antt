@@ -1,17 +1,13 @@
 -- The forms of a block, one after another.
-use Rattle.std.proofs.Common.{◌≡◌, ◌&&◌, ◌+◌, length, ◌++◌, ℕ, Bool, true, false, List, [], ◌∷◌, Option, Some, None, Result, Ok, Err, refl, ap, sym, ◌∙◌, subst, append_assoc}
-use Rattle.model_forms.specs.Rows.{Row, nothing, a_word, a_text, a_list, flat, IsBlock, first_of, inside_of, behind_of}
-use Rattle.model_forms.specs.declared.block.Block.{Block}
+use Rattle.std.proofs.Common.{◌≡◌, ◌&&◌, ◌+◌, ◌++◌, ℕ, true, false, List, [], ◌∷◌, Some, None, Result, Ok, Err, refl, ap, sym, ◌∙◌, subst}
+use Rattle.std.proofs.Common.{append_assoc}
+use Rattle.model_forms.specs.{Rows.{Row, nothing, a_word, a_text, a_list, IsBlock, first_of, behind_of}, declared.block.Block.Block}
 use Rattle.model_forms.specs.declared.form.Form.{Form}
-use Rattle.model_forms.specs.declared.form.FormKind.{FormKind}
+use Rattle.model_text.specs.Items.{fits_part, bad_part, fits_bound, bad_bound, claim_first, claim_of}
+use Rattle.model_text.specs.{Items.{ClaimTree, more, done, bad, run_of, ItemTree, item_first, item_of, items_of, with_item}, Standing.Stands}
+use Rattle.model_text.specs.{Standing.{AllStand, AreItems, Reads, ReadsBlock, ReadsClaim}, declared.{fault.ItemFault.ItemFault, item.Item.Item}}
 use Rattle.model_forms.specs.declared.form.FormKind.TheVariants as kinds
-use Rattle.model_text.specs.Items.{are_names, is_name_form, is_term_part, fits_part, bad_part, fits_bound, bad_bound, is_bound_list, claim_first, claim_of, ClaimTree, more, done, bad, run_of, ItemTree, item_first, item_of, items_of, with_item}
-use Rattle.model_text.specs.Words.{is_part}
-use Rattle.model_text.specs.Standing.{Stands, AllStand, AreItems, Reads, ReadsBlock, ReadsClaim}
-use Rattle.model_text.specs.declared.fault.ItemFault.{ItemFault}
 use Rattle.model_text.specs.declared.fault.ItemFault.TheVariants as faults
-use Rattle.model_text.specs.declared.item.Item.{Item}
-use Rattle.model_text.specs.declared.model.ClaimStep.{ClaimStep}
 use Rattle.model_text.specs.declared.model.ClaimStep.TheVariants as steps
 
 -- `f` is the same for a row and for the row that is left of it
@@ -19,38 +15,6 @@ pub record Rest (A : Type 0) (f : Row → A) (forms : List Form) (rest : Block) 
   pub left : Row
   pub block : IsBlock forms rest left
   pub same : f row ≡ f left
-
-pub rest_begins : {A : Type 0} (f : Row → A) (forms : List Form) (block : Block) (row : Row) → IsBlock forms block row → Rest A f forms block row
-rest_begins f forms block row b = record { left = row; block = b; same = refl }
-
--- names
-pub names_go : (text : List ℕ) (row : Row) (f : Form) → Some f ≡ first_of row → is_name_form text f ≡ true → are_names text row ≡ are_names text (behind_of row)
-names_go text nothing f e h = refl
-names_go text (a_word start end r) f e h =
-    let same : f ≡ record { kind = kinds.Word; start = start; end = end; inside = 0 } = cc in
-    ap (λ b. b && are_names text r) (subst (λ g. is_name_form text g ≡ true) same h)
-names_go text (a_text start end r) f e h =
-    let same : f ≡ record { kind = kinds.Text; start = start; end = end; inside = 0 } = cc in
-    let no : false ≡ true = subst (λ g. is_name_form text g ≡ true) same h in
-    cc
-names_go text (a_list opening inner closing r) f e h =
-    let same : f ≡ record { kind = kinds.List; start = opening; end = closing + 1; inside = length (flat inner) } = cc in
-    let no : false ≡ true = subst (λ g. is_name_form text g ≡ true) same h in
-    cc
-
-pub names_stop : (text : List ℕ) (row : Row) (f : Form) → Some f ≡ first_of row → is_name_form text f ≡ false → are_names text row ≡ false
-names_stop text nothing f e h = cc
-names_stop text (a_word start end r) f e h =
-    let same : f ≡ record { kind = kinds.Word; start = start; end = end; inside = 0 } = cc in
-    ap (λ b. b && are_names text r) (subst (λ g. is_name_form text g ≡ false) same h)
-names_stop text (a_text start end r) f e h = refl
-names_stop text (a_list opening inner closing r) f e h = refl
-
-pub names_end : (text : List ℕ) (row : Row) → None ≡ first_of row → are_names text row ≡ true
-names_end text nothing e = refl
-names_end text (a_word start end r) e = cc
-names_end text (a_text start end r) e = cc
-names_end text (a_list opening inner closing r) e = cc
 
 -- parts
 pub part_goes : (text : List ℕ) (row : Row) → fits_part text row ≡ true → bad_part text row ≡ bad_part text (behind_of row)

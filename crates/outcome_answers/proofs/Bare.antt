@@ -1,11 +1,8 @@
 -- The values of fibers without marks, one at a time.
-use Rattle.std.proofs.Common.{◌≡◌, ℕ, ◌+◌, ◌<◌, ◌≤◌, List, [], ◌∷◌, ◌++◌, length, drop, get_or, refl, sym, ap, ◌∙◌}
-use Rattle.std.proofs.lemmas.List.{drop_all}
+use Rattle.std.proofs.{Common.{◌≡◌, ℕ, ◌+◌, ◌<◌, ◌≤◌, List, [], ◌∷◌, ◌++◌, length, drop, get_or, refl, sym, ap, ◌∙◌}, lemmas.List.drop_all}
 use Rattle.scheduled_core.specs.declared.report.FiberReport.{FiberReport}
 use Rattle.exploration_text.proofs.Parts.{from_here}
-use Rattle.serde_json.specs.Data.{Items, item}
-use Rattle.serde_json.specs.View.{items_view, view}
-use Rattle.serde_json.specs.declared.value.Value.{Value}
+use Rattle.serde_json.specs.{Data.{Items, item}, View.{items_view, view}, declared.value.Value.Value}
 use Rattle.json_answers.proofs.Behind.{behind_none, items_behind}
 use Rattle.outcome_answers.specs.OutcomesData.{bare_fiber, bare_items}
 

@@ -1,22 +1,13 @@
 -- No value of outcomes holds a floating-point number.
-use Rattle.std.proofs.Common.{◌≡◌, ℕ, ◌+◌, ℤ, pos, negsuc, Bool, true, false, not, List, [], ◌∷◌, ◌++◌, ◌||◌, Option, Some, None, Result, Ok, Err}
-use Rattle.std.proofs.Common.{refl, sym, ap, ◌∙◌}
-use Rattle.std.specs.List.{filter}
+use Rattle.std.proofs.Common.{◌≡◌, ℕ, ◌+◌, ℤ, pos, negsuc, Bool, true, false, not, List, [], ◌∷◌, ◌++◌, ◌||◌, Option, Some, None, Result, Ok, Err, refl, sym}
+use Rattle.std.{proofs.Common.{ap, ◌∙◌}, specs.List.filter}
 use Rattle.cell_registry.specs.declared.limits.RunError.{RunError}
-use Rattle.effect_term.specs.declared.reply.Outcome.{Outcome}
-use Rattle.effect_term.specs.declared.reply.Outcome.TheVariants.{Succeeded, Errored, Canceled}
-use Rattle.scheduled_core.specs.declared.report.FiberReport.{FiberReport}
-use Rattle.scheduled_core.specs.declared.report.Report.{Report}
-use Rattle.every_schedule.specs.declared.exploration.Answer.{Answer}
-use Rattle.every_schedule.specs.declared.exploration.Exploration.{Exploration}
-use Rattle.exploration_text.specs.declared.wants.Want.{Want}
-use Rattle.exploration_text.specs.ExplorationText.{is_listed_so}
-use Rattle.serde_json.specs.Data.{Data, Items}
-use Rattle.serde_json.specs.Find.{is_float, of_integer}
-use Rattle.serde_json.specs.View.{items_of}
-use Rattle.serde_json.specs.Written.{has_float, items_have_float}
-use Rattle.json_answers.specs.ReportData.{fault_data, outcome_data}
-use Rattle.json_answers.proofs.Plain.{fault_plain, or_plain}
+use Rattle.effect_term.specs.declared.reply.Outcome.{Outcome, TheVariants.{Succeeded, Errored, Canceled}}
+use Rattle.scheduled_core.specs.declared.report.{FiberReport.FiberReport, Report.Report}
+use Rattle.every_schedule.specs.declared.exploration.{Answer.Answer, Exploration.Exploration}
+use Rattle.exploration_text.specs.{declared.wants.Want.Want, ExplorationText.is_listed_so}
+use Rattle.serde_json.specs.{Data.{Data, Items}, Find.{is_float, of_integer}, View.items_of, Written.{has_float, items_have_float}}
+use Rattle.json_answers.{specs.ReportData.{fault_data, outcome_data}, proofs.Plain.{fault_plain, or_plain}}
 use Rattle.outcome_answers.specs.OutcomesData.{AreBareData, IsOutcomesData, bare_fiber, bare_found, bare_items, bare_report, outcomes_data}
 
 integer_plain : (z : ℤ) → is_float (of_integer z) ≡ false

@@ -1,14 +1,9 @@
 -- One answer for each outcome of fiber 0, one answer at a time.
 use Rattle.std.proofs.Common.{◌≡◌, ◌≢◌, inl, inr, ℕ, zero, suc, ◌+◌, ◌<◌, ◌≤◌, true, List, [], ◌∷◌, ◌++◌, length, get_or, refl, sym, ap, ◌∙◌, subst, arith}
-use Rattle.std.specs.Prelude.{Result, Some}
-use Rattle.std.specs.List.{slice_get}
-use Rattle.std.proofs.lemmas.Bool.Decides.{leb_tells}
-use Rattle.std.proofs.lemmas.Option.{same_Some, slice_get_read, slice_get_within}
+use Rattle.std.{proofs.lemmas.{Bool.Decides.leb_tells, Option.{same_Some, slice_get_read, slice_get_within}}, specs.{Prelude.{Result, Some}, List.slice_get}}
 use Rattle.cell_registry.specs.declared.limits.RunError.{RunError}
-use Rattle.scheduled_core.specs.declared.report.Report.{Report}
-use Rattle.scheduled_core.proofs.Lists.{parted}
-use Rattle.every_schedule.specs.declared.exploration.Answer.{Answer}
-use Rattle.every_schedule.specs.Explored.{IsListed, ListOnce}
+use Rattle.scheduled_core.{specs.declared.report.Report.Report, proofs.Lists.parted}
+use Rattle.every_schedule.specs.{declared.exploration.Answer.Answer, Explored.{IsListed, ListOnce}}
 use Rattle.every_outcome.specs.declared.outcomes.OutcomeAnswer.{OutcomeAnswer}
 use Rattle.outcome_answers.specs.OutcomesShown.{AreFirsts, shown_answer, shown_end}
 
@@ -36,13 +31,6 @@ one_alone x y (suc j) e = absurd (cc)
 none_behind : {A : Type 0} (x y : A) (j : ℕ) → slice_get (x ∷ []) j ≡ Some y → j ≡ 0
 none_behind x y zero e = refl
 none_behind x y (suc j) e = absurd (cc)
-
-pub firsts_none : (answers : List OutcomeAnswer) → SoFar answers 0 []
-firsts_none answers = record {
-  covers = λ i a low at. absurd (omega arith);
-  among = λ j s at. absurd (cc);
-  once = λ i j a b low at bt. absurd (cc);
-}
 
 listed_more : (shown : List Answer) (s : Answer) (end : Result Report RunError) → IsListed shown end → IsListed (shown ++ s ∷ []) end
 listed_more shown s end h = (h.0, h.1, front_kept shown (s ∷ []) h.0 h.1 h.2, h.3)

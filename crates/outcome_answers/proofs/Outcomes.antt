@@ -1,25 +1,15 @@
 -- Answers to programs whose outcomes are explored.
 use Rattle.std.proofs.Common.{◌≡◌, ◌∙◌, ℕ, zero, suc, ◌<◌, ◌≤◌, Bool, true, false, List, [], ◌∷◌, length, map, refl, sym, ap, subst, arith}
-use Rattle.std.specs.Prelude.{Some}
-use Rattle.std.specs.List.{All, slice_get}
-use Rattle.std.proofs.lemmas.Option.{same_Some}
+use Rattle.std.{proofs.lemmas.Option.same_Some, specs.{Prelude.Some, List.{All, slice_get}}}
 use Rattle.cell_registry.specs.declared.limits.Limits.{Limits}
-use Rattle.derived_ops.specs.Expansion.{code_of}
-use Rattle.derived_ops.specs.Reading.{source_of}
+use Rattle.derived_ops.specs.{Expansion.code_of, Reading.source_of}
 use Rattle.effect_term.specs.declared.term.Term.{Term}
 use Rattle.text_io.specs.declared.status.Status.{Status}
 use Rattle.world_search.specs.declared.answers.Bounds.{Bounds}
-use Rattle.every_outcome.specs.declared.outcomes.OutcomeAnswer.{OutcomeAnswer}
-use Rattle.every_outcome.specs.declared.outcomes.OutcomeExploration.{OutcomeExploration}
-use Rattle.every_outcome.proofs.Told.{all_at, all_from}
-use Rattle.every_schedule.specs.declared.exploration.Answer.{Answer}
-use Rattle.every_schedule.specs.declared.exploration.Exploration.{Exploration}
-use Rattle.exploration_text.specs.declared.wants.Want.{Want}
-use Rattle.exploration_text.specs.ExplorationText.{IsSpellable, exploration_status}
-use Rattle.exploration_text.specs.Missing.{missing_of_exploration}
-use Rattle.outcome_answers.specs.OutcomeAnswers.{IsOutcomesAnswer, Shows}
-use Rattle.outcome_answers.specs.OutcomesFound.{IsOutcomesOf}
-use Rattle.outcome_answers.specs.OutcomesShown.{AreShown, IsShown, shown_answer}
+use Rattle.every_outcome.{specs.declared.outcomes.{OutcomeAnswer.OutcomeAnswer, OutcomeExploration.OutcomeExploration}, proofs.Told.{all_at, all_from}}
+use Rattle.every_schedule.specs.declared.exploration.{Answer.Answer, Exploration.Exploration}
+use Rattle.exploration_text.specs.{declared.wants.Want.Want, ExplorationText.{IsSpellable, exploration_status}, Missing.missing_of_exploration}
+use Rattle.outcome_answers.specs.{OutcomeAnswers.{IsOutcomesAnswer, Shows}, OutcomesFound.IsOutcomesOf, OutcomesShown.{AreShown, IsShown, shown_answer}}
 
 map_at : {A B : Type 0} (f : A → B) (xs : List A) (j : ℕ) (y : B) → slice_get (map f xs) j ≡ Some y → (x : A) × (slice_get xs j ≡ Some x) × (y ≡ f x)
 map_at f [] j y e = absurd (cc)

@@ -1,12 +1,7 @@
 -- An exploration of outcomes without the answers whose schedules are long.
-use Rattle.std.proofs.Common.{◌≡◌, ◌≢◌, ◌⊎◌, inl, inr, ℕ, zero, suc, ◌<◌, ◌≤◌, ◌==◌, ◌&&◌, Bool, true, false, cond, List, [], ◌∷◌, length, max, leb}
-use Rattle.std.proofs.Common.{refl, sym, ap, ◌∙◌, subst, arith, Ok}
-use Rattle.std.specs.Prelude.{Some}
-use Rattle.std.specs.List.{All, filter, slice_get}
-use Rattle.std.proofs.lemmas.Bool.{eqb-false, eqb-true, leb-false, leb-true}
-use Rattle.std.proofs.lemmas.Bool.Decides.{leb_tells}
-use Rattle.std.proofs.lemmas.List.Elements.{All-filter, filter_passes}
-use Rattle.std.proofs.lemmas.Option.{same_Some}
+use Rattle.std.proofs.Common.{◌≡◌, ◌≢◌, ◌⊎◌, inl, inr, ℕ, zero, suc, ◌<◌, ◌≤◌, ◌==◌, ◌&&◌, Bool, true, false, cond, List, [], ◌∷◌, length, max, leb, refl, sym}
+use Rattle.std.proofs.{Common.{ap, ◌∙◌, subst, arith, Ok}, lemmas.Bool.{eqb-false, eqb-true, leb-false, leb-true, Decides.leb_tells}}
+use Rattle.std.{proofs.lemmas.{List.Elements.{All-filter, filter_passes}, Option.same_Some}, specs.{Prelude.Some, List.{All, filter, slice_get}}}
 use Rattle.cell_registry.specs.declared.limits.Limits.{Limits}
 use Rattle.derived_ops.specs.Tree.{Tree}
 use Rattle.scheduled_core.specs.Core.{World, core}
@@ -16,6 +11,7 @@ use Rattle.world_search.specs.Answers.{IsAtBound}
 use Rattle.every_outcome.specs.declared.outcomes.OutcomeAnswer.{OutcomeAnswer}
 use Rattle.every_outcome.specs.declared.outcomes.OutcomeExploration.{OutcomeExploration}
 use Rattle.every_outcome.specs.Outcomes.{IsCovered, IsListed, IsReached, ListOnce, counted, outcomes}
+use Rattle.every_outcome.proofs.Filtered.{filter_whole}
 use Rattle.every_outcome.proofs.Told.{all_at}
 use Rattle.outcome_answers.specs.OutcomesFound.{IsOutcomesOf, IsPastEntries}
 
@@ -32,24 +28,6 @@ module _ {A : Type 0} (p : A → Bool) where
   pub filter_at : (xs : List A) (j : ℕ) (y : A) → slice_get (filter p xs) j ≡ Some y → (k : ℕ) × (slice_get xs k ≡ Some y) × (p y ≡ true)
   filter_at [] j y e = absurd (cc)
   filter_at (x ∷ xs) j y e = kept_from (p x) x xs j y refl (λ i. filter_at xs i y) e
-
-  shorter_step : (b : Bool) (x : A) (xs ys : List A) → length ys ≤ length xs → length (cond b (x ∷ ys) ys) ≤ suc (length xs)
-  shorter_step true x xs ys low = omega arith
-  shorter_step false x xs ys low = omega arith
-
-  filter_shorter : (xs : List A) → length (filter p xs) ≤ length xs
-  filter_shorter [] = omega arith
-  filter_shorter (x ∷ xs) = shorter_step (p x) x xs (filter p xs) (filter_shorter xs)
-
-  whole_step : (b : Bool) (x : A) (xs : List A) → (length (filter p xs) ≡ length xs → filter p xs ≡ xs) →
-      length (cond b (x ∷ filter p xs) (filter p xs)) ≡ suc (length xs) → cond b (x ∷ filter p xs) (filter p xs) ≡ x ∷ xs
-  whole_step true x xs rest many = ap (λ l. x ∷ l) (rest (omega arith))
-  whole_step false x xs rest many = absurd (let low = filter_shorter xs in omega arith)
-
-  -- if as many elements are kept as there were, all are kept
-  pub filter_whole : (xs : List A) → length (filter p xs) ≡ length xs → filter p xs ≡ xs
-  filter_whole [] many = refl
-  filter_whole (x ∷ xs) many = whole_step (p x) x xs (filter_whole xs) many
 
   lost_step : (b : Bool) (x : A) (xs : List A) → p x ≡ b →
       (length (filter p xs) ≢ length xs → (i : ℕ) × (y : A) × (slice_get xs i ≡ Some y) × (p y ≡ false)) →

@@ -1,12 +1,12 @@
 //! The outcomes of a program, with schedules within the bounds.
-ghost use Rattle.std.specs.Prelude.{◌≡◌, ◌<◌, ◌==◌, ◌&&◌, IfOk, length, nat_le};
-ghost use Rattle.std.specs.List.{All, filter};
+ghost use Rattle.std.specs.Prelude.{◌<◌, IfOk};
+ghost use Rattle.std.specs.List.{All};
 ghost use Rattle.derived_ops.specs.Expansion.{code_of};
 ghost use Rattle.derived_ops.specs.Reading.{source_of};
 ghost use Rattle.outcome_answers.specs.OutcomesFound.{IsOutcomesOf};
 
 use effect_term::Program;
-use every_outcome::{OutcomeExploration, Watcher, explore_outcomes};
+use every_outcome::{OutcomeExploration, Watcher, explore_outcomes, shortened};
 use exploration_text::ExploreOrder;
 use std::alloc::{AllocError, Global};
 
@@ -28,33 +28,4 @@ pub fn find_outcomes<V: Watcher>(
         return Err(AllocError);
     };
     Ok(shortened(found, order.bounds.entries))
-}
-
-// The same exploration, without the answers whose schedules have more than `entries` entries.
-fn shortened(found: OutcomeExploration, entries: usize) -> OutcomeExploration
-    ensures answers { result.answers.items ≡
-        filter (λ a. nat_le (length a.schedule) entries) found.answers.items }
-    ensures complete { result.complete ≡
-        (found.complete && (length result.answers.items == length found.answers.items)) }
-    ensures halted { result.halted ≡ found.halted }
-    ensures worlds { result.worlds ≡ found.worlds }
-    ensures bytes { result.bytes ≡ found.bytes }
-{
-    let OutcomeExploration {
-        mut answers,
-        worlds,
-        bytes,
-        complete,
-        halted,
-    } = found;
-    let many = answers.len();
-    answers.retain(|answer| answer.schedule.as_slice().len() <= entries);
-    let whole = answers.len() == many;
-    OutcomeExploration {
-        answers,
-        worlds,
-        bytes,
-        complete: complete && whole,
-        halted,
-    }
 }

@@ -1,23 +1,15 @@
 -- Answers to texts.
-use Rattle.std.proofs.Common.{◌≡◌, ◌≢◌, ◌-◌, ◌^◌, ℕ, min, nat_lt, Bool, true, false, IsTrue, List, Some, None, Result}
-use Rattle.std.proofs.Common.{Ok, Err, IfOk, OnOk, ap, subst, inl, inr, refl, if◌then◌else◌}
-use Rattle.effect_term.specs.declared.term.Term.{Term}
-use Rattle.effect_term.specs.declared.refusal.TermError.{TermError}
-use Rattle.effect_term.specs.declared.refusal.TermError.TheVariants as term
-use Rattle.effect_term.specs.Programs.{IsProgram}
-use Rattle.effect_term.specs.Masks.{masks_of}
-use Rattle.effect_term.specs.ExpansionSize.{expansion_size_of}
-use Rattle.term_parse.specs.declared.error.ParseError.{ParseError}
-use Rattle.term_parse.specs.declared.error.ParseError.TheVariants as parse
-use Rattle.term_parse.specs.Atoms.{atoms_of}
-use Rattle.term_parse.specs.Reading.{reading}
-use Rattle.outcome_trace.specs.declared.text_order.Answer.{Answer}
+use Rattle.std.proofs.Common.{◌≡◌, ◌≢◌, ◌-◌, ◌^◌, ℕ, min, nat_lt, Bool, true, false, IsTrue, List, Some, None, Result, Ok, Err, IfOk, OnOk, ap, subst, inl, inr}
+use Rattle.std.proofs.Common.{refl, if◌then◌else◌}
+use Rattle.effect_term.specs.{declared.{term.Term.Term, refusal.TermError.TermError}, Programs.IsProgram, Masks.masks_of, ExpansionSize.expansion_size_of}
+use Rattle.term_parse.specs.{declared.error.ParseError.ParseError, Atoms.atoms_of, Reading.reading}
+use Rattle.outcome_trace.specs.{declared.{text_order.Answer.Answer, lines.Refused.Refused}, Lines.{has_line, line_of}, Answers.{IsRefusalAnswer, no_term}}
+use Rattle.outcome_trace.specs.Answers.{no_program, IsProgramAnswer, refuses, runs, IsRefused, IsOfText}
 use Rattle.text_io.specs.declared.status.Status.{Status}
+use Rattle.effect_term.specs.declared.refusal.TermError.TheVariants as term
+use Rattle.term_parse.specs.declared.error.ParseError.TheVariants as parse
 use Rattle.text_io.specs.declared.status.Status.TheVariants as ends
-use Rattle.outcome_trace.specs.declared.lines.Refused.{Refused}
 use Rattle.outcome_trace.specs.declared.lines.Refused.TheVariants as refusals
-use Rattle.outcome_trace.specs.Lines.{has_line, line_of}
-use Rattle.outcome_trace.specs.Answers.{IsRefusalAnswer, no_term, no_program, IsProgramAnswer, refuses, runs, IsRefused, IsOfText}
 
 -- a limit has a line
 limit_told : (deep large : Bool) (m : ℕ) (e : TermError) →
@@ -28,16 +20,7 @@ limit_told false false m e h = cc
 
 parse_told : (e : ParseError) → e ≢ parse.NoMemory → has_line (refusals.Parse e) ≡ true
 parse_told parse.NoMemory h = absurd (h refl)
-parse_told (parse.BadByte p) h = refl
-parse_told (parse.End p) h = refl
-parse_told (parse.UnknownWord p) h = refl
-parse_told (parse.Arity p) h = refl
-parse_told (parse.BadNumber p) h = refl
-parse_told (parse.UnknownName p) h = refl
-parse_told (parse.NameKind p) h = refl
-parse_told (parse.TooDeep p) h = refl
-parse_told (parse.TooLong p) h = refl
-parse_told (parse.Trailing p) h = refl
+parse_told _ h = refl
 
 -- a refusal of a text has a line, but want of memory
 pub text_told : (r : Refused) → IsOfText r → (r ≡ refusals.Parse parse.NoMemory → ⊥) → (r ≡ refusals.Term term.NoMemory → ⊥) → has_line r ≡ true

@@ -1,9 +1,6 @@
 -- Numbers with their signs are text of single bytes, and short.
-use Rattle.std.proofs.Common.{ℤ, pos, negsuc, arith}
+use Rattle.std.{proofs.{Common.{ℤ, pos, negsuc, arith}, lemmas.Fmt.IsAscii-signed}, specs.{Fmt.signed_decimal, Str.IsAscii}}
 use Rattle.effect_term.specs.Values.{IsValue}
-use Rattle.std.specs.Fmt.{signed_decimal}
-use Rattle.std.specs.Str.{IsAscii}
-use Rattle.std.proofs.lemmas.Fmt.{IsAscii-signed}
 
 pub IsAscii-of_signed : (z : ℤ) → IsValue z → IsAscii (signed_decimal z)
 IsAscii-of_signed (pos n) h = IsAscii-signed (pos n) (omega arith)

@@ -1,15 +1,12 @@
 -- What comes of programs under a schedule.
 use Rattle.std.proofs.Common.{◌≡◌, ◌≢◌, ◌⊎◌, ℕ, List, Result, Ok, Err, IfOk, OnOk, inl, inr}
-use Rattle.cell_registry.specs.declared.limits.Limits.{Limits}
-use Rattle.cell_registry.specs.declared.limits.RunError.{RunError}
-use Rattle.cell_registry.specs.declared.limits.RunError.TheVariants as run
+use Rattle.cell_registry.specs.declared.limits.{Limits.Limits, RunError.RunError}
 use Rattle.effect_term.specs.declared.term.Term.{Term}
-use Rattle.outcome_trace.specs.declared.text_order.Answer.{Answer}
-use Rattle.text_io.specs.declared.status.Status.TheVariants as ends
+use Rattle.outcome_trace.specs.{declared.text_order.Answer.Answer, Lines.run_line, ReportText.text_of_fibers, ReplayAnswers.{replayed, report_status}}
+use Rattle.outcome_trace.specs.ReplayAnswers.{IsRunAnswer, reports, faults}
 use Rattle.scheduled_core.specs.declared.report.Report.{Report}
-use Rattle.outcome_trace.specs.Lines.{run_line}
-use Rattle.outcome_trace.specs.ReportText.{text_of_fibers}
-use Rattle.outcome_trace.specs.ReplayAnswers.{replayed, report_status, IsRunAnswer, reports, faults}
+use Rattle.cell_registry.specs.declared.limits.RunError.TheVariants as run
+use Rattle.text_io.specs.declared.status.Status.TheVariants as ends
 
 -- a report is the core's, and so is a fault other than want of memory
 pub report_is_core : (t : Term) (limits : Limits) (schedule : List ℕ) (result : Result Report RunError) (r : Report) → result ≡ Ok r →

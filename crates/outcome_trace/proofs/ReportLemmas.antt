@@ -1,10 +1,6 @@
 -- The text of marks by its parts, and what a buffer has from an index on.
-use Rattle.std.proofs.Common.{◌≡◌, ℕ, ◌-◌, List, [], ◌∷◌, ◌++◌, codes, length, take, drop}
-use Rattle.std.proofs.Common.{refl, sym, ap, ◌∙◌, arith, append_assoc}
-use Rattle.std.specs.Str.{IsAscii}
-use Rattle.std.proofs.lemmas.List.{length-drop, take_all}
-use Rattle.std.proofs.lemmas.Str.{IsAscii-append}
-use Rattle.std.proofs.lemmas.Str.Ascii.{IsAscii-cons, IsAscii-nil}
+use Rattle.std.proofs.{Common.{◌≡◌, ℕ, ◌-◌, List, [], ◌∷◌, ◌++◌, codes, length, take, drop, refl, sym, ap, ◌∙◌, arith, append_assoc}, lemmas.List.length-drop}
+use Rattle.std.{proofs.lemmas.{List.take_all, Str.{IsAscii-append, Ascii.{IsAscii-cons, IsAscii-nil}}}, specs.Str.IsAscii}
 use Rattle.fiber_frames.specs.declared.mark.Mark.{Mark}
 use Rattle.outcome_trace.specs.ReportText.{mark_text, later_marks_text}
 

@@ -1,16 +1,12 @@
 -- Each move keeps the ledger.
-use Rattle.std.proofs.Common.{◌≡◌, ◌≢◌, ◌==◌, if◌then◌else◌, ◌≤◌, ◌<◌, ℕ, zero, suc, true, false, Bool, List}
-use Rattle.std.proofs.Common.{[], ◌∷◌, ◌++◌, length, set, sym, refl, ap, ◌∙◌, subst, ⊎_elim, append_assoc}
-use Rattle.std.proofs.Common.{append-nil, inl, inr, ◌⊎◌, arith}
-use Rattle.std.proofs.lemmas.Bool.Decides.{nat_tests}
-use Rattle.std.proofs.Math.ListN.{length-set, length-append}
+use Rattle.std.proofs.Common.{◌≡◌, ◌≢◌, ◌==◌, if◌then◌else◌, ◌≤◌, ◌<◌, ℕ, zero, suc, true, false, Bool, List, [], ◌∷◌, ◌++◌, length, set, sym, refl, ap, ◌∙◌}
+use Rattle.std.proofs.{Common.{subst, ⊎_elim, append_assoc, append-nil, inl, inr, ◌⊎◌, arith}, lemmas.Bool.Decides.nat_tests, Math.ListN.length-set}
+use Rattle.std.proofs.Math.ListN.{length-append}
 use mathlib.Core.Option.{some, some-ne-none, some-injective}
 use lib.ListN.{get_elem?}
-use Rattle.crossbeam_deque.specs.Tasks.{Pushes, Takes, Finds, FindsFew, Admits}
-use Rattle.crossbeam_deque.proofs.Lists.{at_set}
-use Rattle.ready_queues.specs.declared.traffic.Traffic.{Traffic}
-use Rattle.ready_queues.specs.Ledger.{traffic, numbers, through, KnowsOwn, KeepsLedger}
-use Rattle.ready_queues.specs.Moments.{PutLast, TookFirst, WasEmpty}
+use Rattle.crossbeam_deque.{specs.Tasks.{Pushes, Takes, Finds, Admits}, proofs.Lists.at_set}
+use Rattle.ready_queues.specs.{declared.traffic.Traffic.Traffic, Ledger.{traffic, numbers, through, KnowsOwn, KeepsLedger}, Moments.{PutLast, TookFirst}}
+use Rattle.ready_queues.specs.Moments.{WasEmpty}
 
 -- the entries of one traffic
 abbrev by : ℕ → List ℕ → List (ℕ × ℕ)
@@ -121,14 +117,6 @@ takes port v most xs items ends any few h at =
 
 pub finds : (port : ℕ) (v : Traffic) → Finds KeepsLedger port v (WasEmpty v)
 finds port v ends h at = (ends, port, h, at)
-
-none_left : (items : List ℕ) → length items ≤ 0 → items ≡ []
-none_left [] few = refl
-none_left (x ∷ xs) few = absurd (omega arith)
-
-pub finds_few : (most port : ℕ) (v : Traffic) → most ≡ 0 → FindsFew KeepsLedger most port v (WasEmpty v)
-finds_few most port v zero_is items ends few h at =
-    (ends, port, subst (λ (l : List ℕ). KeepsLedger l ends) (none_left items (omega arith)) h, at)
 
 pub admits : Admits KeepsLedger (traffic [] [])
 admits items ends h = (

@@ -1,19 +1,12 @@
 -- Why fibers haven't ended, and the lines that report it.
-use Rattle.std.proofs.Common.{◌≡◌, ◌≢◌, ◌⊎◌, inl, inr, ℕ, Result, Ok, Err, IfOk, OnOk, Vec, Global, ◌+◌, ◌<◌, ◌≤◌, Bool}
-use Rattle.std.proofs.Common.{List, [], ◌∷◌, ◌++◌, length, drop, get_or, refl, sym, ap, ◌∙◌, subst, append_assoc}
-use Rattle.std.proofs.Common.{append-nil, add-one, suc}
-use Rattle.std.proofs.Math.Seq.{drop-cons}
-use Rattle.std.proofs.lemmas.List.{drop_all}
-use Rattle.cell_registry.specs.Cells.{Cells}
+use Rattle.std.proofs.Common.{◌≡◌, ◌≢◌, ◌⊎◌, inl, inr, ℕ, Result, Ok, Err, IfOk, OnOk, Vec, Global, ◌+◌, ◌<◌, ◌≤◌, Bool, List, [], ◌∷◌, ◌++◌, length, drop}
+use Rattle.std.proofs.{Common.{get_or, refl, sym, ap, ◌∙◌, subst, append_assoc, append-nil, add-one, suc}, Math.Seq.drop-cons, lemmas.List.drop_all}
+use Rattle.cell_registry.specs.{Cells.Cells, declared.limits.{Limits.Limits, RunError.RunError}}
 use Rattle.fiber_frames.specs.Fiber.{Fiber}
-use Rattle.cell_registry.specs.declared.limits.Limits.{Limits}
-use Rattle.cell_registry.specs.declared.limits.RunError.{RunError}
-use Rattle.cell_registry.specs.declared.limits.RunError.TheVariants as run
 use Rattle.derived_ops.specs.Tree.{Tree}
-use Rattle.scheduled_core.specs.Core.{World, core}
-use Rattle.scheduled_core.specs.Whys.{IsWhy}
-use Rattle.scheduled_core.specs.declared.why.Why.{Why}
+use Rattle.scheduled_core.specs.{Core.{World, core}, Whys.IsWhy, declared.why.Why.Why}
 use Rattle.reasons.specs.Whys.{AreWhyLines, IsUnendedText, fault, why_line}
+use Rattle.cell_registry.specs.declared.limits.RunError.TheVariants as run
 
 -- these lines, followed by those of the fibers from number i on, are the lines of all fibers
 abbrev pub AreFront : Bool → Cells → List Fiber → ℕ → List ℕ → Type 0

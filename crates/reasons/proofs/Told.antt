@@ -1,14 +1,11 @@
 -- The reasons of a refused text.
 use Rattle.std.proofs.Common.{◌≡◌, ◌≢◌, inl, inr, ℕ, List, ◌++◌, Some, None, Result, Ok, Err, IfOk, OnOk, Vec, Global, take, sym, subst}
 use Rattle.effect_term.specs.declared.refusal.TermError.{TermError}
-use Rattle.effect_term.specs.declared.refusal.TermError.TheVariants as term
 use Rattle.term_parse.specs.declared.error.ParseError.{ParseError}
+use Rattle.outcome_trace.specs.{declared.lines.Refused.{Refused, TheVariants.{Parse, Term}}, Answers.IsRefused}
+use Rattle.reasons.specs.{Place.position_of, Refusals.{IsTextReasons, at_fault, limit_text, past_limit, place_heading, place_of}}
+use Rattle.effect_term.specs.declared.refusal.TermError.TheVariants as term
 use Rattle.term_parse.specs.declared.error.ParseError.TheVariants as parse
-use Rattle.outcome_trace.specs.declared.lines.Refused.{Refused}
-use Rattle.outcome_trace.specs.declared.lines.Refused.TheVariants.{Parse, Term}
-use Rattle.outcome_trace.specs.Answers.{IsRefused}
-use Rattle.reasons.specs.Place.{position_of}
-use Rattle.reasons.specs.Refusals.{IsTextReasons, at_fault, limit_text, past_limit, place_heading, place_of}
 
 no_memory : (e : ParseError) (p : ℕ) → place_of e ≡ Some p → e ≢ parse.NoMemory
 no_memory e p h = λ same. let bad : None ≡ Some p = subst (λ (x : ParseError). place_of x ≡ Some p) same h in cc

@@ -1,32 +1,18 @@
 -- Fibers that were gathered go on beside the registry that their run leaves.
 use Rattle.std.proofs.Common.{◌≡◌, ℕ, ◌+◌, List, [], ◌∷◌, ◌++◌, length, map, Option, None, Some, Ok, Err, fold, ◌⊎◌, inl, inr, refl, sym, ap, ◌∙◌, subst}
-use Rattle.std.specs.List.{slice_get}
-use Rattle.std.proofs.lemmas.List.{length-append}
-use Rattle.std.proofs.lemmas.List.Sums.{fold-append}
+use Rattle.std.{proofs.lemmas.List.{length-append, Sums.fold-append}, specs.List.slice_get}
 use Rattle.derived_ops.specs.Tree.{Tree}
 use Rattle.fiber_frames.specs.Fiber.{Fiber}
-use Rattle.cell_registry.specs.declared.limits.Limits.{Limits}
-use Rattle.cell_registry.specs.declared.limits.RunError.{RunError}
-use Rattle.cell_registry.specs.declared.limits.RunError.TheVariants as fault
-use Rattle.cell_registry.specs.Histories.{left}
-use Rattle.cell_registry.specs.Passes.{PassView, RegistryView}
-use Rattle.cell_registry.specs.Plain.{IsLeftPlain, PlainView}
-use Rattle.scheduled_core.specs.declared.report.Report.{Report}
-use Rattle.scheduled_core.specs.Core.{World, core, entered, fiber_report, first_world}
-use Rattle.scheduled_core.specs.Finals.{IsFinal, IsFinalReport, IsStopped}
-use Rattle.scheduled_core.specs.Fitting.{AllFit, Fits, cell_registered, world_of}
-use Rattle.scheduled_core.specs.Spending.{AreSpent, IsSpentReport, SpendsMany}
-use Rattle.scheduled_core.specs.Stands.{IsOfSomeSchedule, Stands}
-use Rattle.scheduled_core.proofs.Continuing.{all_gathered, final_of, fits_longer, leads_on, schedule_of, some_report}
-use Rattle.scheduled_core.proofs.Standing.Lists.{get_early, get_last}
-use Rattle.scheduled_core.proofs.Standing.AfterATurn.{stands-longer}
+use Rattle.cell_registry.specs.{declared.limits.{Limits.Limits, RunError.RunError}, Histories.left, Passes.{PassView, RegistryView}, Plain.IsLeftPlain}
+use Rattle.cell_registry.specs.Plain.{PlainView}
+use Rattle.scheduled_core.specs.{declared.report.Report.Report, Core.{World, core, entered, fiber_report, first_world}, Finals.{IsFinal, IsFinalReport}}
+use Rattle.scheduled_core.specs.{Finals.IsStopped, Fitting.{AllFit, Fits, cell_registered, world_of}, Spending.{AreSpent, IsSpentReport, SpendsMany}}
+use Rattle.scheduled_core.{specs.Stands.{IsOfSomeSchedule, Stands}, proofs.Continuing.{all_gathered, final_of, fits_longer, leads_on, schedule_of, some_report}}
+use Rattle.scheduled_core.proofs.Standing.{Lists.{get_early, get_last}, AfterATurn.stands-longer}
 use Rattle.fiber_poll.specs.Tasks.{IsBroken}
-use Rattle.run_ends.specs.declared.finishing.RunEnd.{RunEnd}
-use Rattle.run_ends.specs.Ends.{IsEnd, IsFaultOfSomeSchedule, IsNoRefusal, IsRunFault, TellsUnended}
-use Rattle.run_ends.specs.Leaving.{FinishesLeft, Gathered}
-use Rattle.run_ends.specs.Private.Gathered.{AreInOrder, IsIn}
-use Rattle.run_ends.proofs.Lining.{reported_at}
-use Rattle.run_ends.proofs.Meeting.{last_or}
+use Rattle.run_ends.specs.{declared.finishing.RunEnd.RunEnd, Ends.{IsEnd, IsFaultOfSomeSchedule, IsRunFault, TellsUnended}, Leaving.FinishesLeft}
+use Rattle.run_ends.{specs.{Leaving.Gathered, Private.Gathered.{AreInOrder, IsIn}}, proofs.{Lining.reported_at, Meeting.last_or}}
+use Rattle.cell_registry.specs.declared.limits.RunError.TheVariants as fault
 
 -- where nobody has stopped the report is final, else it tells who is unended
 pub final_or_unended : (o : Option ℕ) (F : Type 0) (U : ℕ → Type 0) → (o ≡ None → F) → ((f : ℕ) → o ≡ Some f → U f) → F ⊎ ((f : ℕ) × U f)
@@ -34,12 +20,6 @@ final_or_unended None F U final stopped = inl (final refl)
 final_or_unended (Some f) F U final stopped = inr (f, stopped f refl)
 
 -- ---- the states in order
-pub none_in_order : (all fibers : List Fiber) → fibers ≡ [] → AreInOrder all 0 fibers
-none_in_order all fibers e = record {
-  many = ap length e;
-  each = λ f s h. absurd (let no : slice_get [] f ≡ Some s = subst (λ (l : List Fiber). slice_get l f ≡ Some s) e h in cc);
-}
-
 -- the next one is taken from the end of what is left
 pub next_in_order : (all now rest : List Fiber) (s : Fiber) (n : ℕ) (fibers later : List Fiber) →
     ((i : ℕ) (t : Fiber) → slice_get now i ≡ Some t → slice_get all i ≡ Some t)
@@ -164,13 +144,6 @@ core_fault code k (fault.Spent f) h = h
 core_fault code k fault.NoMemory h = tt
 core_fault code k (fault.Lost f) h = tt
 core_fault code k fault.NoWorker h = tt
-
-pub other_fault : (code : Tree) (k : Limits) (e : RunError) → IsNoRefusal e → IsRunFault code k e
-other_fault code k (fault.Full band n) h = absurd h
-other_fault code k (fault.Spent f) h = absurd h
-other_fault code k fault.NoMemory h = tt
-other_fault code k (fault.Lost f) h = tt
-other_fault code k fault.NoWorker h = tt
 
 pub no_memory_fault : (code : Tree) (k : Limits) (e : RunError) → e ≡ fault.NoMemory → IsRunFault code k e
 no_memory_fault code k e is = rw is tt

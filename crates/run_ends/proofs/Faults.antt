@@ -1,23 +1,16 @@
 -- A fault of the core that tells how many numbers a band has tells its limit.
-use Rattle.std.proofs.Common.{◌≡◌, ℕ, ◌==◌, Bool, true, false, cond, List, [], ◌∷◌, Option, None, Some, Result, Ok, Err, fold, refl, sym, ◌∙◌}
+use Rattle.std.proofs.Common.{◌≡◌, ℕ, ◌==◌, Bool, true, false, cond, List, [], ◌∷◌, Option, None, Some, Result, Ok, Err, fold, refl, ◌∙◌}
 use Rattle.std.specs.List.{slice_get}
-use Rattle.effect_term.specs.declared.reply.Reply.{Reply}
 use Rattle.derived_ops.specs.Tree.{Tree}
 use Rattle.fiber_frames.specs.Fiber.{Fiber, ask_of}
-use Rattle.cell_registry.specs.Bands.{limit_of}
-use Rattle.cell_registry.specs.Cells.{Cells, cell_of, refusal}
-use Rattle.cell_registry.specs.declared.call.Call.{Call}
+use Rattle.cell_registry.specs.{Bands.limit_of, Cells.{Cells, cell_of, refusal}, declared.{call.Call.Call, limits.{Band.Band, CellError.CellError}}}
+use Rattle.cell_registry.specs.declared.limits.{Limits.Limits, RunError.RunError}
+use Rattle.scheduled_core.specs.{declared.wish.Wish.{Wish, TheVariants.{Shared, Alone, Nothing}}, Core.{World, answered, core, entered, first_world, turned}}
+use Rattle.scheduled_core.specs.Core.{wish_of, wished}
 use Rattle.cell_registry.specs.declared.call.Call.TheVariants as call
-use Rattle.cell_registry.specs.declared.limits.Band.{Band}
 use Rattle.cell_registry.specs.declared.limits.Band.TheVariants as band
-use Rattle.cell_registry.specs.declared.limits.CellError.{CellError}
 use Rattle.cell_registry.specs.declared.limits.CellError.TheVariants as cell
-use Rattle.cell_registry.specs.declared.limits.Limits.{Limits}
-use Rattle.cell_registry.specs.declared.limits.RunError.{RunError}
 use Rattle.cell_registry.specs.declared.limits.RunError.TheVariants as run
-use Rattle.scheduled_core.specs.declared.wish.Wish.{Wish}
-use Rattle.scheduled_core.specs.declared.wish.Wish.TheVariants.{Shared, Alone, Nothing}
-use Rattle.scheduled_core.specs.Core.{World, answered, core, entered, first_world, turned, wish_of, wished}
 
 -- a refused call tells the limit
 abbrev IsWithin : Limits → CellError → Type 0
@@ -38,20 +31,13 @@ spent_within false k n e same = absurd (let no = same in cc)
 refusal_within : (k : Limits) (s : Cells) (by : ℕ) (c : Call) (e : CellError) → refusal k s by c ≡ Some e → IsWithin k e
 unfolding refusal
 refusal_within k s by call.Start e h = full_within (s.next_fiber == k.fibers) k band.Fibers k.fibers e refl h
-refusal_within k s by (call.Cancel f) e h = absurd (let no = h in cc)
-refusal_within k s by (call.Join f) e h = absurd (let no = h in cc)
-refusal_within k s by call.Look e h = absurd (let no = h in cc)
 refusal_within k s by call.Mask e h = spent_within ((cell_of s by).count == k.count) k (cell_of s by).count e h
 refusal_within k s by call.Unmask e h = spent_within ((cell_of s by).count == k.count) k (cell_of s by).count e h
 refusal_within k s by call.Cut e h = spent_within ((cell_of s by).count == k.count) k (cell_of s by).count e h
 refusal_within k s by (call.Finish o) e h = spent_within ((cell_of s by).count == k.count) k (cell_of s by).count e h
 refusal_within k s by call.NewRef e h = full_within (s.next_ref == k.refs) k band.Refs k.refs e refl h
 refusal_within k s by call.NewDeferred e h = full_within (s.next_deferred == k.deferreds) k band.Deferreds k.deferreds e refl h
-refusal_within k s by (call.Get r) e h = absurd (let no = h in cc)
-refusal_within k s by (call.Set r v) e h = absurd (let no = h in cc)
-refusal_within k s by (call.Modify r v) e h = absurd (let no = h in cc)
-refusal_within k s by (call.Complete d v) e h = absurd (let no = h in cc)
-refusal_within k s by (call.Read d) e h = absurd (let no = h in cc)
+refusal_within k s by _ e h = absurd (let no = h in cc)
 
 -- and so does the entry that makes it
 answered_full : (k : Limits) (w : World) (f : ℕ) (g : Fiber) (c : Call) (o : Option CellError) → ((e : CellError) → o ≡ Some e → IsWithin k e) →

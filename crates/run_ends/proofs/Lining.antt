@@ -1,13 +1,9 @@
 -- Lines of a report, one after another.
 use Rattle.std.proofs.Common.{◌≡◌, ℕ, zero, suc, ◌+◌, ◌<◌, List, [], ◌∷◌, ◌++◌, All, length, map, inl, inr, Some, refl, sym, ap, ◌∙◌, subst, arith}
-use Rattle.std.specs.List.{slice_get}
-use Rattle.std.proofs.lemmas.List.{length-append, map-append}
-use Rattle.std.proofs.lemmas.Option.{same_Some}
+use Rattle.std.{proofs.lemmas.{List.{length-append, map-append}, Option.same_Some}, specs.List.slice_get}
 use Rattle.fiber_frames.specs.Fiber.{Fiber}
-use Rattle.scheduled_core.specs.declared.report.FiberReport.{FiberReport}
-use Rattle.scheduled_core.specs.Core.{fiber_report}
-use Rattle.run_ends.specs.Private.Gathered.{AreLines, IsIn, IsLeast, IsNowhere}
-use Rattle.run_ends.proofs.Meeting.{last_or}
+use Rattle.scheduled_core.specs.{declared.report.FiberReport.FiberReport, Core.fiber_report}
+use Rattle.run_ends.{specs.Private.Gathered.{AreLines, IsIn, IsLeast, IsNowhere}, proofs.Meeting.last_or}
 
 pub found : (xs : List Fiber) (g : ℕ) → g < length xs → (s : Fiber) × (slice_get xs g ≡ Some s)
 found [] g h = absurd (omega arith)
@@ -25,9 +21,6 @@ pub report_of : (xs : List Fiber) (f : ℕ) (line : FiberReport) → slice_get (
 report_of [] f line e = absurd (cc)
 report_of (x ∷ xs) zero line e = (x, refl)
 report_of (x ∷ xs) (suc f) line e = report_of xs f line e
-
-pub no_lines : (configs : List Fiber) → AreLines configs 0 []
-no_lines configs = record { finals = []; lines_are = refl; many = refl; each = λ f s e. absurd (cc) }
 
 pub more_lines : (configs : List Fiber) (n : ℕ) (lines : List FiberReport) (s : Fiber) → AreLines configs n lines → IsIn s configs n →
     AreLines configs (n + 1) (lines ++ fiber_report s ∷ [])

@@ -1,25 +1,16 @@
 -- Passes that meet, and where the fibers of their tasks stand.
 use Rattle.std.proofs.Common.{◌≡◌, ℕ, zero, suc, ◌+◌, ◌<◌, List, [], ◌∷◌, ◌++◌, length, get_or, All, ◌⊎◌, inl, inr, Some, Ok, refl, sym, ap, ◌∙◌, subst, arith}
-use Rattle.std.specs.List.{slice_get}
-use Rattle.std.proofs.lemmas.Option.{same_Some}
+use Rattle.std.{proofs.lemmas.Option.same_Some, specs.List.slice_get}
 use mathlib.Core.List.{IsPrefix}
 use Rattle.derived_ops.specs.Tree.{Tree}
 use Rattle.fiber_frames.specs.Fiber.{Fiber}
-use Rattle.cell_registry.specs.declared.limits.Limits.{Limits}
-use Rattle.cell_registry.specs.Histories.{IsLegal, calls_by, left}
-use Rattle.cell_registry.specs.Passes.{Counts, IsPass, Meets, PassView, RegistryView}
+use Rattle.cell_registry.specs.{declared.limits.Limits.Limits, Histories.{IsLegal, calls_by, left}, Passes.{Counts, IsPass, Meets, PassView, RegistryView}}
 use Rattle.cell_registry.specs.Rule.{Has}
-use Rattle.scheduled_core.specs.declared.report.FiberReport.{FiberReport}
-use Rattle.scheduled_core.specs.Core.{reported}
-use Rattle.scheduled_core.specs.Fitting.{Fits, cell_registered, world_of}
-use Rattle.scheduled_core.specs.Stands.{IsOfSomeSchedule, Stands}
-use Rattle.scheduled_core.proofs.Continuing.{fits_longer, fits_pass, schedule_of}
-use Rattle.scheduled_core.proofs.Standing.Lists.{get_last}
-use Rattle.scheduled_core.proofs.Standing.AfterATurn.{stands-longer}
+use Rattle.scheduled_core.specs.{declared.report.FiberReport.FiberReport, Core.reported, Fitting.{Fits, cell_registered, world_of}, Stands.IsOfSomeSchedule}
+use Rattle.scheduled_core.{specs.Stands.Stands, proofs.{Continuing.{fits_longer, fits_pass, schedule_of}, Standing.{Lists.get_last, AfterATurn.stands-longer}}}
 use Rattle.scheduled_core.proofs.Standing.Schedules.{some_schedules}
 use Rattle.fiber_poll.specs.Tasks.{IsTask, IsTaskOf, TaskView}
-use Rattle.run_ends.specs.Leaving.{Gathered, IsMet}
-use Rattle.run_ends.specs.Private.Gathered.{AreLines, AreMet, AreRests, IsAtHome}
+use Rattle.run_ends.specs.{Leaving.{Gathered, IsMet}, Private.Gathered.{AreLines, AreMet, AreRests, IsAtHome}}
 
 pub has-left : (xs ys : List ℕ) (f : ℕ) → Has xs f → Has (xs ++ ys) f
 has-left [] ys f h = absurd h

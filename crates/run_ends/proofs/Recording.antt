@@ -1,16 +1,11 @@
 -- What a replay tells of the schedule of a run.
 use Rattle.std.proofs.Common.{◌≡◌, ◌≢◌, ◌⊎◌, ℕ, inl, inr, None, Result, Ok, Err, IfOk, sym, ◌∙◌}
 use Rattle.derived_ops.specs.Tree.{Tree}
-use Rattle.cell_registry.specs.declared.limits.Limits.{Limits}
-use Rattle.cell_registry.specs.declared.limits.RunError.{RunError}
-use Rattle.cell_registry.specs.declared.limits.RunError.TheVariants as fault
-use Rattle.scheduled_core.specs.declared.report.Report.{Report}
-use Rattle.scheduled_core.specs.Covers.{IsInEachCover}
-use Rattle.scheduled_core.specs.Finals.{IsSettledReport}
-use Rattle.scheduled_core.proofs.Continuing.{settled_of}
+use Rattle.cell_registry.specs.declared.limits.{Limits.Limits, RunError.RunError}
+use Rattle.scheduled_core.{specs.{declared.report.Report.Report, Covers.IsInEachCover, Finals.IsSettledReport}, proofs.Continuing.settled_of}
 use Rattle.scheduled_core.proofs.Covering.{settled_listed}
-use Rattle.run_ends.specs.declared.finishing.RunEnd.{RunEnd}
-use Rattle.run_ends.specs.Ends.{IsEnd}
+use Rattle.run_ends.specs.{declared.finishing.RunEnd.RunEnd, Ends.IsEnd}
+use Rattle.cell_registry.specs.declared.limits.RunError.TheVariants as fault
 
 -- what a replay came to, for which there was memory, is what the core comes to
 pub replayed_comes : (came end of_core : Result Report RunError) → (came ≡ Err fault.NoMemory) ⊎ (came ≡ of_core) → came ≢ Err fault.NoMemory →

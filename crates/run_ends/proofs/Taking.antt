@@ -1,19 +1,13 @@
 -- Tasks that are taken apart, one after another.
-use Rattle.std.proofs.Common.{◌≡◌, ℕ, ◌<◌, ◌⊎◌, List, [], ◌∷◌, ◌++◌, length, inl, inr, Some, refl, sym, ap, ◌∙◌, subst, append_assoc, append-nil, arith}
+use Rattle.std.proofs.Common.{◌≡◌, ℕ, ◌<◌, ◌⊎◌, List, [], ◌∷◌, ◌++◌, length, inl, inr, Some, refl, sym, ap, ◌∙◌, subst, append_assoc, append-nil}
 use Rattle.std.specs.List.{slice_get}
 use mathlib.Core.List.{IsPrefix}
 use Rattle.fiber_frames.specs.Fiber.{Fiber}
-use Rattle.cell_registry.specs.Histories.{calls_by, left}
-use Rattle.cell_registry.specs.Passes.{Counts, IsPass, Meets, OnlySees, PassView, RegistryView}
-use Rattle.cell_registry.specs.Rule.{Has}
-use Rattle.scheduled_core.specs.declared.report.FiberReport.{FiberReport}
-use Rattle.scheduled_core.specs.Core.{fiber_report}
-use Rattle.scheduled_core.proofs.Standing.Lists.{get_early, get_last}
+use Rattle.cell_registry.specs.{Histories.{calls_by, left}, Passes.{Counts, IsPass, Meets, OnlySees, PassView, RegistryView}, Rule.Has}
+use Rattle.scheduled_core.{specs.{declared.report.FiberReport.FiberReport, Core.fiber_report}, proofs.Standing.Lists.{get_early, get_last}}
 use Rattle.fiber_poll.specs.Tasks.{IsTask, TaskView}
-use Rattle.run_ends.specs.Private.Gathered.{AreLines, IsLeast, IsOut, Taken}
-use Rattle.run_ends.specs.Gathering.{IsMissing, TellsEach, TellsNoOther}
-use Rattle.run_ends.proofs.Lining.{found, report_of, reported_at}
-use Rattle.run_ends.proofs.Meeting.{has-left, has-right, last_or}
+use Rattle.run_ends.{specs.{Private.Gathered.{AreLines, IsLeast, IsOut, Taken}, Gathering.{IsMissing, TellsEach, TellsNoOther}}, proofs.Lining.found}
+use Rattle.run_ends.proofs.{Lining.{report_of, reported_at}, Meeting.{has-left, has-right, last_or}}
 
 prefix_join : {A : Type 0} (x y z : List A) → IsPrefix x y → IsPrefix y z → IsPrefix x z
 prefix_join x y z p q = (p.0 ++ q.0, sym (append_assoc x p.0 q.0) ∙ ap (λ w. w ++ q.0) p.1 ∙ q.1)
@@ -142,14 +136,6 @@ missing r all met q configs n f home taken c l = record {
     own = λ i t e. elim (taken.out i t e) [ inl h ↦ absurd (let x = h in cc) | inr h ↦ c.look.own t.state.number (taken.has h.place t.state h.here) ∙ h.own ];
     below = subst (λ (v : RegistryView). f < (left v.limits q.seen).next_fiber) home (subst (λ m. f < m) (sym c.next) l.below);
   });
-}
-
--- where there is no task, the first fiber has none
-pub none_missing : (r : RegistryView) (all : List TaskView) → all ≡ [] → IsMissing r.limits all 0
-none_missing r all e = record {
-  none = λ i t h. absurd (let q : slice_get [] i ≡ Some t = subst (λ (l : List TaskView). slice_get l i ≡ Some t) e h in cc);
-  before = λ g less. absurd (omega arith);
-  born = inl refl;
 }
 
 -- ---- the report is that of the tasks

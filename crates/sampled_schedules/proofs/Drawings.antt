@@ -1,27 +1,14 @@
 -- Schedules that are drawn.
-use Rattle.std.proofs.Common.{◌≡◌, ◌≢◌, inl, inr, ℕ, zero, suc, ◌+◌, Bool, true, false, List, [], ◌∷◌, length, Result, Ok, Err, IfOk}
-use Rattle.std.proofs.Common.{refl, sym, ap, ◌∙◌, subst, arith}
-use Rattle.std.specs.Prelude.{Some}
-use Rattle.std.specs.List.{All, slice_get}
-use Rattle.std.specs.Option.{option_map}
-use Rattle.std.proofs.lemmas.Option.{same_Some, slice_get-map}
+use Rattle.std.proofs.Common.{◌≡◌, ◌≢◌, inl, inr, ℕ, zero, suc, ◌+◌, Bool, true, false, List, [], ◌∷◌, length, Result, Ok, Err, IfOk, refl, sym, ap, ◌∙◌, subst}
+use Rattle.std.{proofs.{Common.arith, lemmas.Option.{same_Some, slice_get-map}}, specs.{Prelude.Some, List.{All, slice_get}, Option.option_map}}
 use Rattle.derived_ops.specs.Tree.{Tree}
-use Rattle.cell_registry.specs.declared.limits.Limits.{Limits}
-use Rattle.cell_registry.specs.declared.limits.RunError.{RunError}
-use Rattle.cell_registry.specs.declared.limits.RunError.TheVariants as run
-use Rattle.scheduled_core.specs.declared.report.Report.{Report}
-use Rattle.scheduled_core.specs.Core.{World, core, fiber_report, first_world, reported}
-use Rattle.scheduled_core.specs.Finals.{IsFinal}
-use Rattle.every_schedule.specs.declared.exploration.Answer.{Answer}
-use Rattle.every_schedule.specs.Explored.{IsReached}
-use Rattle.every_schedule.proofs.Told.{all_at, all_from}
-use Rattle.sampled_schedules.specs.declared.comings.Coming.{Coming}
-use Rattle.sampled_schedules.specs.declared.comings.Drawn.{Drawn}
-use Rattle.sampled_schedules.specs.Sampled.{IsCutShort, IsDrawing, IsSampleOf, IsUnended, StaysSo}
-use Rattle.sampled_schedules.specs.Private.Noting.{IsNoted}
-use Rattle.sampled_schedules.specs.Private.Walking.{HasUnendedFiber, came, was_cut}
-use Rattle.sampled_schedules.proofs.Tallies.{nothing_tallied, tallied}
+use Rattle.cell_registry.specs.declared.limits.{Limits.Limits, RunError.RunError}
+use Rattle.scheduled_core.specs.{declared.report.Report.Report, Core.{World, core, fiber_report, first_world, reported}, Finals.IsFinal}
+use Rattle.every_schedule.{specs.{declared.exploration.Answer.Answer, Explored.IsReached}, proofs.Told.{all_at, all_from}}
+use Rattle.sampled_schedules.specs.{declared.comings.{Coming.Coming, Drawn.Drawn}, Sampled.{IsCutShort, IsDrawing, IsSampleOf, IsUnended, StaysSo}}
+use Rattle.sampled_schedules.{specs.Private.{Noting.IsNoted, Walking.{HasUnendedFiber, came, was_cut}}, proofs.Tallies.{nothing_tallied, tallied}}
 use Rattle.sampled_schedules.proofs.Walked.{IsWalkOr, Stays, final_stays_so, went}
+use Rattle.cell_registry.specs.declared.limits.RunError.TheVariants as run
 
 start : (code : Tree) (k : Limits) (w : World) → w ≡ first_world code k → core code k [] ≡ Ok w
 unfolding core

@@ -1,22 +1,15 @@
 -- The tally of the schedules that were drawn, after one more.
-use Rattle.std.proofs.Common.{◌≡◌, ◌≢◌, ◌⊎◌, inl, inr, ℕ, zero, suc, ◌+◌, ◌<◌, ◌≤◌, List, [], ◌∷◌, ◌++◌, length, set}
-use Rattle.std.proofs.Common.{get_or, Bool, true, false, Result, refl, sym, ap, ◌∙◌, subst, arith}
-use Rattle.std.specs.Prelude.{Some, ◌&&◌}
-use Rattle.std.specs.List.{All, slice_get, sum_by}
-use Rattle.std.proofs.lemmas.Option.{get_or_from_slice_get, same_Some, slice_get_within}
-use Rattle.std.proofs.lemmas.List.Elements.{All-push, All-same}
-use Rattle.std.proofs.lemmas.List.Sums.{get_or-le-sum_by, sum_by-set, sum_by_push}
+use Rattle.std.proofs.Common.{◌≡◌, ◌≢◌, ◌⊎◌, inl, inr, ℕ, zero, suc, ◌+◌, ◌<◌, ◌≤◌, List, [], ◌∷◌, ◌++◌, length, set, get_or, Bool, true, false, Result, refl}
+use Rattle.std.proofs.{Common.{sym, ap, ◌∙◌, subst, arith}, lemmas.{Option.{get_or_from_slice_get, same_Some, slice_get_within}, List.Elements.All-push}}
+use Rattle.std.{proofs.lemmas.List.{Elements.All-same, Sums.{get_or-le-sum_by, sum_by-set, sum_by_push}}, specs.{Prelude.{Some, ◌&&◌}, List.{All, slice_get}}}
+use Rattle.std.specs.List.{sum_by}
 use mathlib.Core.Logic.{dite}
 use native.Mathlib.Decide.{ℕ_discrete}
 use Rattle.cell_registry.specs.declared.limits.RunError.{RunError}
-use Rattle.scheduled_core.specs.declared.report.Report.{Report}
-use Rattle.scheduled_core.proofs.Lists.{parted, slice_get-set_other, slice_get-set_same}
-use Rattle.every_schedule.specs.declared.exploration.Answer.{Answer}
-use Rattle.every_schedule.proofs.Told.{all_at, all_from}
-use Rattle.sampled_schedules.specs.declared.comings.Coming.{Coming}
-use Rattle.sampled_schedules.specs.declared.comings.Drawn.{Drawn}
-use Rattle.sampled_schedules.specs.Sampled.{AllCut, EndSo, IsFirst, IsTally, IsTold, SomeUncut, another, none, one_more}
-use Rattle.sampled_schedules.specs.Private.Noting.{Again, First, IsNoted, came_in_all, coming_of, raised}
+use Rattle.scheduled_core.{specs.declared.report.Report.Report, proofs.Lists.{parted, slice_get-set_other, slice_get-set_same}}
+use Rattle.every_schedule.{specs.declared.exploration.Answer.Answer, proofs.Told.{all_at, all_from}}
+use Rattle.sampled_schedules.specs.{declared.comings.{Coming.Coming, Drawn.Drawn}, Sampled.{AllCut, EndSo, IsFirst, IsTally, IsTold, SomeUncut, another, none}}
+use Rattle.sampled_schedules.specs.{Sampled.one_more, Private.Noting.{Again, First, IsNoted, came_in_all, coming_of, raised}}
 
 -- ---- the number of schedules
 raises : (cs : List Coming) (i : ℕ) (c : Coming) (cut : Bool) → slice_get cs i ≡ Some c → came_in_all (set cs i (raised c cut)) ≡ came_in_all cs + 1

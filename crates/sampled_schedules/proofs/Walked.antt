@@ -1,17 +1,12 @@
 -- Schedules that are drawn entry by entry.
-use Rattle.std.proofs.Common.{◌≡◌, ◌⊎◌, inl, inr, ℕ, ◌+◌, ◌<◌, ◌≤◌, List, [], ◌∷◌, ◌++◌, length, Result, Ok, Err, IfErr}
-use Rattle.std.proofs.Common.{OnOk, sym, ap, ◌∙◌, subst, arith, length-append}
-use Rattle.std.specs.List.{All, fold}
-use Rattle.std.proofs.lemmas.List.Elements.{All-push}
+use Rattle.std.proofs.Common.{◌≡◌, ◌⊎◌, inl, inr, ℕ, ◌+◌, ◌<◌, ◌≤◌, List, [], ◌∷◌, ◌++◌, length, Result, Ok, Err, IfErr, OnOk, sym, ap, ◌∙◌, subst, arith}
+use Rattle.std.{proofs.{Common.length-append, lemmas.List.Elements.All-push}, specs.List.{All, fold}}
 use Rattle.derived_ops.specs.Tree.{Tree}
-use Rattle.cell_registry.specs.declared.limits.Limits.{Limits}
-use Rattle.cell_registry.specs.declared.limits.RunError.{RunError}
-use Rattle.cell_registry.specs.declared.limits.RunError.TheVariants as run
-use Rattle.scheduled_core.specs.declared.report.FiberReport.{FiberReport}
-use Rattle.scheduled_core.specs.Core.{World, core, entered, first_world, reported}
-use Rattle.scheduled_core.specs.Finals.{IsFinal}
+use Rattle.cell_registry.specs.declared.limits.{Limits.Limits, RunError.RunError}
+use Rattle.scheduled_core.specs.{declared.report.FiberReport.FiberReport, Core.{World, core, entered, first_world, reported}, Finals.IsFinal}
 use Rattle.scheduled_core.proofs.Finality.{final_stays, fold_parts}
 use Rattle.sampled_schedules.specs.Private.Walking.{IsWalk, came}
+use Rattle.cell_registry.specs.declared.limits.RunError.TheVariants as run
 
 -- one more entry
 core_more : (code : Tree) (k : Limits) (s : List ℕ) (f : ℕ) (x y : Result World RunError) → core code k s ≡ x → entered k x f ≡ y →

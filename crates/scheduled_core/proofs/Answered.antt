@@ -1,14 +1,11 @@
 -- A reply of the registry is of the kind that the ask wants.
 use Rattle.std.proofs.Common.{◌≡◌, ◌≢◌, ℕ, subst}
+use Rattle.fiber_frames.specs.{declared.ask.Ask.Ask, Answers.Answers}
+use Rattle.cell_registry.specs.{declared.call.Call.Call, Cells.{Cells, reply_of}}
+use Rattle.scheduled_core.specs.{declared.wish.Wish.TheVariants.{Shared, Alone}, Core.wish_of}
 use Rattle.effect_term.specs.declared.reply.Reply.TheVariants as reply
-use Rattle.fiber_frames.specs.declared.ask.Ask.{Ask}
 use Rattle.fiber_frames.specs.declared.ask.Ask.TheVariants as ask
-use Rattle.fiber_frames.specs.Answers.{Answers}
-use Rattle.cell_registry.specs.declared.call.Call.{Call}
 use Rattle.cell_registry.specs.declared.call.Call.TheVariants as call
-use Rattle.cell_registry.specs.Cells.{Cells, reply_of}
-use Rattle.scheduled_core.specs.declared.wish.Wish.TheVariants.{Shared, Alone}
-use Rattle.scheduled_core.specs.Core.{wish_of}
 
 pub called_answers : (s : Cells) (i n : ℕ) (a : Ask) (c : Call) → wish_of a ≡ Shared c → c ≢ call.Start → Answers n a (reply_of s i c)
 unfolding reply_of
@@ -28,26 +25,13 @@ called_answers s i n ask.NewDeferred c h other = subst (λ (x : Call). Answers n
 called_answers s i n (ask.Complete d v) c h other =
     subst (λ (x : Call). Answers n (ask.Complete d v) (reply_of s i x)) (let e : call.Complete d v ≡ c = cc in e) tt
 called_answers s i n (ask.Read d) c h other = subst (λ (x : Call). Answers n (ask.Read d) (reply_of s i x)) (let e : call.Read d ≡ c = cc in e) tt
-called_answers s i n ask.Silent c h other = absurd (cc)
-called_answers s i n (ask.Over o) c h other = absurd (cc)
-called_answers s i n ask.Broken c h other = absurd (cc)
+called_answers s i n _ c h other = absurd (cc)
 
 pub alone_answers : (n : ℕ) (a : Ask) → wish_of a ≡ Alone → Answers n a reply.Done
 alone_answers n ask.Silent h = tt
-alone_answers n ask.Look h = absurd (cc)
 alone_answers n ask.Cut h = tt
 alone_answers n ask.Mask h = tt
 alone_answers n ask.Unmask h = tt
 alone_answers n (ask.Finish o) h = tt
-alone_answers n (ask.Cancel f) h = absurd (cc)
-alone_answers n (ask.Join f) h = absurd (cc)
-alone_answers n ask.Start h = absurd (cc)
-alone_answers n ask.NewRef h = absurd (cc)
-alone_answers n (ask.Get r) h = absurd (cc)
 alone_answers n (ask.Set r v) h = tt
-alone_answers n (ask.Modify r v) h = absurd (cc)
-alone_answers n ask.NewDeferred h = absurd (cc)
-alone_answers n (ask.Complete d v) h = absurd (cc)
-alone_answers n (ask.Read d) h = absurd (cc)
-alone_answers n (ask.Over o) h = absurd (cc)
-alone_answers n ask.Broken h = absurd (cc)
+alone_answers n _ h = absurd (cc)

@@ -2,11 +2,8 @@
 use Rattle.std.proofs.Common.{◌≡◌, ℕ, subst}
 use Rattle.effect_term.specs.declared.reply.Reply.{Reply}
 use Rattle.derived_ops.specs.Naming.{Given}
-use Rattle.fiber_frames.specs.declared.ask.Ask.{Ask}
-use Rattle.fiber_frames.specs.Answers.{Answers}
-use Rattle.fiber_frames.specs.Fiber.{Fiber, ask_of, child, move}
-use Rattle.fiber_frames.specs.Leading.{Asked, Leads}
-use Rattle.fiber_frames.specs.Naming.{AskNamed, NamedBeginning, NamedRun, NumberGiven}
+use Rattle.fiber_frames.specs.{declared.ask.Ask.Ask, Answers.Answers, Fiber.{Fiber, ask_of, child, move}, Leading.{Asked, Leads}, Naming.AskNamed}
+use Rattle.fiber_frames.specs.Naming.{NamedBeginning, NamedRun, NumberGiven}
 use Rattle.scheduled_core.specs.Private.Asking.{Asking}
 
 pub asking : (g : Fiber) (a : Ask) → a ≡ ask_of g

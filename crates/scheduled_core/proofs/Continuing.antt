@@ -1,32 +1,16 @@
 -- Fibers that stand under one history go on in the core, beside the registry that the history leaves.
-use Rattle.std.proofs.Common.{◌≡◌, ℕ, Bool, List, [], ◌∷◌, ◌++◌, length, map, Some, Ok, refl, sym, ap, ◌∙◌}
-use Rattle.std.proofs.Common.{subst, arith, eqb, eq-eqb, ne_eqb, append-nil}
-use Rattle.std.specs.Prelude.{cond}
-use Rattle.std.specs.List.{slice_get}
-use Rattle.std.proofs.lemmas.List.{append_cancel_left}
-use Rattle.std.proofs.lemmas.List.Elements.{filter-append}
-use mathlib.Core.List.{IsPrefix}
-use mathlib.Core.Logic.{dite}
+use Rattle.std.proofs.Common.{◌≡◌, ℕ, Bool, List, [], ◌∷◌, ◌++◌, length, map, Some, Ok, refl, sym, ap, ◌∙◌, subst, arith, eqb, eq-eqb, ne_eqb, append-nil}
+use Rattle.std.{proofs.lemmas.List.{append_cancel_left, Elements.filter-append}, specs.{Prelude.cond, List.slice_get}}
+use mathlib.Core.{List.IsPrefix, Logic.dite}
 use native.Mathlib.Decide.{ℕ_discrete}
-use Rattle.derived_ops.specs.Tree.{Tree}
-use Rattle.derived_ops.specs.Naming.{IsMore}
+use Rattle.derived_ops.specs.{Tree.Tree, Naming.IsMore}
 use Rattle.fiber_frames.specs.Fiber.{Fiber}
-use Rattle.cell_registry.specs.declared.limits.Limits.{Limits}
-use Rattle.cell_registry.specs.declared.call.Entry.{Entry}
-use Rattle.cell_registry.specs.Cells.{Cells, after, cell_of, owned}
-use Rattle.cell_registry.specs.Histories.{IsLegal, calls_by, left, left_from}
-use Rattle.cell_registry.specs.Passes.{IsPass, PassView}
-use Rattle.cell_registry.proofs.Legal.{left_from-append, unborn_cell}
-use Rattle.scheduled_core.specs.declared.report.Report.{Report}
-use Rattle.scheduled_core.specs.Core.{World, core, fiber_report, first_world, reported}
-use Rattle.scheduled_core.specs.Finals.{IsFinal, IsFinalReport, IsSettledReport}
-use Rattle.scheduled_core.specs.Fitting.{AllFit, Fits, cell_registered, given_by, pass_registered, world_of}
-use Rattle.scheduled_core.specs.Spending.{SpendsSome}
-use Rattle.scheduled_core.specs.Stands.{IsOfSomeSchedule, Stands}
-use Rattle.scheduled_core.proofs.Finality.{final_settled}
-use Rattle.scheduled_core.proofs.PlainFits.{fits_as, fits_more, plain_other}
-use Rattle.scheduled_core.proofs.Spending.{spends_core, spends_join}
-use Rattle.scheduled_core.proofs.Standing.Schedules.{some_schedules}
+use Rattle.cell_registry.specs.{declared.{limits.Limits.Limits, call.Entry.Entry}, Cells.{Cells, after, cell_of, owned}, Histories.{IsLegal, calls_by, left}}
+use Rattle.cell_registry.{specs.{Histories.left_from, Passes.{IsPass, PassView}}, proofs.Legal.{left_from-append, unborn_cell}}
+use Rattle.scheduled_core.specs.{declared.report.Report.Report, Core.{World, core, fiber_report, first_world, reported}, Finals.{IsFinal, IsFinalReport}}
+use Rattle.scheduled_core.specs.{Finals.IsSettledReport, Fitting.{AllFit, Fits, cell_registered, given_by, pass_registered, world_of}, Spending.SpendsSome}
+use Rattle.scheduled_core.{specs.Stands.{IsOfSomeSchedule, Stands}, proofs.{Finality.final_settled, PlainFits.{fits_as, fits_more, plain_other}}}
+use Rattle.scheduled_core.proofs.{Spending.{spends_core, spends_join}, Standing.Schedules.some_schedules}
 
 -- what fits a pass fits the fiber's cell in the registry that the pass has seen
 pub fits_pass : (p : PassView) (g : Fiber) → IsPass p → Fits (pass_registered p) g → Fits (cell_registered (left p.registry.limits p.seen) p.number) g

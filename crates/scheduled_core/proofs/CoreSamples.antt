@@ -1,20 +1,12 @@
 -- The core of some programs of many fibers, with reports worked by hand.
-use Rattle.std.proofs.Common.{◌≡◌, ℕ, pos, negsuc, List, [], ◌∷◌, ◌++◌, replicate, refl, Ok, Err}
-use Rattle.std.specs.Prelude.{Some, None, Result}
-use Rattle.effect_term.specs.Values.{wrapped}
-use Rattle.effect_term.specs.declared.reply.Outcome.TheVariants.{Succeeded, Errored, Canceled}
-use Rattle.derived_ops.specs.Tree.{Operand, Number, Slot, Last, More}
-use Rattle.derived_ops.specs.Source as word
-use Rattle.derived_ops.specs.Source.{Source}
-use Rattle.derived_ops.specs.Expansion.{code_of}
+use Rattle.std.{proofs.Common.{◌≡◌, ℕ, pos, negsuc, List, [], ◌∷◌, ◌++◌, replicate, refl, Ok, Err}, specs.Prelude.{Some, None, Result}}
+use Rattle.effect_term.specs.{Values.wrapped, declared.reply.Outcome.TheVariants.{Succeeded, Errored, Canceled}}
+use Rattle.derived_ops.specs.{Tree.{Operand, Number, Slot, Last, More}, Source.Source, Expansion.code_of}
 use Rattle.fiber_frames.specs.declared.mark.Mark.TheVariants.{Say, Enter, Leave, PollIn, PollOut, Cut, Acquired, Releasing, Released}
-use Rattle.cell_registry.specs.declared.limits.Limits.{Limits}
-use Rattle.cell_registry.specs.declared.limits.Band.TheVariants.{Fibers}
-use Rattle.cell_registry.specs.declared.limits.RunError.{RunError}
-use Rattle.cell_registry.specs.declared.limits.RunError.TheVariants.{Full, Spent}
-use Rattle.cell_registry.specs.Cells.{after, reply_of, refusal}
-use Rattle.scheduled_core.specs.declared.report.Report.{Report}
-use Rattle.scheduled_core.specs.Core.{core, reported}
+use Rattle.cell_registry.specs.{declared.limits.{Limits.Limits, Band.TheVariants.Fibers, RunError.{RunError, TheVariants.{Full, Spent}}}, Cells.after}
+use Rattle.cell_registry.specs.Cells.{reply_of, refusal}
+use Rattle.scheduled_core.specs.{declared.report.Report.Report, Core.{core, reported}}
+use Rattle.derived_ops.specs.Source as word
 
 abbrev few : Limits
 few = record { fibers = 3; refs = 1; deferreds = 1; count = 100 }

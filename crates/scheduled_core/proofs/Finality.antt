@@ -1,36 +1,21 @@
 -- From a final world no entry changes the report.
-use Rattle.std.proofs.Common.{◌≡◌, ◌≢◌, inl, inr, ℕ, zero, suc, Bool, false, List, [], ◌∷◌, ◌++◌, map, set, Option}
-use Rattle.std.proofs.Common.{Some, None, Result, Ok, refl, sym, ap, ◌∙◌, subst, append-nil}
-use Rattle.std.specs.List.{fold, slice_get}
-use Rattle.std.proofs.lemmas.Option.{same_Some}
+use Rattle.std.proofs.Common.{◌≡◌, ◌≢◌, inl, inr, ℕ, zero, suc, Bool, false, List, [], ◌∷◌, ◌++◌, map, set, Option, Some, None, Result, Ok, refl, sym, ap, ◌∙◌}
+use Rattle.std.{proofs.{Common.{subst, append-nil}, lemmas.Option.same_Some}, specs.List.{fold, slice_get}}
 use mathlib.Core.Logic.{dite}
 use native.Mathlib.Decide.{ℕ_discrete}
-use Rattle.effect_term.specs.declared.reply.Outcome.{Outcome}
-use Rattle.effect_term.specs.declared.reply.Reply.{Reply}
-use Rattle.effect_term.specs.declared.reply.Reply.TheVariants as reply
+use Rattle.effect_term.specs.declared.reply.{Outcome.Outcome, Reply.Reply}
 use Rattle.derived_ops.specs.Tree.{Mask}
-use Rattle.fiber_frames.specs.declared.ask.Ask.{Ask}
-use Rattle.fiber_frames.specs.declared.ask.Look.{Look}
-use Rattle.fiber_frames.specs.declared.ask.Look.TheVariants.{Due, Clear, Seen}
-use Rattle.fiber_frames.specs.declared.mark.Mark.{Mark}
-use Rattle.fiber_frames.specs.Path.{Running, Runs, Final, Over, Broken}
-use Rattle.fiber_frames.specs.Rows.{Waited}
-use Rattle.fiber_frames.specs.Fiber.{Fiber, Looks, Reduces, active_of, ask_in, ask_of, case_under, looked, move, move_case, move_in, outcome_in, row_of}
-use Rattle.cell_registry.specs.declared.limits.Limits.{Limits}
-use Rattle.cell_registry.specs.declared.limits.RunError.{RunError}
-use Rattle.cell_registry.specs.declared.cell.Stage.{Stage}
-use Rattle.cell_registry.specs.declared.cell.Cell.{Cell}
-use Rattle.cell_registry.specs.declared.call.Call.{Call}
+use Rattle.fiber_frames.specs.{declared.{ask.{Ask.Ask, Look.{Look, TheVariants.{Due, Clear, Seen}}}, mark.Mark.Mark}, Path.{Running, Runs, Final, Over, Broken}}
+use Rattle.fiber_frames.specs.{Rows.Waited, Fiber.{Fiber, Looks, Reduces, active_of, ask_in, ask_of, case_under, looked, move, move_case, move_in, outcome_in}}
+use Rattle.fiber_frames.specs.Fiber.{row_of}
+use Rattle.cell_registry.specs.{declared.{limits.{Limits.Limits, RunError.RunError}, cell.{Stage.Stage, Cell.Cell}, call.Call.Call}, Cells.{Cells, after}}
+use Rattle.cell_registry.{specs.Cells.{awaited, cancel_reply, cell_of, fresh, join_reply, refusal, reply_of}, proofs.Lists.get_or-set_kept}
+use Rattle.scheduled_core.specs.{declared.{report.FiberReport.FiberReport, wish.Wish.{Wish, TheVariants.{Shared, Alone, Nothing}}}, Core.{World, entered}}
+use Rattle.scheduled_core.specs.{Core.{fiber_report, reported, turned, wish_of, wished}, Finals.{HasEnded, IsAtRest, IsFinal, IsSettled, IsUnasked, reply_to}}
+use Rattle.scheduled_core.{specs.Finals.word_wish, proofs.{Lists.{slice_get-set_same, slice_get-set_other}, Resting.{IsWait, Silently, Joins, Reads}}}
+use Rattle.scheduled_core.proofs.Resting.{call_waits, due, row_is_due}
+use Rattle.effect_term.specs.declared.reply.Reply.TheVariants as reply
 use Rattle.cell_registry.specs.declared.call.Call.TheVariants as call
-use Rattle.cell_registry.specs.Cells.{Cells, after, awaited, cancel_reply, cell_of, fresh, join_reply, refusal, reply_of}
-use Rattle.cell_registry.proofs.Lists.{get_or-set_kept}
-use Rattle.scheduled_core.specs.declared.report.FiberReport.{FiberReport}
-use Rattle.scheduled_core.specs.declared.wish.Wish.{Wish}
-use Rattle.scheduled_core.specs.declared.wish.Wish.TheVariants.{Shared, Alone, Nothing}
-use Rattle.scheduled_core.specs.Core.{World, entered, fiber_report, reported, turned, wish_of, wished}
-use Rattle.scheduled_core.specs.Finals.{HasEnded, IsAtRest, IsFinal, IsSettled, IsUnasked, reply_to, word_wish}
-use Rattle.scheduled_core.proofs.Lists.{slice_get-set_same, slice_get-set_other}
-use Rattle.scheduled_core.proofs.Resting.{IsWait, Silently, Joins, Reads, call_waits, due, row_is_due}
 
 -- ---- that somebody waits changes no reply
 abbrev told : Cell → Stage × Bool
@@ -42,21 +27,10 @@ kept s by x i = get_or-set_kept told s.cells x (awaited (cell_of s x)) fresh ref
 
 reply_kept : (s : Cells) (by x i : ℕ) (c : Call) → reply_of (after s by (call.Join x)) i c ≡ reply_of s i c
 unfolding after reply_of
-reply_kept s by x i call.Start = refl
 reply_kept s by x i (call.Cancel y) = ap (λ (o : Stage × Bool). reply.Cancel (cancel_reply o.0 o.1)) (kept s by x y)
 reply_kept s by x i (call.Join y) = ap (λ (o : Stage × Bool). reply.Join (join_reply o.0)) (kept s by x y)
 reply_kept s by x i call.Look = ap (λ (o : Stage × Bool). reply.Seen o.1) (kept s by x i)
-reply_kept s by x i call.Mask = refl
-reply_kept s by x i call.Unmask = refl
-reply_kept s by x i call.Cut = refl
-reply_kept s by x i (call.Finish o) = refl
-reply_kept s by x i call.NewRef = refl
-reply_kept s by x i call.NewDeferred = refl
-reply_kept s by x i (call.Get y) = refl
-reply_kept s by x i (call.Set y v) = refl
-reply_kept s by x i (call.Modify y v) = refl
-reply_kept s by x i (call.Complete y v) = refl
-reply_kept s by x i (call.Read y) = refl
+reply_kept s by x i _ = refl
 
 reply_to_kept : (s : Cells) (by x i : ℕ) (w : Wish) → reply_to (after s by (call.Join x)) i w ≡ reply_to s i w
 reply_to_kept s by x i (Shared c) = reply_kept s by x i c
@@ -88,10 +62,8 @@ rest_looked s f g l n h = record { waits = h.waits; unasked = relook (active_of 
 -- ---- what a fiber's next move is
 over_in : (i n : ℕ) (l : Look) (ms : List Mark) (w : Running) (o : Outcome) → outcome_in w ≡ Some o →
     wish_of (ask_of record { number = i; running = w; look = l; next = n; marks = ms }) ≡ Nothing
-over_in i n l ms (Runs t) o e = absurd (cc)
-over_in i n l ms (Final m gs) o e = absurd (cc)
 over_in i n l ms (Over p) o e = refl
-over_in i n l ms Broken o e = absurd (cc)
+over_in i n l ms _ o e = absurd (cc)
 
 pub over_wish : (g : Fiber) → HasEnded g → wish_of (ask_of g) ≡ Nothing
 over_wish g h = over_in g.number g.next g.look g.marks g.running h.0 h.1

@@ -1,37 +1,19 @@
 -- A fiber that fits what is registered of it: the call that it asks for is permitted, and the two fit again afterwards.
-use Rattle.std.proofs.Common.{◌≡◌, inl, inr, ℕ, ◌+◌, ◌-◌, ◌<◌, ◌≤◌, Bool, true, false, refl, sym, ◌∙◌, subst, arith}
-use Rattle.effect_term.specs.declared.reply.Outcome.{Outcome}
-use Rattle.effect_term.specs.declared.reply.Outcome.TheVariants as outcome
-use Rattle.effect_term.specs.declared.reply.Reply.{Reply}
-use Rattle.effect_term.specs.declared.reply.Reply.TheVariants as reply
-use Rattle.fiber_frames.specs.declared.ask.Ask.{Ask}
-use Rattle.fiber_frames.specs.declared.ask.Ask.TheVariants as ask
-use Rattle.fiber_frames.specs.declared.ask.Look.{Look}
-use Rattle.fiber_frames.specs.declared.ask.Look.TheVariants.{Due}
-use Rattle.fiber_frames.specs.Fiber.{Fiber, ask_of, move, seen}
-use Rattle.fiber_frames.specs.Answers.{Answers}
-use Rattle.cell_registry.specs.declared.limits.Limits.{Limits}
-use Rattle.cell_registry.specs.declared.limits.Band.TheVariants.{Fibers, Refs, Deferreds}
-use Rattle.cell_registry.specs.declared.cell.Stage.{Stage}
-use Rattle.cell_registry.specs.declared.cell.Stage.TheVariants as at
-use Rattle.cell_registry.specs.declared.call.Call.{Call}
-use Rattle.effect_term.specs.Outcomes.{OutcomeFits}
-use Rattle.cell_registry.specs.Cells.{IsOpen, MayFinish, MayUnmask}
-use Rattle.cell_registry.specs.Passes.{PassView, IsPass}
-use Rattle.cell_registry.proofs.Giving.{next_of-most}
-use Rattle.scheduled_core.specs.declared.wish.Wish.{Wish}
-use Rattle.scheduled_core.specs.declared.wish.Wish.TheVariants.{Shared, Alone, Nothing}
-use Rattle.scheduled_core.specs.Core.{wish_of}
-use Rattle.scheduled_core.specs.Permits.{IsInRange}
-use Rattle.scheduled_core.proofs.Answered.{alone_answers}
-use Rattle.fiber_frames.specs.Leading.{Asked, DepthAfter, Finalizes, Has_ended, IsGoing, Is_lost, MayEnd, MayLeave}
-use Rattle.fiber_frames.specs.Leading.{Runs_term, Way, depth_of, look_after, most_next, way_after, way_of}
+use Rattle.std.proofs.Common.{◌≡◌, inl, inr, ℕ, ◌+◌, ◌-◌, ◌<◌, ◌≤◌, Bool, true, refl, sym, ◌∙◌, subst, arith}
+use Rattle.effect_term.specs.{declared.reply.{Outcome.Outcome, Reply.Reply}, Outcomes.OutcomeFits}
+use Rattle.fiber_frames.specs.{declared.ask.{Ask.Ask, Look.{Look, TheVariants.Due}}, Fiber.{Fiber, ask_of, move, seen}, Answers.Answers, Leading.Asked}
+use Rattle.fiber_frames.specs.Leading.{DepthAfter, Finalizes, Has_ended, IsGoing, Is_lost, MayEnd, MayLeave, Runs_term, Way, depth_of, look_after, most_next}
+use Rattle.fiber_frames.{specs.{Leading.{way_after, way_of}, Naming.{AskNamed, NumberGiven}}, proofs.NamedMoves.run_more}
+use Rattle.cell_registry.specs.{declared.{limits.{Limits.Limits, Band.TheVariants.{Fibers, Refs, Deferreds}}, cell.Stage.Stage, call.Call.Call}, Cells.IsOpen}
+use Rattle.cell_registry.{specs.{Cells.{MayFinish, MayUnmask}, Passes.{PassView, IsPass}}, proofs.Giving.next_of-most}
+use Rattle.scheduled_core.specs.{declared.wish.Wish.{Wish, TheVariants.{Shared, Alone, Nothing}}, Core.wish_of, Permits.{IsInRange, Permits, MayMake}}
+use Rattle.scheduled_core.specs.{Permits.{count_after, depth_after, registered_after, saw_after, seen_in, stage_after}, Fitting.{DepthFits, Fits, LookFits}}
+use Rattle.scheduled_core.{specs.{Fitting.{Registered, StageFits, pass_registered}, Private.Asking.Asking}, proofs.Answered.alone_answers}
 use Rattle.derived_ops.specs.Naming.{Given, IsMore}
-use Rattle.fiber_frames.specs.Naming.{AskNamed, NumberGiven}
-use Rattle.scheduled_core.specs.Fitting.{DepthFits, Fits, LookFits, Registered, StageFits, pass_registered}
-use Rattle.scheduled_core.specs.Permits.{Permits, MayMake, count_after, depth_after, registered_after, saw_after, seen_in, stage_after}
-use Rattle.fiber_frames.proofs.NamedMoves.{run_more}
-use Rattle.scheduled_core.specs.Private.Asking.{Asking}
+use Rattle.effect_term.specs.declared.reply.Outcome.TheVariants as outcome
+use Rattle.effect_term.specs.declared.reply.Reply.TheVariants as reply
+use Rattle.fiber_frames.specs.declared.ask.Ask.TheVariants as ask
+use Rattle.cell_registry.specs.declared.cell.Stage.TheVariants as at
 
 -- ---- by the ask
 abbrev pub If_shared : Wish → (Call → Type 0) → Type 0
@@ -123,9 +105,7 @@ module _ (l : Limits) (p : Registered) (room : IsMore p.given (limits_given l)) 
   may_by_ask ask.NewDeferred t n = λ _. tt
   may_by_ask (ask.Complete x v) t n = λ _. below_deferreds x n
   may_by_ask (ask.Read x) t n = λ _. below_deferreds x n
-  may_by_ask ask.Silent t n = tt
-  may_by_ask (ask.Over o) t n = tt
-  may_by_ask ask.Broken t n = tt
+  may_by_ask _ t n = tt
 
   pub permitted : Asking g → (c : Call) → wish_of (ask_of g) ≡ Shared c → IsInRange c → Permits l p c
   permitted h c e = at_call (wish_of (ask_of g)) c (λ c. IsInRange c → Permits l p c) e (may_by_ask (ask_of g) h.tells (h.names p.given f.names))
@@ -166,14 +146,7 @@ keeps_depth g _ d2 e h t p = depth_as (way_of g.running) d2 e (λ i. same_depth 
 
 look_seen : (r : Reply) (saw : Bool) → LookFits (seen r) (seen_in saw r)
 look_seen (reply.Seen true) saw = refl
-look_seen (reply.Seen false) saw = tt
-look_seen reply.Done saw = tt
-look_seen (reply.Cancel x) saw = tt
-look_seen (reply.Join x) saw = tt
-look_seen (reply.Number x) saw = tt
-look_seen (reply.Value x) saw = tt
-look_seen (reply.Completed x) saw = tt
-look_seen (reply.Read x) saw = tt
+look_seen _ saw = tt
 
 keeps_look : (a : Ask) (r : Reply) (saw : Bool) → If_shared (wish_of a) (λ c. LookFits (look_after a r) (saw_after c saw r))
 keeps_look ask.Look r saw = look_seen r saw

@@ -1,6 +1,5 @@
 -- Lists of which one element is set, or that have more at their end.
-use Rattle.std.proofs.Common.{◌≡◌, ◌≢◌, ◌⊎◌, inl, inr, ℕ, zero, suc, ◌+◌, List, [], ◌∷◌, ◌++◌, length, set, Some, refl, sym, ap, arith}
-use Rattle.std.specs.List.{slice_get}
+use Rattle.std.{proofs.Common.{◌≡◌, ◌≢◌, ◌⊎◌, inl, inr, ℕ, zero, suc, ◌+◌, List, [], ◌∷◌, ◌++◌, length, set, Some, refl, sym, ap, arith}, specs.List.slice_get}
 
 pub slice_get-set_same : {A : Type 0} (xs : List A) (f : ℕ) (a b : A) → slice_get xs f ≡ Some a → slice_get (set xs f b) f ≡ Some b
 slice_get-set_same [] f a b e = absurd (cc)

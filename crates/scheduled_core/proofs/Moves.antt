@@ -1,38 +1,20 @@
 -- The next move of a fiber that fits its cell, and the entry of a schedule that it is.
-use Rattle.std.proofs.Common.{◌≡◌, ℕ, ◌<◌, ◌≤◌, ◌^◌, List, [], ◌∷◌, ◌++◌, length, set, Ok, Err, refl, sym, ap, ◌∙◌, subst, arith, append-nil}
-use Rattle.std.specs.Prelude.{◌⊎◌, Option, Some, None, Result, IfErr, IfOk, OnOk}
-use Rattle.std.specs.Option.{option_to_list}
-use Rattle.std.proofs.Common.{inl}
-use Rattle.std.specs.List.{fold, slice_get}
+use Rattle.std.proofs.Common.{◌≡◌, ℕ, ◌<◌, ◌≤◌, ◌^◌, List, [], ◌∷◌, ◌++◌, length, set, Ok, Err, refl, sym, ap, ◌∙◌, subst, arith, append-nil, inl}
+use Rattle.std.{proofs.lemmas.Option.slice_get_past, specs.{Prelude.{◌⊎◌, Option, Some, None, Result, IfErr, IfOk, OnOk}, Option.option_to_list, List.fold}}
+use Rattle.std.specs.List.{slice_get}
 use Rattle.derived_ops.specs.Tree.{Tree}
-use Rattle.std.proofs.lemmas.Option.{slice_get_past}
 use Rattle.effect_term.specs.declared.reply.Reply.{Reply}
+use Rattle.fiber_frames.specs.{declared.ask.Ask.Ask, Rows.{RowKind, Born, Ended, number_in}, Fiber.{Fiber, ask_of, begins, child}}
+use Rattle.fiber_frames.specs.{Fiber.{kind_of, move}, Moves.{moved, told}, Answers.Answers, Leading.{GoesOn, IsBirth, KindFits}}
+use Rattle.cell_registry.specs.{declared.{limits.{Limits.Limits, RunError.RunError}, call.Call.Call}, Cells.{after, opening, refusal, reply_of}, Plain.IsPlain}
+use Rattle.cell_registry.specs.Plain.{MayCall, PlainView, new_plain}
+use Rattle.scheduled_core.specs.{declared.wish.Wish.{Wish, TheVariants.{Alone, Nothing, Shared}}, Core.{World, answered, born, core, entered, turned, wish_of}}
+use Rattle.scheduled_core.specs.{Core.wished, Fitting.{AllFit, Fits, cell_registered, world_of}, Permits.IsInRange, Private.{Asking.Asking, Moving.Goes}}
+use Rattle.scheduled_core.{specs.Private.Moving.{Made, Moves, Refuses, Replied, Rests, Unshared, children}, proofs.{Answered.alone_answers, Fitted.If_shared}}
+use Rattle.scheduled_core.proofs.{Fitted.at_call, Lists.set-same, PlainFits.plain_allowed, Worlds.{all_alone, all_called, plain_answers}}
 use Rattle.effect_term.specs.declared.reply.Reply.TheVariants as reply
-use Rattle.fiber_frames.specs.declared.ask.Ask.{Ask}
 use Rattle.fiber_frames.specs.declared.ask.Ask.TheVariants as ask
-use Rattle.fiber_frames.specs.Rows.{RowKind, Plain, Waited, Ceded, Born, Ended, number_in}
-use Rattle.fiber_frames.specs.Fiber.{Fiber, ask_of, begins, child, kind_of, move}
-use Rattle.fiber_frames.specs.Moves.{moved, told}
-use Rattle.fiber_frames.specs.Answers.{Answers}
-use Rattle.fiber_frames.specs.Leading.{GoesOn, IsBirth, KindFits}
-use Rattle.cell_registry.specs.declared.limits.Limits.{Limits}
-use Rattle.cell_registry.specs.declared.limits.RunError.{RunError}
 use Rattle.cell_registry.specs.declared.limits.RunError.TheVariants as run
-use Rattle.cell_registry.specs.declared.call.Call.{Call}
-use Rattle.cell_registry.specs.Cells.{after, opening, refusal, reply_of}
-use Rattle.cell_registry.specs.Plain.{IsPlain, MayCall, PlainView, new_plain}
-use Rattle.scheduled_core.specs.declared.wish.Wish.{Wish}
-use Rattle.scheduled_core.specs.declared.wish.Wish.TheVariants.{Alone, Nothing, Shared}
-use Rattle.scheduled_core.specs.Core.{World, answered, born, core, entered, turned, wish_of, wished}
-use Rattle.scheduled_core.specs.Fitting.{AllFit, Fits, cell_registered, world_of}
-use Rattle.scheduled_core.specs.Permits.{IsInRange}
-use Rattle.scheduled_core.proofs.Answered.{alone_answers}
-use Rattle.scheduled_core.specs.Private.Asking.{Asking}
-use Rattle.scheduled_core.specs.Private.Moving.{Goes, Made, Moves, Refuses, Replied, Rests, Unshared, children}
-use Rattle.scheduled_core.proofs.Fitted.{If_shared, at_call}
-use Rattle.scheduled_core.proofs.Lists.{set-same}
-use Rattle.scheduled_core.proofs.PlainFits.{plain_allowed}
-use Rattle.scheduled_core.proofs.Worlds.{all_alone, all_called, plain_answers}
 
 -- ---- the conditions of a move
 pub may_call : (p : PlainView) (f : ℕ) (g : Fiber) (c : Call) → IsPlain p → Fits (cell_registered p.state f) g → Asking g →
@@ -60,18 +42,13 @@ few_masks p f g lawful fits =
 
 -- ---- the child of a move
 no_child : (x : Fiber) (k : RowKind) → GoesOn k → children (told x k) ≡ []
-no_child x Plain h = refl
-no_child x Waited h = refl
-no_child x Ceded h = refl
 no_child x (Born t) h = absurd h
 no_child x (Ended o) h = absurd h
+no_child x _ h = refl
 
 one_child : (x : Fiber) (k : RowKind) → IsBirth k → children (told x k) ≡ x ∷ []
 one_child x (Born t) h = refl
-one_child x Plain h = absurd h
-one_child x Waited h = absurd h
-one_child x Ceded h = absurd h
-one_child x (Ended o) h = absurd h
+one_child x _ h = absurd h
 
 shared_children : (g : Fiber) (r : Reply) (a : Ask) (k : RowKind) → KindFits a k →
     If_shared (wish_of a) (λ c. children (told (child g (number_in r)) k) ≡ born g c r)

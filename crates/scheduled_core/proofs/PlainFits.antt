@@ -1,33 +1,18 @@
 -- The fit with a cell of a registry for one thread: the caller fits after its call, and every other fiber still does.
 use Rattle.std.proofs.Common.{◌≡◌, ◌≢◌, ℕ, zero, suc, ◌+◌, ◌<◌, Bool, true, List, [], ◌∷◌, length, get_or, set, refl, sym, ap, ◌∙◌, subst, arith}
 use Rattle.std.proofs.lemmas.List.{get_or-set_same}
-use Rattle.fiber_frames.specs.declared.ask.Ask.{Ask}
-use Rattle.fiber_frames.specs.declared.ask.Ask.TheVariants as ask
-use Rattle.fiber_frames.specs.declared.ask.Look.{Look}
-use Rattle.fiber_frames.specs.declared.ask.Look.TheVariants.{Due, Clear, Seen}
-use Rattle.fiber_frames.specs.Fiber.{Fiber, ask_of, move}
-use Rattle.fiber_frames.specs.Answers.{Answers}
-use Rattle.cell_registry.specs.declared.cell.Stage.{Stage}
-use Rattle.cell_registry.specs.declared.cell.Stage.TheVariants.{Finalizing}
-use Rattle.cell_registry.specs.declared.cell.Cell.{Cell}
-use Rattle.cell_registry.specs.declared.call.Call.{Call}
-use Rattle.cell_registry.specs.declared.call.Call.TheVariants as call
-use Rattle.cell_registry.specs.declared.limits.Band.TheVariants.{Fibers, Refs, Deferreds}
-use Rattle.cell_registry.specs.Cells.{Cells, IsAllowed, IsSound, after, awaited, cell_of, cut, finished, fresh, masked, owned, reply_of, requested, unmasked}
-use Rattle.cell_registry.proofs.Calls.{next_of-rises, owned-after}
+use Rattle.fiber_frames.specs.{declared.ask.{Ask.Ask, Look.{Look, TheVariants.{Due, Clear, Seen}}}, Fiber.{Fiber, ask_of, move}, Answers.Answers, Leading.Asked}
+use Rattle.fiber_frames.{specs.{Leading.{Runs_term, depth_of, way_of}, Naming.NumberGiven}, proofs.NamedMoves.run_more}
+use Rattle.cell_registry.specs.declared.{cell.{Stage.{Stage, TheVariants.Finalizing}, Cell.Cell}, call.Call.Call, limits.Band.TheVariants.{Fibers, Refs}}
+use Rattle.cell_registry.specs.{declared.limits.{Band.TheVariants.Deferreds, Limits.Limits}, Cells.{Cells, IsAllowed, IsSound, after, awaited, cell_of, cut}}
+use Rattle.cell_registry.{specs.Cells.{finished, fresh, masked, owned, reply_of, requested, unmasked}, proofs.Calls.{next_of-rises, owned-after}}
 use Rattle.cell_registry.proofs.Lists.{get_or-set_kept}
-use Rattle.scheduled_core.specs.declared.wish.Wish.TheVariants.{Shared}
-use Rattle.scheduled_core.specs.Core.{wish_of}
-use Rattle.scheduled_core.specs.Permits.{IsInRange}
-use Rattle.cell_registry.specs.declared.limits.Limits.{Limits}
-use Rattle.fiber_frames.specs.Leading.{Asked, Runs_term, depth_of, way_of}
+use Rattle.scheduled_core.specs.{declared.wish.Wish.TheVariants.Shared, Core.wish_of, Permits.{IsInRange, Permits, count_after, depth_after, registered_after}}
+use Rattle.scheduled_core.specs.{Permits.{saw_after, stage_after}, Fitting.{DepthFits, Fits, LookFits, Registered, cell_registered, given_by}}
+use Rattle.scheduled_core.{specs.Private.Asking.Asking, proofs.Fitted.{If_shared, at_call, fits_after, going, permitted, same_depth}}
 use Rattle.derived_ops.specs.Naming.{Given, IsMore}
-use Rattle.fiber_frames.specs.Naming.{NumberGiven}
-use Rattle.scheduled_core.specs.Fitting.{DepthFits, Fits, LookFits, Registered, cell_registered, given_by}
-use Rattle.scheduled_core.specs.Permits.{Permits, count_after, depth_after, registered_after, saw_after, stage_after}
-use Rattle.scheduled_core.proofs.Fitted.{If_shared, at_call, fits_after, going, permitted, same_depth}
-use Rattle.fiber_frames.proofs.NamedMoves.{run_more}
-use Rattle.scheduled_core.specs.Private.Asking.{Asking}
+use Rattle.fiber_frames.specs.declared.ask.Ask.TheVariants as ask
+use Rattle.cell_registry.specs.declared.call.Call.TheVariants as call
 
 -- ---- what is kept may know more of the request
 abbrev pub Knows : Bool → Bool → Type 0
@@ -68,21 +53,13 @@ set_request (x ∷ xs) (suc f) (suc i) c h = set_request xs f i c h
 
 pub request_stays : (s : Cells) (by : ℕ) (c : Call) (i : ℕ) → Knows (cell_of s i).request (cell_of (after s by c) i).request
 unfolding after
-request_stays s by call.Start i = λ e. e
 request_stays s by (call.Cancel f) i = set_request s.cells f i (requested (cell_of s f)) (λ e. refl)
 request_stays s by (call.Join f) i = set_request s.cells f i (awaited (cell_of s f)) (λ e. e)
-request_stays s by call.Look i = λ e. e
 request_stays s by call.Mask i = set_request s.cells by i (masked (cell_of s by)) (λ e. e)
 request_stays s by call.Unmask i = set_request s.cells by i (unmasked (cell_of s by)) (λ e. e)
 request_stays s by call.Cut i = set_request s.cells by i (cut (cell_of s by)) (λ e. e)
 request_stays s by (call.Finish o) i = set_request s.cells by i (finished o (cell_of s by)) (λ e. e)
-request_stays s by call.NewRef i = λ e. e
-request_stays s by call.NewDeferred i = λ e. e
-request_stays s by (call.Get r) i = λ e. e
-request_stays s by (call.Set r v) i = λ e. e
-request_stays s by (call.Modify r v) i = λ e. e
-request_stays s by (call.Complete d v) i = λ e. e
-request_stays s by (call.Read d) i = λ e. e
+request_stays s by _ i = λ e. e
 
 saw_same : (s : Cells) (i : ℕ) (c : Call) → saw_after c (cell_of s i).request (reply_of s i c) ≡ (cell_of s i).request
 unfolding reply_of
@@ -93,22 +70,14 @@ saw_same s i _ = refl
 own_after : (s : Cells) (i : ℕ) (c : Call) → i < length s.cells → (c ≡ call.Cut → (cell_of s i).depth ≡ 0) →
     (stage_after c (cell_of s i).stage, depth_after c (cell_of s i).depth, count_after c (cell_of s i).count) ≡ owned (cell_of (after s i c) i)
 unfolding after
-own_after s i call.Start h flat = refl
 own_after s i (call.Cancel f) h flat = sym (get_or-set_kept owned s.cells f (requested (cell_of s f)) fresh refl i)
 own_after s i (call.Join f) h flat = sym (get_or-set_kept owned s.cells f (awaited (cell_of s f)) fresh refl i)
-own_after s i call.Look h flat = refl
 own_after s i call.Mask h flat = ap owned (sym (get_or-set_same s.cells i (masked (cell_of s i)) fresh h))
 own_after s i call.Unmask h flat = ap owned (sym (get_or-set_same s.cells i (unmasked (cell_of s i)) fresh h))
 own_after s i call.Cut h flat = (λ j. (Finalizing, sym (flat refl) j + 1, (cell_of s i).count + 1)) ∙
     ap owned (sym (get_or-set_same s.cells i (cut (cell_of s i)) fresh h))
 own_after s i (call.Finish o) h flat = ap owned (sym (get_or-set_same s.cells i (finished o (cell_of s i)) fresh h))
-own_after s i call.NewRef h flat = refl
-own_after s i call.NewDeferred h flat = refl
-own_after s i (call.Get r) h flat = refl
-own_after s i (call.Set r v) h flat = refl
-own_after s i (call.Modify r v) h flat = refl
-own_after s i (call.Complete d v) h flat = refl
-own_after s i (call.Read d) h flat = refl
+own_after s i _ h flat = refl
 
 pub given_rises : (s : Cells) (by : ℕ) (c : Call) → IsMore (given_by s) (given_by (after s by c))
 given_rises s by c = record { fibers = next_of-rises Fibers s by c; refs = next_of-rises Refs s by c; deferreds = next_of-rises Deferreds s by c }
@@ -156,18 +125,9 @@ unfolding IsAllowed
 allowed k s i (call.Set r v) x h = (h, x)
 allowed k s i (call.Modify r v) x h = (h, x)
 allowed k s i (call.Complete d v) x h = (h, x)
-allowed k s i call.Start x h = h
-allowed k s i (call.Cancel f) x h = h
-allowed k s i (call.Join f) x h = h
-allowed k s i call.Look x h = h
-allowed k s i call.Mask x h = h
-allowed k s i call.Unmask x h = h
-allowed k s i call.Cut x h = h
-allowed k s i (call.Finish o) x h = h
 allowed k s i call.NewRef x h = tt
 allowed k s i call.NewDeferred x h = tt
-allowed k s i (call.Get r) x h = h
-allowed k s i (call.Read d) x h = h
+allowed k s i _ x h = h
 
 pub plain_allowed : (k : Limits) (s : Cells) (i : ℕ) (g : Fiber) (c : Call) → IsSound k s → Fits (cell_registered s i) g → Asking g →
     wish_of (ask_of g) ≡ Shared c → IsInRange c → IsAllowed k s i c

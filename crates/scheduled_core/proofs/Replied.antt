@@ -1,34 +1,18 @@
 -- A call that a pass made: its reply is of the kind that the ask wants, and the fiber fits the pass afterwards; and so does a child its own.
 use Rattle.std.proofs.Common.{◌≡◌, ◌≢◌, ℕ, ◌<◌, List, [], ◌∷◌, ◌++◌, refl, sym, ap, ◌∙◌, subst, arith, append_assoc}
 use mathlib.Core.List.{IsPrefix}
-use Rattle.derived_ops.specs.Tree.{Tree}
+use Rattle.derived_ops.specs.{Tree.Tree, Naming.{Given, IsMore}}
 use Rattle.effect_term.specs.declared.reply.Reply.{Reply}
+use Rattle.fiber_frames.specs.{declared.ask.Ask.Ask, Rows.number_in, Fiber.{Fiber, ask_of, begins, child, move}, Answers.Answers, Naming.NamedBeginning}
+use Rattle.fiber_frames.{specs.Naming.NumberGiven, proofs.NamedMoves.run_more}
+use Rattle.cell_registry.specs.{declared.{limits.Band.TheVariants.{Fibers, Refs, Deferreds}, call.{Call.Call, Entry.Entry}}, Cells.reply_of, Histories.IsLegal}
+use Rattle.cell_registry.{specs.{Histories.left, Passes.{PassView, IsPass, Calls, OnlySees, Starts, newborn}, Steps.entry}, proofs.Legal.IsLegal-last}
+use Rattle.cell_registry.proofs.{Legal.next_of-prefix, Giving.{WasGiven-next, WasGiven-push}}
+use Rattle.scheduled_core.specs.{declared.wish.Wish.TheVariants.Shared, Core.wish_of, Fitting.{Fits, given_by, new_registered, pass_registered}, Permits.Makes}
+use Rattle.scheduled_core.{specs.Private.Asking.Asking, proofs.{Answered.called_answers, Fitted.{If_shared, at_call, fits_after}}}
 use Rattle.effect_term.specs.declared.reply.Reply.TheVariants as reply
-use Rattle.fiber_frames.specs.declared.ask.Ask.{Ask}
 use Rattle.fiber_frames.specs.declared.ask.Ask.TheVariants as ask
-use Rattle.fiber_frames.specs.Rows.{number_in}
-use Rattle.fiber_frames.specs.Fiber.{Fiber, ask_of, begins, child, move}
-use Rattle.fiber_frames.specs.Answers.{Answers}
-use Rattle.cell_registry.specs.declared.limits.Band.TheVariants.{Fibers, Refs, Deferreds}
-use Rattle.cell_registry.specs.declared.call.Call.{Call}
 use Rattle.cell_registry.specs.declared.call.Call.TheVariants as call
-use Rattle.cell_registry.specs.declared.call.Entry.{Entry}
-use Rattle.cell_registry.specs.Cells.{reply_of}
-use Rattle.cell_registry.specs.Histories.{IsLegal, left}
-use Rattle.cell_registry.specs.Passes.{PassView, IsPass, Calls, OnlySees, Starts, newborn}
-use Rattle.cell_registry.specs.Steps.{entry}
-use Rattle.cell_registry.proofs.Legal.{IsLegal-last, next_of-prefix}
-use Rattle.cell_registry.proofs.Giving.{WasGiven-next, WasGiven-push}
-use Rattle.scheduled_core.specs.declared.wish.Wish.TheVariants.{Shared}
-use Rattle.scheduled_core.specs.Core.{wish_of}
-use Rattle.scheduled_core.proofs.Answered.{called_answers}
-use Rattle.derived_ops.specs.Naming.{Given, IsMore}
-use Rattle.fiber_frames.specs.Naming.{NamedBeginning, NumberGiven}
-use Rattle.scheduled_core.specs.Fitting.{Fits, given_by, new_registered, pass_registered}
-use Rattle.scheduled_core.specs.Permits.{Makes}
-use Rattle.scheduled_core.proofs.Fitted.{If_shared, at_call, fits_after}
-use Rattle.fiber_frames.proofs.NamedMoves.{run_more}
-use Rattle.scheduled_core.specs.Private.Asking.{Asking}
 
 -- ---- the reply of a call
 module _ (p q : PassView) (c : Call) (r : Reply) (made : Calls p c r q) where
@@ -71,21 +55,10 @@ module _ (p q : PassView) (c : Call) (r : Reply) (made : Calls p c r q) where
       subst (λ (h : List Entry). number_in r < (left p.registry.limits h).next_deferred) (sym made.seen)
       (subst (λ x. x < (left p.registry.limits (before ++ e ∷ [])).next_deferred) (ap number_in (sym is))
       (WasGiven-next Deferreds p.registry.limits (before ++ e ∷ []) n legal (WasGiven-push Deferreds before e n same is)))
-  number_given n ask.Look is = λ same. tt
-  number_given n ask.Cut is = λ same. tt
-  number_given n ask.Mask is = λ same. tt
-  number_given n ask.Unmask is = λ same. tt
-  number_given n (ask.Finish o) is = λ same. tt
-  number_given n (ask.Cancel f) is = λ same. tt
-  number_given n (ask.Join f) is = λ same. tt
-  number_given n (ask.Get x) is = λ same. tt
-  number_given n (ask.Set x v) is = λ same. tt
-  number_given n (ask.Modify x v) is = λ same. tt
-  number_given n (ask.Complete x v) is = λ same. tt
-  number_given n (ask.Read x) is = λ same. tt
   number_given n ask.Silent is = tt
   number_given n (ask.Over o) is = tt
   number_given n ask.Broken is = tt
+  number_given n _ is = λ same. tt
 
 -- the number in a reply that has one
 wants_number : (b : Given) (i : ℕ) (a : Ask) (r : Reply) → Answers i a r → ((n : ℕ) → r ≡ reply.Number n → NumberGiven b a r) → NumberGiven b a r
@@ -113,21 +86,7 @@ wants_number b i ask.NewDeferred (reply.Join x) w h = absurd w
 wants_number b i ask.NewDeferred (reply.Value x) w h = absurd w
 wants_number b i ask.NewDeferred (reply.Completed x) w h = absurd w
 wants_number b i ask.NewDeferred (reply.Read x) w h = absurd w
-wants_number b i ask.Look r w h = tt
-wants_number b i ask.Cut r w h = tt
-wants_number b i ask.Mask r w h = tt
-wants_number b i ask.Unmask r w h = tt
-wants_number b i (ask.Finish o) r w h = tt
-wants_number b i (ask.Cancel f) r w h = tt
-wants_number b i (ask.Join f) r w h = tt
-wants_number b i (ask.Get x) r w h = tt
-wants_number b i (ask.Set x v) r w h = tt
-wants_number b i (ask.Modify x v) r w h = tt
-wants_number b i (ask.Complete x v) r w h = tt
-wants_number b i (ask.Read x) r w h = tt
-wants_number b i ask.Silent r w h = tt
-wants_number b i (ask.Over o) r w h = tt
-wants_number b i ask.Broken r w h = tt
+wants_number b i _ r w h = tt
 
 pub call_given : (p q : PassView) (c : Call) (r : Reply) → Calls p c r q → (a : Ask) (i : ℕ) → wish_of a ≡ Shared c → Answers i a r →
     NumberGiven (given_by (left p.registry.limits q.seen)) a r
@@ -147,23 +106,9 @@ made_fits p q c r g m f h w other =
 -- ---- a start
 is_start : (i n : ℕ) (a : Ask) → wish_of a ≡ Shared call.Start → i < n → Answers i a (reply.Number n)
 is_start i n ask.Start e l = l
-is_start i n ask.Look e l = absurd (cc)
-is_start i n ask.Cut e l = absurd (cc)
-is_start i n ask.Mask e l = absurd (cc)
-is_start i n ask.Unmask e l = absurd (cc)
-is_start i n (ask.Finish o) e l = absurd (cc)
-is_start i n (ask.Cancel f) e l = absurd (cc)
-is_start i n (ask.Join f) e l = absurd (cc)
 is_start i n ask.NewRef e l = tt
-is_start i n (ask.Get x) e l = absurd (cc)
-is_start i n (ask.Set x v) e l = absurd (cc)
-is_start i n (ask.Modify x v) e l = absurd (cc)
 is_start i n ask.NewDeferred e l = tt
-is_start i n (ask.Complete x v) e l = absurd (cc)
-is_start i n (ask.Read x) e l = absurd (cc)
-is_start i n ask.Silent e l = absurd (cc)
-is_start i n (ask.Over o) e l = absurd (cc)
-is_start i n ask.Broken e l = absurd (cc)
+is_start i n _ e l = absurd (cc)
 
 -- the number that a start gives is above the fiber's own
 pub start_answers : (p ch q : PassView) (g : Fiber) → IsPass p → Starts p ch q → g.number ≡ p.number → wish_of (ask_of g) ≡ Shared call.Start →

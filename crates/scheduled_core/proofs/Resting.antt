@@ -1,18 +1,13 @@
 -- A fiber at a wait that nothing serves: its move changes nothing of it but that the next look is due.
 use Rattle.std.proofs.Common.{◌≡◌, ℕ, ℤ, List, [], ◌∷◌, ◌++◌, Option, Some, None, refl, ap, ◌∙◌, subst, append-nil}
-use Rattle.effect_term.specs.declared.reply.Outcome.{Outcome}
-use Rattle.effect_term.specs.declared.reply.Reply.{Reply}
-use Rattle.fiber_frames.specs.declared.ask.Ask.{Ask}
-use Rattle.fiber_frames.specs.declared.ask.Ask.TheVariants as ask
-use Rattle.fiber_frames.specs.declared.ask.Look.TheVariants.{Due}
-use Rattle.derived_ops.specs.Tree.{Action, Never, Ending, Await, Operand, Pure, Raise, Act, Let, Seq, Handled, Guarded}
-use Rattle.derived_ops.specs.Tree.{Masked, Polled, Join, Mask, Tree, Make, New_ref, New_deferred}
-use Rattle.fiber_frames.specs.Path.{Running, Runs, Final, Over, Broken, PathStep, In_let, In_seq, In_handle, In_guarded}
-use Rattle.fiber_frames.specs.Path.{In_masked, In_polled, Root, At_term, At_final, active, leaf, path, rooted, whole}
-use Rattle.fiber_frames.specs.Path.{focus}
-use Rattle.fiber_frames.specs.Rows.{Waited, Row, wait, outcome_in, read_in, after_end, after_read, branch, action_row}
-use Rattle.fiber_frames.specs.Rows.{word_row, value_row, error_row, row, row_at, placed}
+use Rattle.effect_term.specs.declared.reply.{Outcome.Outcome, Reply.Reply}
+use Rattle.fiber_frames.specs.{declared.ask.{Ask.Ask, Look.TheVariants.Due}, Path.{Running, Runs, Final, PathStep, In_let, In_seq, In_handle}}
+use Rattle.fiber_frames.specs.{Path.{In_guarded, In_masked, In_polled, Root, At_term, At_final, active, leaf, path, rooted, whole, focus}, Rows.{Waited, Row}}
+use Rattle.fiber_frames.specs.Rows.{wait, outcome_in, read_in, after_end, after_read, branch, action_row, word_row, value_row, error_row, row, row_at, placed}
 use Rattle.fiber_frames.specs.Fiber.{Fiber, reduced, row_of}
+use Rattle.derived_ops.specs.Tree.{Action, Never, Ending, Await, Operand, Pure, Raise, Act, Let, Seq, Handled, Guarded, Masked, Polled, Join, Mask, Tree, Make}
+use Rattle.derived_ops.specs.Tree.{New_ref, New_deferred}
+use Rattle.fiber_frames.specs.declared.ask.Ask.TheVariants as ask
 
 -- what a row leaves of a term or a fiber, and which calls it can be about
 pub record Stays {T : Type 0} (n : ℕ) (t : T) (w : Row T) : Type 0 where
@@ -46,21 +41,13 @@ module _ (i n : ℕ) (r : Reply) where
   value_goes At_term v [] e = cc
   value_goes (At_final m gs) v [] e = cc
   value_goes b v (In_let x k ∷ p) e = cc
-  value_goes b v (In_seq w k ∷ p) e = cc
-  value_goes b v (In_handle x h ∷ p) e = cc
-  value_goes b v (In_guarded fin ∷ p) e = cc
-  value_goes b v (In_masked m ∷ p) e = cc
-  value_goes b v (In_polled q ∷ p) e = cc
+  value_goes b v _ e = cc
 
   error_goes : (b : Root) (v : Operand) (p : List PathStep) → (error_row i n b v p).kind ≡ Waited → ⊥
   error_goes At_term v [] e = cc
   error_goes (At_final m gs) v [] e = cc
   error_goes b v (In_let x k ∷ p) e = cc
-  error_goes b v (In_seq w k ∷ p) e = cc
-  error_goes b v (In_handle x h ∷ p) e = cc
-  error_goes b v (In_guarded fin ∷ p) e = cc
-  error_goes b v (In_masked m ∷ p) e = cc
-  error_goes b v (In_polled q ∷ p) e = cc
+  error_goes b v _ e = cc
 
   placed_stays : (b : Root) (p : List PathStep) (t : Tree) (w : Row Tree) → Stays n t w → Stays n (rooted b (whole p t)) (placed i n b p w)
   placed_stays b p t w s = record { becomes = ap (λ x. rooted b (whole p x)) s.becomes; marks = s.marks; next = s.next }
@@ -87,9 +74,7 @@ at_stays i n r (Runs t) e =
 at_stays i n r (Final m (g ∷ gs)) e =
     subst (λ (x : Running). Stays n x (row i n r (At_final m gs) (path g []) (leaf g))) (ap (rooted (At_final m gs)) (whole_leaf g []))
     (row_stays i n r (At_final m gs) (path g []) (leaf g) e)
-at_stays i n r (Final m []) e = absurd (cc)
-at_stays i n r (Over o) e = absurd (cc)
-at_stays i n r Broken e = absurd (cc)
+at_stays i n r _ e = absurd (cc)
 
 -- the fiber, whose next look is due
 abbrev pub due : Fiber → Fiber
@@ -128,9 +113,7 @@ module _ (i n m : ℕ) (r s : Reply) where
   at_waits : (w : Running) → (row_at i n r (focus w) w).kind ≡ Waited → IsWait (row_at i m s (focus w) w).call
   at_waits (Runs t) e = row_waits At_term (path t []) (leaf t) e
   at_waits (Final k (g ∷ gs)) e = row_waits (At_final k gs) (path g []) (leaf g) e
-  at_waits (Final k []) e = absurd (cc)
-  at_waits (Over o) e = absurd (cc)
-  at_waits Broken e = absurd (cc)
+  at_waits _ e = absurd (cc)
 
 pub call_waits : (g : Fiber) (r s : Reply) → (row_of g r).kind ≡ Waited → IsWait (row_of g s).call
 call_waits g r s e = at_waits g.number g.next g.next r s g.running e

@@ -1,16 +1,12 @@
 -- When the reports of two fibers, and of two lists of fibers, are one.
 use Rattle.std.proofs.Common.{◌≡◌, ◌≢◌, ◌<◌, ℕ, zero, suc, Bool, false, true, List, [], ◌∷◌, length, get_or, map, Option, sym, ap, ap₂, ◌∙◌, arith}
-use Rattle.std.specs.Bool.{Decides}
+use Rattle.std.{proofs.lemmas.{Bool.Decides.{Decides-eqb, Decides-int_eq, Decides-like, not_from_Decides}, Slice.Eq.slice_eq-Decides}, specs.Bool.Decides}
 use Rattle.std.specs.Cmp.Lexicographic.{pointwise}
-use Rattle.std.proofs.lemmas.Bool.Decides.{Decides-eqb, Decides-int_eq, Decides-like, not_from_Decides}
-use Rattle.std.proofs.lemmas.Slice.Eq.{slice_eq-Decides}
 use Rattle.effect_term.specs.declared.reply.Outcome.{Outcome}
-use Rattle.fiber_frames.specs.declared.mark.Mark.{Mark}
-use Rattle.fiber_frames.specs.declared.mark.Mark.TheVariants.{Say, Enter, Leave, PollIn, PollOut, Cut, Acquired, Releasing, Released, Dropped}
+use Rattle.fiber_frames.specs.declared.mark.Mark.{Mark, TheVariants.{Say, Enter, Leave, PollIn, PollOut, Cut, Acquired, Releasing, Released, Dropped}}
 use Rattle.fiber_frames.specs.Fiber.{Fiber, outcome_of}
+use Rattle.scheduled_core.specs.{declared.report.FiberReport.FiberReport, Core.fiber_report}
 use Rattle.fiber_frames.specs.contracts.mark.MarkPartialEq.TheImpl as derived
-use Rattle.scheduled_core.specs.declared.report.FiberReport.{FiberReport}
-use Rattle.scheduled_core.specs.Core.{fiber_report}
 
 mark_decides : (a b : Mark) → Decides (derived.eq-value.it a b) (a ≡ b)
 mark_decides (Say v) (Say w) = Decides-like _ (ap Say) (λ e. cc) (Decides-int_eq v w)

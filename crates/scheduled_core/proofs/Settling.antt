@@ -1,49 +1,27 @@
 -- What the code asks of a fiber tells whether it rests.
-use Rattle.std.proofs.Common.{◌≡◌, ◌≢◌, ◌⊎◌, inl, inr, ℕ, zero, suc, ◌+◌, ◌-◌, ◌^◌, ◌<◌, length, length-set, min, set, get_or, replicate, ◌≤◌, Bool, true, false, List, [], ◌∷◌, Err}
-use Rattle.std.proofs.Common.{◌++◌, Result, Ok, Option, Some, None, if◌then◌else◌, refl, sym, ap, ◌∙◌, subst, arith}
-use Rattle.std.specs.Prelude.{IfNone, IfSome, is_none, not}
-use Rattle.std.specs.Option.{is_some}
+use Rattle.std.proofs.Common.{◌≡◌, ◌≢◌, ◌⊎◌, inl, inr, ℕ, zero, suc, ◌+◌, ◌-◌, ◌^◌, ◌<◌, length, length-set, min, set, get_or, replicate, ◌≤◌, Bool, true}
+use Rattle.std.proofs.Common.{false, List, [], ◌∷◌, Err, ◌++◌, Result, Ok, Option, Some, None, if◌then◌else◌, refl, sym, ap, ◌∙◌, subst, arith}
+use Rattle.std.{proofs.lemmas.{List.length-append, Option.same_Some}, specs.Prelude.{IfNone, IfSome, is_none, not}}
 use Rattle.std.specs.List.{slice_get}
-use Rattle.cell_registry.specs.declared.limits.Limits.{Limits}
-use Rattle.cell_registry.specs.declared.limits.RunError.{RunError}
-use Rattle.cell_registry.specs.declared.limits.RunError.TheVariants.{NoMemory}
-use Rattle.std.proofs.lemmas.List.{length-append}
-use Rattle.std.proofs.lemmas.Option.{same_Some, slice_get-get_or}
+use Rattle.cell_registry.specs.declared.{limits.{Limits.Limits, RunError.{RunError, TheVariants.NoMemory}, CellError.CellError}, cell.Stage.Stage}
+use Rattle.cell_registry.specs.{declared.call.Call.Call, Cells.{Cells, cell_of, deferred_of, join_reply, refusal, reply_of}, Words.has_ended}
 use mathlib.Core.Logic.{dite}
 use native.Mathlib.Decide.{ℕ_discrete}
-use Rattle.effect_term.specs.declared.reply.Outcome.{Outcome}
 use Rattle.effect_term.specs.declared.reply.Reply.{Reply}
-use Rattle.effect_term.specs.declared.reply.Reply.TheVariants as reply
-use Rattle.derived_ops.specs.Naming.{Given}
-use Rattle.derived_ops.specs.Tree.{Action, Ending, Await, Operand, Pure, Raise, Act, Join, Mask, Tree, Make, New_ref, New_deferred, Poll}
-use Rattle.fiber_frames.specs.declared.ask.Ask.{Ask}
-use Rattle.fiber_frames.specs.declared.ask.Ask.TheVariants as ask
-use Rattle.fiber_frames.specs.declared.ask.Look.{Look}
-use Rattle.fiber_frames.specs.declared.ask.Look.TheVariants.{Clear, Due, Seen}
-use Rattle.fiber_frames.specs.declared.mark.Mark.{Mark}
-use Rattle.fiber_frames.specs.Path.{Running, Runs, Final, Over, Broken, PathStep, In_let, In_seq, In_handle, In_guarded}
-use Rattle.fiber_frames.specs.Path.{In_masked, In_polled, Root, At_term, At_final, active, leaf, path, focus}
-use Rattle.fiber_frames.specs.Path.{is_effective}
-use Rattle.fiber_frames.specs.Rows.{Waited, wait, outcome_in, read_in, action_row, word_row, value_row, error_row, row, row_at}
-use Rattle.fiber_frames.specs.Fiber.{Fiber, active_of, ask_in, ask_of, case_under, move, outcome_of, row_of, silent_move}
-use Rattle.fiber_frames.specs.Naming.{AskNamed, NamedRun}
+use Rattle.derived_ops.specs.{Naming.Given, Tree.{Action, Ending, Await, Operand, Pure, Raise, Act, Join, Mask, Tree, Make, New_ref, New_deferred, Poll}}
+use Rattle.fiber_frames.specs.{declared.{ask.{Ask.Ask, Look.{Look, TheVariants.{Clear, Due, Seen}}}, mark.Mark.Mark}, Path.{Running, Runs, Final, Over, Broken}}
+use Rattle.fiber_frames.specs.Path.{PathStep, In_polled, Root, At_term, At_final, active, leaf, path, focus}
+use Rattle.fiber_frames.specs.{Path.is_effective, Rows.{Waited, wait, outcome_in, read_in, action_row, word_row, value_row, error_row, row, row_at}}
+use Rattle.fiber_frames.specs.{Fiber.{Fiber, active_of, ask_in, ask_of, case_under, move, row_of, silent_move}, Naming.{AskNamed, NamedRun}}
 use Rattle.fiber_frames.proofs.NamedMoves.{ask_named}
-use Rattle.cell_registry.specs.declared.cell.Stage.{Stage}
+use Rattle.scheduled_core.specs.{declared.wish.Wish.{Wish, TheVariants.{Shared, Alone, Nothing}}, Core.{World, answered, born, called, entered, turned}}
+use Rattle.scheduled_core.specs.{Core.{wish_of, wished}, Finals.{IsAtRest, IsUnasked, StopsAt, reply_to, word_wish}, Fitting.Fits}
+use Rattle.scheduled_core.specs.{Fitting.{LookFits, cell_registered}, Spending.{Spends, SpendsMany, spent}, Private.Settling.IsSpentBy}
+use Rattle.scheduled_core.{specs.Private.Settling.IsUnended, proofs.{Spending.{no_birth, spends_core, spends_join}, Finality.{fold_parts, knowing}}}
+use Rattle.effect_term.specs.declared.reply.Reply.TheVariants as reply
+use Rattle.fiber_frames.specs.declared.ask.Ask.TheVariants as ask
 use Rattle.cell_registry.specs.declared.cell.Stage.TheVariants as at
-use Rattle.cell_registry.specs.declared.call.Call.{Call}
 use Rattle.cell_registry.specs.declared.call.Call.TheVariants as call
-use Rattle.cell_registry.specs.declared.limits.CellError.{CellError}
-use Rattle.cell_registry.specs.Cells.{Cells, cell_of, deferred_of, join_reply, refusal, reply_of}
-use Rattle.cell_registry.specs.Words.{has_ended}
-use Rattle.scheduled_core.specs.declared.wish.Wish.{Wish}
-use Rattle.scheduled_core.specs.declared.wish.Wish.TheVariants.{Shared, Alone, Nothing}
-use Rattle.scheduled_core.specs.Core.{World, answered, born, called, entered, turned, wish_of, wished}
-use Rattle.scheduled_core.specs.Finals.{HasEnded, IsAtRest, IsFinal, IsUnasked, StopsAt, reply_to, word_wish}
-use Rattle.scheduled_core.specs.Fitting.{Fits, LookFits, cell_registered}
-use Rattle.scheduled_core.specs.Spending.{AreSpent, Spends, SpendsMany, spent}
-use Rattle.scheduled_core.specs.Private.Settling.{HaveNoMore, IsSpentBy, IsUnended}
-use Rattle.scheduled_core.proofs.Spending.{no_birth, spends_core, spends_join}
-use Rattle.scheduled_core.proofs.Finality.{fold_parts, knowing}
 
 -- ---- a call that waits, under a reply that serves nothing
 abbrev pub IsUnserved : Ask → Reply → Type 0
@@ -72,22 +50,14 @@ module _ (i n m : ℕ) (r s : Reply) where
   value_served : (b : Root) (v : Operand) (p : List PathStep) → IsUnserved (value_row i m b v p).call r → ⊥
   value_served At_term v [] h = h
   value_served (At_final k gs) v [] h = h
-  value_served b v (In_let x k ∷ p) h = h
-  value_served b v (In_seq w k ∷ p) h = h
-  value_served b v (In_handle x k ∷ p) h = h
-  value_served b v (In_guarded fin ∷ p) h = h
-  value_served b v (In_masked k ∷ p) h = h
   value_served b v (In_polled q ∷ p) h = (switch_served (is_effective q (active i b p)) r).1 h
+  value_served b v _ h = h
 
   error_served : (b : Root) (v : Operand) (p : List PathStep) → IsUnserved (error_row i m b v p).call r → ⊥
   error_served At_term v [] h = h
   error_served (At_final k gs) v [] h = h
-  error_served b v (In_let x k ∷ p) h = h
-  error_served b v (In_seq w k ∷ p) h = h
-  error_served b v (In_handle x k ∷ p) h = h
-  error_served b v (In_guarded fin ∷ p) h = h
-  error_served b v (In_masked k ∷ p) h = h
   error_served b v (In_polled q ∷ p) h = (switch_served (is_effective q (active i b p)) r).1 h
+  error_served b v _ h = h
 
   row_kind : (b : Root) (p : List PathStep) (t : Tree) → IsUnserved (row i m s b p t).call r → (row i n r b p t).kind ≡ Waited
   row_kind b p (Pure v) h = absurd (value_served b v p h)
@@ -97,9 +67,7 @@ module _ (i n m : ℕ) (r s : Reply) where
   at_kind : (w : Running) → IsUnserved (row_at i m s (focus w) w).call r → (row_at i n r (focus w) w).kind ≡ Waited
   at_kind (Runs t) h = row_kind At_term (path t []) (leaf t) h
   at_kind (Final k (g ∷ gs)) h = row_kind (At_final k gs) (path g []) (leaf g) h
-  at_kind (Final k []) h = absurd h
-  at_kind (Over o) h = absurd h
-  at_kind Broken h = absurd h
+  at_kind _ h = absurd h
 
 unserved_waits : (g : Fiber) (r : Reply) → IsUnserved (row_of g reply.Done).call r → (row_of g r).kind ≡ Waited
 unserved_waits g r h = at_kind g.number g.next g.next r reply.Done g.running h
@@ -141,10 +109,6 @@ pub at_rest : (s : Cells) (f : ℕ) (g : Fiber) → Fits (cell_registered s f) g
     (row_of g (reply_to s f (word_wish g))).kind ≡ Waited → IsAtRest s f g
 at_rest s f g fits h waits = record { waits = waits; unasked = unseen (active_of g) g.look (cell_of s f).request fits.look h }
 
-pub some_is : (o : Option Outcome) (g : Fiber) → o ≡ outcome_of g → is_some o ≡ true → HasEnded g
-some_is None g is e = absurd (cc)
-some_is (Some o) g is e = (o, sym is)
-
 -- ---- what the word names
 under_clear : (f : Fiber) (up : List Mask) → ask_in f (case_under up Clear) ≡ (row_of f reply.Done).call
 under_clear f [] = refl
@@ -170,10 +134,6 @@ word_named b g n = subst (AskNamed b g.number) (word_asks g.number g.next g.mark
 pub not_true : (b : Bool) → not b ≡ true → b ≡ false
 not_true true e = absurd (cc)
 not_true false e = refl
-
-pub not_false : (b : Bool) → not b ≡ false → b ≡ true
-not_false true e = refl
-not_false false e = absurd (cc)
 
 pub one_settled : (P : ℕ → Fiber → Type 0) (xs : List Fiber) (i : ℕ) (x : Fiber) → ((f : ℕ) (g : Fiber) → f < i → slice_get xs f ≡ Some g → P f g) →
     slice_get xs i ≡ Some x → P i x → (f : ℕ) (g : Fiber) → f < i + 1 → slice_get xs f ≡ Some g → P f g
@@ -264,9 +224,6 @@ go_born k w v rests last f rest u at e each many is = elim (more_fibers k w v f 
       )
 ]
 
-pub none_on : (k : Limits) (w : World) (lefts : List ℕ) → SpendsMany k w lefts 0 w lefts
-none_on k w lefts = record { entries = []; spends = (refl, refl); count = omega arith }
-
 pub more_on : (k l : Limits) (w v x : World) (lefts now last : List ℕ) (many more f : ℕ) → SpendsMany k w lefts many v now → l ≡ k →
     IsSpentBy l v now f x last → more ≡ min (many + 1) (2 ^ 64 - 1) → SpendsMany k w lefts more x last
 more_on k l w v x lefts now last many more f g same h count =
@@ -292,16 +249,3 @@ pub memory_or_stops : (k l : Limits) (w v : World) (lefts now : List ℕ) (many 
     (e ≡ NoMemory) ⊎ (entered l (Ok v) f ≡ Err e) → (e ≡ NoMemory) ⊎ StopsAt k w e
 memory_or_stops k l w v lefts now many f e g same (inl memory) = inl memory
 memory_or_stops k l w v lefts now many f e g same (inr stops) = inr (stops_on k l w v lefts now many f e g same stops)
-
--- ---- nobody has moves left
-pub final_spent : (w : World) (lefts : List ℕ) → IsFinal w → AreSpent w lefts
-final_spent w lefts final f g e = inl (final f g e)
-
-pub none_spent : (w : World) (lefts : List ℕ) (most : ℕ) → length lefts ≡ length w.fibers → HaveNoMore w lefts most → most ≡ 0 → AreSpent w lefts
-none_spent w lefts most each more none f g e = elim (more f g e) [
-  | inl done ↦ inl done
-  | inr few ↦
-      let low = below_length w.fibers f g e in
-      let zero_left : get_or lefts f 0 ≡ 0 = omega (arith, few, none) in
-      inr (slice_get-get_or lefts f 0 (omega (arith, low, each)) ∙ ap Some zero_left)
-]

@@ -1,15 +1,10 @@
 -- Entries that are moves, one after another, and what is left to each fiber.
 use Rattle.std.proofs.Common.{◌≡◌, ℕ, ◌+◌, ◌-◌, List, [], ◌∷◌, ◌++◌, set, replicate, Result, Ok, refl, sym, ap, ◌∙◌, subst, arith, append-nil}
-use Rattle.std.specs.Prelude.{Option, None, Some}
-use Rattle.std.specs.List.{fold}
+use Rattle.std.specs.{Prelude.{Option, None, Some}, List.fold}
 use Rattle.effect_term.specs.declared.reply.Outcome.{Outcome}
 use Rattle.fiber_frames.specs.Fiber.{Fiber, outcome_of}
-use Rattle.cell_registry.specs.declared.limits.Limits.{Limits}
-use Rattle.cell_registry.specs.declared.limits.RunError.{RunError}
-use Rattle.scheduled_core.specs.declared.wish.Wish.TheVariants.{Nothing}
-use Rattle.scheduled_core.specs.Core.{World, entered}
-use Rattle.scheduled_core.specs.Spending.{Spends, spent}
-use Rattle.scheduled_core.specs.Stands.{wish}
+use Rattle.cell_registry.specs.declared.limits.{Limits.Limits, RunError.RunError}
+use Rattle.scheduled_core.specs.{declared.wish.Wish.TheVariants.Nothing, Core.{World, entered}, Spending.{Spends, spent}, Stands.wish}
 use Rattle.scheduled_core.proofs.Finality.{over_wish}
 
 -- a fiber that has a next move hasn't ended

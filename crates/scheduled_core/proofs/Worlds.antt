@@ -1,55 +1,27 @@
 -- A world whose fibers all fit their cells, over one entry of a schedule.
 use Rattle.std.proofs.Common.{◌≡◌, inl, inr, ℕ, zero, suc, ◌+◌, ◌<◌, [], ◌∷◌, length, set, Some, refl, sym, ap, ◌∙◌, subst, arith, length-set}
-use Rattle.std.specs.List.{slice_get}
-use Rattle.std.proofs.lemmas.Option.{same_Some}
-use Rattle.std.proofs.lemmas.List.{length-append}
+use Rattle.std.{proofs.lemmas.{Option.same_Some, List.length-append}, specs.List.slice_get}
 use mathlib.Core.Logic.{dite}
 use native.Mathlib.Decide.{ℕ_discrete}
 use Rattle.effect_term.specs.declared.reply.Reply.{Reply}
-use Rattle.fiber_frames.specs.declared.ask.Ask.{Ask}
-use Rattle.fiber_frames.specs.declared.ask.Ask.TheVariants as ask
-use Rattle.fiber_frames.specs.Rows.{number_in}
-use Rattle.fiber_frames.specs.Fiber.{Fiber, ask_of, begins, child, move, silent_move}
-use Rattle.fiber_frames.specs.Answers.{Answers}
-use Rattle.cell_registry.specs.declared.limits.Limits.{Limits}
-use Rattle.cell_registry.specs.declared.cell.Stage.TheVariants.{Running}
-use Rattle.cell_registry.specs.declared.call.Call.{Call}
-use Rattle.cell_registry.specs.declared.call.Call.TheVariants as call
-use Rattle.cell_registry.specs.Cells.{AreLimits, Cells, IsSound, after, cell_of, fresh, opening, owned, reply_of}
-use Rattle.cell_registry.proofs.Calls.{next_fiber-rises, owned-after}
+use Rattle.fiber_frames.specs.{declared.ask.Ask.Ask, Rows.number_in, Fiber.{Fiber, ask_of, begins, child, move, silent_move}, Answers.Answers}
+use Rattle.fiber_frames.{specs.Naming.NamedBeginning, proofs.NamedMoves.run_more}
+use Rattle.cell_registry.specs.{declared.{limits.Limits.Limits, cell.Stage.TheVariants.Running, call.Call.Call}, Cells.{AreLimits, Cells, IsSound, after}}
+use Rattle.cell_registry.{specs.Cells.{cell_of, fresh, opening, owned, reply_of}, proofs.Calls.{next_fiber-rises, owned-after}}
 use Rattle.cell_registry.proofs.Lists.{get_or-replicate_default}
-use Rattle.scheduled_core.specs.declared.wish.Wish.TheVariants.{Shared, Alone}
-use Rattle.scheduled_core.specs.Core.{World, born, called, first_world, wish_of}
-use Rattle.derived_ops.specs.Naming.{Given, IsMore}
-use Rattle.derived_ops.specs.Tree.{Tree}
-use Rattle.fiber_frames.specs.Naming.{NamedBeginning}
-use Rattle.scheduled_core.proofs.Answered.{called_answers}
-use Rattle.scheduled_core.specs.Fitting.{AllFit, Fits, cell_registered, given_by, new_registered}
-use Rattle.fiber_frames.proofs.NamedMoves.{run_more}
-use Rattle.scheduled_core.specs.Private.Asking.{Asking}
-use Rattle.scheduled_core.proofs.Fitted.{fits_alone}
-use Rattle.scheduled_core.proofs.PlainFits.{fits_as, fits_more, given_rises, plain_other, plain_own}
-use Rattle.scheduled_core.proofs.Replied.{begins_fits}
-use Rattle.scheduled_core.proofs.Lists.{parted, slice_get-set_same, slice_get-set_other}
+use Rattle.scheduled_core.specs.{declared.wish.Wish.TheVariants.{Shared, Alone}, Core.{World, born, called, first_world, wish_of}, Fitting.{AllFit, Fits}}
+use Rattle.scheduled_core.{specs.{Fitting.{cell_registered, given_by, new_registered}, Private.Asking.Asking}, proofs.Answered.called_answers}
+use Rattle.scheduled_core.proofs.{Fitted.fits_alone, PlainFits.{fits_as, fits_more, given_rises, plain_other, plain_own}, Replied.begins_fits, Lists.parted}
+use Rattle.scheduled_core.proofs.Lists.{slice_get-set_same, slice_get-set_other}
+use Rattle.derived_ops.specs.{Naming.{Given, IsMore}, Tree.Tree}
+use Rattle.fiber_frames.specs.declared.ask.Ask.TheVariants as ask
+use Rattle.cell_registry.specs.declared.call.Call.TheVariants as call
 
 -- how many fibers a call makes
 next_fiber-after : (s : Cells) (by : ℕ) (c : Call) (g : Fiber) (r : Reply) → (after s by c).next_fiber ≡ s.next_fiber + length (born g c r)
 unfolding after
 next_fiber-after s by call.Start g r = refl
-next_fiber-after s by (call.Cancel f) g r = omega arith
-next_fiber-after s by (call.Join f) g r = omega arith
-next_fiber-after s by call.Look g r = omega arith
-next_fiber-after s by call.Mask g r = omega arith
-next_fiber-after s by call.Unmask g r = omega arith
-next_fiber-after s by call.Cut g r = omega arith
-next_fiber-after s by (call.Finish o) g r = omega arith
-next_fiber-after s by call.NewRef g r = omega arith
-next_fiber-after s by call.NewDeferred g r = omega arith
-next_fiber-after s by (call.Get x) g r = omega arith
-next_fiber-after s by (call.Set x v) g r = omega arith
-next_fiber-after s by (call.Modify x v) g r = omega arith
-next_fiber-after s by (call.Complete d v) g r = omega arith
-next_fiber-after s by (call.Read d) g r = omega arith
+next_fiber-after s by _ g r = omega arith
 
 pub plain_answers : (s : Cells) (i n : ℕ) (a : Ask) (c : Call) → wish_of a ≡ Shared c → n < s.next_fiber → Answers n a (reply_of s i c)
 unfolding reply_of

@@ -1,12 +1,10 @@
 -- The pieces of a term.
 use Rattle.std.proofs.Common.{◌≡◌, List, [], ◌∷◌, ◌++◌, refl, ap, sym, subst, ◌∙◌, append_assoc}
 use Rattle.effect_term.specs.declared.term.Term.{Term, Row_of-Term, end_of-Term, more_of-Term, items-the_row-Term}
-use Rattle.term_parse.specs.declared.form.ReadPart.{ReadPart}
+use Rattle.term_parse.specs.{declared.{form.ReadPart.ReadPart, table.Word.Word}, Atoms.{Atom, ended, atoms_of, row_atoms}, Forms.{sorts, sort_of, pieces_atoms}}
+use Rattle.term_parse.specs.Forms.{ends, terms_atoms, AllTerms, NotPlain, NotOne, NotTwo}
 use Rattle.term_parse.specs.declared.form.ReadPart.TheVariants as pieces
-use Rattle.term_parse.specs.declared.table.Word.{Word}
 use Rattle.term_parse.specs.declared.table.Word.TheVariants as words
-use Rattle.term_parse.specs.Atoms.{Atom, ended, atoms_of, row_atoms}
-use Rattle.term_parse.specs.Forms.{sorts, sort_of, pieces_atoms, ends, terms_atoms, AllTerms, NotPlain, NotOne, NotTwo}
 
 no_more : (xs : List Atom) → xs ++ [] ≡ xs
 no_more [] = refl

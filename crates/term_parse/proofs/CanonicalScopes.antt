@@ -1,15 +1,9 @@
 -- The names of a canonical text: each binder is spelled by its kind and its slot.
-use Rattle.std.proofs.Common.{◌≡◌, ◌+◌, ◌^◌, ◌<◌, ◌≤◌, ◌==◌, ℕ, zero, suc, Bool, true, false, cond, List, []}
-use Rattle.std.proofs.Common.{◌∷◌, ◌++◌, length, Some, Ok, refl, ap, sym, ◌∙◌, arith, decimal, append_assoc}
-use Rattle.std.proofs.Common.{slice_get, length-append}
-use Rattle.std.proofs.lemmas.Fmt.{decimal_injective}
-use Rattle.effect_term.specs.declared.term.Kind.{Kind}
-use Rattle.effect_term.specs.declared.term.Name.{Name}
-use Rattle.term_parse.specs.declared.table.Part.{Part}
-use Rattle.term_parse.specs.declared.table.Part.TheVariants.{Bind, Use, Value, Term, Under, UnderBoth, More, Close}
-use Rattle.term_parse.specs.Reading.{Bound, meaning, picked, entered}
-use Rattle.term_parse.specs.Innermost.{Unspelled, IsInnermost}
-use Rattle.term_parse.specs.Spelling.{name_spelling, outer_binders}
+use Rattle.std.proofs.Common.{◌≡◌, ◌+◌, ◌^◌, ◌<◌, ◌≤◌, ◌==◌, ℕ, zero, suc, Bool, true, false, cond, List, [], ◌∷◌, ◌++◌, length, Some, Ok, refl, ap, sym, ◌∙◌}
+use Rattle.std.proofs.{Common.{arith, decimal, append_assoc, slice_get, length-append}, lemmas.Fmt.decimal_injective}
+use Rattle.effect_term.specs.declared.term.{Kind.Kind, Name.Name}
+use Rattle.term_parse.specs.{declared.table.Part.{Part, TheVariants.{Under, UnderBoth}}, Reading.{Bound, meaning, picked}}
+use Rattle.term_parse.specs.{Reading.entered, Innermost.{Unspelled, IsInnermost}, Spelling.{name_spelling, outer_binders}}
 use Rattle.term_parse.proofs.ScopeLaws.{meaning-from_innermost}
 
 -- binders of these kinds, of which the first has this slot
@@ -123,11 +117,5 @@ one_or_less false n l = l
 
 pub outer_few : (i : ℕ) (ps : List Part) → outer_binders i ps ≤ 1
 outer_few i [] = omega arith
-outer_few i (Bind k ∷ ps) = outer_few i ps
-outer_few i (Use k ∷ ps) = outer_few i ps
-outer_few i (Value ∷ ps) = outer_few i ps
-outer_few i (Term ∷ ps) = outer_few i ps
-outer_few i (Under j ∷ ps) = outer_few i ps
 outer_few i (UnderBoth j k ∷ ps) = one_or_less (k == i) (outer_binders i ps) (outer_few i ps)
-outer_few i (More ∷ ps) = outer_few i ps
-outer_few i (Close ∷ ps) = outer_few i ps
+outer_few i (_ ∷ ps) = outer_few i ps

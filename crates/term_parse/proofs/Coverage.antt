@@ -1,24 +1,15 @@
 -- What is read is spelled by the grammar: the tokens of a reading are cut into what each want takes of them.
-use Rattle.std.proofs.Common.{◌≡◌, ◌+◌, ◌≤◌, ◌<◌, ℕ, suc, List, [], ◌∷◌, ◌++◌, Option, Some, None, Result, Ok}
-use Rattle.std.proofs.Common.{Err, Bool, true, false, nat_lt, refl, ap, sym, subst, ◌∙◌, arith, append_assoc}
-use Rattle.std.proofs.lemmas.Bool.{ltb-true}
-use Rattle.effect_term.specs.declared.term.Kind.TheVariants as kinds
-use Rattle.effect_term.specs.declared.term.Name.{Name}
-use Rattle.effect_term.specs.declared.term.Operand.TheVariants.{Number, Named}
-use Rattle.term_parse.specs.declared.table.Word.{Word}
-use Rattle.term_parse.specs.declared.table.Part.{Part}
-use Rattle.term_parse.specs.declared.table.Part.TheVariants.{Bind, Use, Value, Term, Under, UnderBoth, More, Close}
-use Rattle.term_parse.specs.declared.error.ParseError.{ParseError}
-use Rattle.term_parse.specs.declared.error.ParseError.TheVariants as errors
-use Rattle.term_parse.specs.Atoms.{Atom, word, value, name, ended}
-use Rattle.term_parse.specs.Language.{word_spelling, parts_of, word_of}
-use Rattle.term_parse.specs.Lexemes.{Lexeme, opens, closes, called, number, bad_number, bad_byte, Placed}
-use Rattle.term_parse.specs.Reading.{Bound, Want, term, a_word, parts, ReadStep, want_step, part_step, begun, used}
-use Rattle.term_parse.specs.Reading.{opening, entered, meaning, open_of, with_front, reads}
-use Rattle.term_parse.specs.Grammar.{Phrase, done, spelled, counted, form, tokens_of, depth_of, Means}
-use Rattle.term_parse.proofs.Fronts.{with_front-ok}
-use Rattle.term_parse.proofs.Words.{spelling-found}
+use Rattle.std.proofs.Common.{◌≡◌, ◌+◌, ◌≤◌, ◌<◌, ℕ, suc, List, [], ◌∷◌, ◌++◌, Option, Some, None, Result, Ok, Err, Bool, true, false, nat_lt, refl, ap, sym}
+use Rattle.std.proofs.{Common.{subst, ◌∙◌, arith, append_assoc}, lemmas.Bool.ltb-true}
+use Rattle.effect_term.specs.declared.term.{Name.Name, Operand.TheVariants.{Number, Named}}
+use Rattle.term_parse.specs.declared.table.{Word.Word, Part.{Part, TheVariants.{Bind, Use, Value, Term, Under, UnderBoth, More, Close}}}
+use Rattle.term_parse.specs.{declared.error.ParseError.ParseError, Atoms.{Atom, word, value, name, ended}, Language.{word_spelling, parts_of, word_of}}
+use Rattle.term_parse.specs.{Lexemes.{Lexeme, opens, closes, called, number, bad_number, bad_byte, Placed}, Reading.{Bound, Want, term, a_word, parts}}
+use Rattle.term_parse.specs.{Reading.{ReadStep, want_step, part_step, begun, used, opening, entered, meaning, open_of, with_front, reads}, Grammar.Phrase}
+use Rattle.term_parse.{specs.Grammar.{done, spelled, counted, form, tokens_of, depth_of, Means}, proofs.{Fronts.with_front-ok, Words.spelling-found}}
 use Rattle.term_parse.proofs.ScopeLaws.{innermost-from_meaning}
+use Rattle.effect_term.specs.declared.term.Kind.TheVariants as kinds
+use Rattle.term_parse.specs.declared.error.ParseError.TheVariants as errors
 
 -- the tokens are those of these wants in turn, and mean these atoms
 abbrev pub Covered : List Want → List Placed → List Atom → Type 0

@@ -1,11 +1,8 @@
 -- A text has at most one first fault, and it is the one that reading gives.
 use Rattle.std.proofs.Common.{◌≡◌, ℕ, List, [], ◌∷◌, ◌++◌, Result, Ok, Err, refl, ap, sym, ◌∙◌, Bool, true, false, nat_lt, length}
-use Rattle.term_parse.specs.declared.error.ParseError.{ParseError}
+use Rattle.term_parse.specs.{declared.error.ParseError.ParseError, Lexemes.{Placed, lexemes_at}, Reading.{Want, term, ReadStep, want_step, open_of, reads}}
+use Rattle.term_parse.{specs.{Reading.{reads_at, reading, with_front}, Faults.{Fit, Breaks, IsFirstFault, IsFaultOf, FaultWhere}}, proofs.Fronts.with_front-err}
 use Rattle.term_parse.specs.declared.error.ParseError.TheVariants as errors
-use Rattle.term_parse.specs.Lexemes.{Placed, lexemes_at}
-use Rattle.term_parse.specs.Reading.{Want, term, ReadStep, want_step, open_of, reads, reads_at, reading, with_front}
-use Rattle.term_parse.specs.Faults.{Fit, Breaks, IsFirstFault, IsFaultOf, FaultWhere}
-use Rattle.term_parse.proofs.Fronts.{with_front-err}
 
 fault_here : (end : ℕ) (ws : List Want) (ts : List Placed) (e : ParseError) → Breaks end ws ts e → reads end ws ts ≡ Err e
 unfolding reads

@@ -1,23 +1,13 @@
 -- A term's form, by its word and what stands in it.
 use Rattle.std.proofs.Common.{◌≡◌, List, [], ◌∷◌, ◌++◌, Option, Some, None, ap, refl, subst, sym, ◌∙◌}
-use Rattle.effect_term.specs.declared.term.Term.{Term}
-use Rattle.effect_term.specs.declared.term.Term.TheVariants.{Pure, Raise, Let', Seq', Handle', If0', Add, Say, Cede}
-use Rattle.effect_term.specs.declared.term.Term.TheVariants.{Never, Canceled, Uncancelable', Poll', OnCancel', Start'}
-use Rattle.effect_term.specs.declared.term.Term.TheVariants.{Join', Cancel, Ref', Get, Set, Modify, Deferred'}
-use Rattle.effect_term.specs.declared.term.Term.TheVariants.{Complete, Await, Repeat', Forever', Guarantee', Bracket'}
-use Rattle.effect_term.specs.declared.term.Term.TheVariants.{BracketCase', BracketFull', Race', Both'}
-use Rattle.term_parse.specs.declared.printer.PrintedPart.{PrintedPart}
-use Rattle.term_parse.specs.declared.printer.PrintedPart.TheVariants as pieces
-use Rattle.term_parse.specs.declared.table.Word.{Word}
-use Rattle.term_parse.specs.declared.table.Part.{Part}
-use Rattle.term_parse.specs.declared.table.Part.TheVariants as parts
-use Rattle.term_parse.specs.Atoms.{Atom, word, value, name, ended, atoms_of}
-use Rattle.term_parse.specs.Language.{parts_of}
-use Rattle.term_parse.specs.Spelling as spelled
-use Rattle.term_parse.specs.Spelling.{form, spelling}
-use Rattle.term_parse.specs.PrintedParts.{Held, a_value, a_name, inner, held_by, held_in, held_of, term_word, more_of}
-use Rattle.term_parse.specs.PrintedParts.{piece_of, pieces_of, piece_atoms, pieces_atoms, terms_spelled, terms_atoms, Suffice}
+use Rattle.effect_term.specs.declared.term.Term.{Term, TheVariants.Seq'}
+use Rattle.term_parse.specs.{declared.{printer.PrintedPart.PrintedPart, table.{Word.Word, Part.Part}}, Atoms.{Atom, word, value, name, ended, atoms_of}}
+use Rattle.term_parse.specs.{Language.parts_of, Spelling.{form, spelling}, PrintedParts.{Held, a_value, a_name, inner, held_by, held_in, held_of, term_word}}
+use Rattle.term_parse.specs.PrintedParts.{more_of, piece_of, pieces_of, piece_atoms, pieces_atoms, terms_spelled, terms_atoms, Suffice}
 use Rattle.term_parse.proofs.TermRows.{row_spellings_items, row_atoms_items}
+use Rattle.term_parse.specs.declared.printer.PrintedPart.TheVariants as pieces
+use Rattle.term_parse.specs.declared.table.Part.TheVariants as parts
+use Rattle.term_parse.specs.Spelling as spelled
 
 -- how this is spelled
 abbrev held_spelled : Held → spelled.SpelledPart
@@ -99,111 +89,21 @@ suffice_held (parts.UnderBoth i j ∷ ws) (None ∷ ps) more h = absurd h
 suffice_held (parts.UnderBoth i j ∷ ws) (Some p ∷ ps) more h = suffice_held ws ps more h
 
 spelling_held : (t : Term) → spelling t ≡ form (term_word t) (all_spelled (held_of t)) (terms_spelled (more_of t))
-spelling_held (Pure v) = refl
-spelling_held (Raise v) = refl
-spelling_held (Let' p e q k) = refl
 spelling_held (Seq' p a q b shape more) =
     ap (form (term_word (Seq' p a q b shape more)) (all_spelled (held_of (Seq' p a q b shape more))))
     (row_spellings_items _ more)
-spelling_held (Handle' p e q h) = refl
-spelling_held (If0' v p s q e) = refl
-spelling_held (Add v w) = refl
-spelling_held (Say v) = refl
-spelling_held Cede = refl
-spelling_held Never = refl
-spelling_held Canceled = refl
-spelling_held (Uncancelable' p e) = refl
-spelling_held (Poll' n p e) = refl
-spelling_held (OnCancel' p e q fin) = refl
-spelling_held (Start' p e q k) = refl
-spelling_held (Join' f p s q e r c) = refl
-spelling_held (Cancel f) = refl
-spelling_held (Ref' v p k) = refl
-spelling_held (Get r) = refl
-spelling_held (Set r v) = refl
-spelling_held (Modify r v) = refl
-spelling_held (Deferred' p k) = refl
-spelling_held (Complete d v) = refl
-spelling_held (Await d) = refl
-spelling_held (Repeat' v p e) = refl
-spelling_held (Forever' p e) = refl
-spelling_held (Guarantee' p e q fin) = refl
-spelling_held (Bracket' p acq q body r rel) = refl
-spelling_held (BracketCase' p acq q body r rs s re t rc) = refl
-spelling_held (BracketFull' p acq q body r rs s re t rc) = refl
-spelling_held (Race' p a q b) = refl
-spelling_held (Both' p a q b r k) = refl
+spelling_held _ = refl
 
 atoms_held : (t : Term) → atoms_of t ≡ word (term_word t) ∷ all_atoms (held_of t) (terms_atoms (more_of t) (ended ∷ []))
-atoms_held (Pure v) = refl
-atoms_held (Raise v) = refl
-atoms_held (Let' p e q k) = refl
 atoms_held (Seq' p a q b shape more) =
     ap (λ xs. word (term_word (Seq' p a q b shape more)) ∷ all_atoms (held_of (Seq' p a q b shape more)) xs)
     (row_atoms_items _ more (ended ∷ []))
-atoms_held (Handle' p e q h) = refl
-atoms_held (If0' v p s q e) = refl
-atoms_held (Add v w) = refl
-atoms_held (Say v) = refl
-atoms_held Cede = refl
-atoms_held Never = refl
-atoms_held Canceled = refl
-atoms_held (Uncancelable' p e) = refl
-atoms_held (Poll' n p e) = refl
-atoms_held (OnCancel' p e q fin) = refl
-atoms_held (Start' p e q k) = refl
-atoms_held (Join' f p s q e r c) = refl
-atoms_held (Cancel f) = refl
-atoms_held (Ref' v p k) = refl
-atoms_held (Get r) = refl
-atoms_held (Set r v) = refl
-atoms_held (Modify r v) = refl
-atoms_held (Deferred' p k) = refl
-atoms_held (Complete d v) = refl
-atoms_held (Await d) = refl
-atoms_held (Repeat' v p e) = refl
-atoms_held (Forever' p e) = refl
-atoms_held (Guarantee' p e q fin) = refl
-atoms_held (Bracket' p acq q body r rel) = refl
-atoms_held (BracketCase' p acq q body r rs s re t rc) = refl
-atoms_held (BracketFull' p acq q body r rs s re t rc) = refl
-atoms_held (Race' p a q b) = refl
-atoms_held (Both' p a q b r k) = refl
+atoms_held _ = refl
 
 covered : (t : Term) → Covers (parts_of (term_word t)) (held_of t) (more_of t)
 unfolding parts_of
-covered (Pure v) = refl
-covered (Raise v) = refl
-covered (Let' p e q k) = refl
 covered (Seq' p a q b shape more) = tt
-covered (Handle' p e q h) = refl
-covered (If0' v p s q e) = refl
-covered (Add v w) = refl
-covered (Say v) = refl
-covered Cede = refl
-covered Never = refl
-covered Canceled = refl
-covered (Uncancelable' p e) = refl
-covered (Poll' n p e) = refl
-covered (OnCancel' p e q fin) = refl
-covered (Start' p e q k) = refl
-covered (Join' f p s q e r c) = refl
-covered (Cancel f) = refl
-covered (Ref' v p k) = refl
-covered (Get r) = refl
-covered (Set r v) = refl
-covered (Modify r v) = refl
-covered (Deferred' p k) = refl
-covered (Complete d v) = refl
-covered (Await d) = refl
-covered (Repeat' v p e) = refl
-covered (Forever' p e) = refl
-covered (Guarantee' p e q fin) = refl
-covered (Bracket' p acq q body r rel) = refl
-covered (BracketCase' p acq q body r rs s re t rc) = refl
-covered (BracketFull' p acq q body r rs s re t rc) = refl
-covered (Race' p a q b) = refl
-covered (Both' p a q b r k) = refl
+covered _ = refl
 
 -- a term's word, pieces that hold what stands in it, and its further terms are its form
 pub form_spelling : (t : Term) (w : Word) (ps : List (Option PrintedPart)) (more : List Term) → w ≡ term_word t →

@@ -1,9 +1,6 @@
 -- What a reading has in front, and the opening of a bracket.
-use Rattle.std.proofs.Common.{◌≡◌, ◌<◌, ℕ, List, [], ◌++◌, Result, Ok, Err, true, nat_lt, refl, ap, sym, append_assoc}
-use Rattle.std.proofs.lemmas.Bool.{lt-ltb}
-use Rattle.term_parse.specs.declared.error.ParseError.{ParseError}
-use Rattle.term_parse.specs.Atoms.{Atom}
-use Rattle.term_parse.specs.Reading.{Want, opening, with_front}
+use Rattle.std.proofs.{Common.{◌≡◌, ◌<◌, ℕ, List, [], ◌++◌, Result, Ok, Err, true, nat_lt, refl, ap, sym, append_assoc}, lemmas.Bool.lt-ltb}
+use Rattle.term_parse.specs.{declared.error.ParseError.ParseError, Atoms.Atom, Reading.{Want, opening, with_front}}
 
 pub with_none : (r : Result (List Atom) ParseError) → with_front [] r ≡ r
 with_none (Ok x) = refl

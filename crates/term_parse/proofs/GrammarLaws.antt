@@ -1,18 +1,12 @@
 -- What the grammar spells is what is read, both ways.
 use Rattle.std.proofs.Common.{◌≡◌, ◌+◌, ◌≤◌, ◌<◌, ℕ, suc, List, [], ◌∷◌, ◌++◌, refl, ap, sym, ◌∙◌, arith, append_assoc}
-use Rattle.effect_term.specs.declared.term.Kind.TheVariants as kinds
 use Rattle.effect_term.specs.declared.term.Operand.TheVariants.{Number, Named}
-use Rattle.term_parse.specs.declared.table.Word.{Word}
-use Rattle.term_parse.specs.declared.table.Part.{Part}
-use Rattle.term_parse.specs.declared.table.Part.TheVariants.{Bind, Use, Value, Term, Under, UnderBoth, More, Close}
-use Rattle.term_parse.specs.Atoms.{Atom, word, value, name}
-use Rattle.term_parse.specs.Language.{word_spelling, parts_of}
-use Rattle.term_parse.specs.Lexemes.{opens, called, Placed}
-use Rattle.term_parse.specs.Reading.{Bound, Want, a_word, parts, want_step, part_step, opening, entered, open_of, with_front, reads}
-use Rattle.term_parse.specs.Grammar.{Phrase, done, spelled, counted, form, tokens_of, depth_of, Means}
-use Rattle.term_parse.proofs.Fronts.{with_none, with_both, opening_low}
-use Rattle.term_parse.proofs.Words.{word_of-spelled}
+use Rattle.term_parse.specs.{declared.table.{Word.Word, Part.{Part, TheVariants.{Bind, Use, Value, Term, Under, UnderBoth, More, Close}}}, Atoms.{Atom, word}}
+use Rattle.term_parse.specs.{Atoms.{value, name}, Language.{word_spelling, parts_of}, Lexemes.{opens, called, Placed}, Reading.{Bound, Want, a_word, parts}}
+use Rattle.term_parse.specs.{Reading.{want_step, part_step, opening, entered, open_of, with_front, reads}, Grammar.{Phrase, done, spelled, counted, form}}
+use Rattle.term_parse.{specs.Grammar.{tokens_of, depth_of, Means}, proofs.{Fronts.{with_none, with_both, opening_low}, Words.word_of-spelled}}
 use Rattle.term_parse.proofs.ScopeLaws.{meaning-from_innermost}
+use Rattle.effect_term.specs.declared.term.Kind.TheVariants as kinds
 
 -- a form from its opening bracket on, wherever a bracket is wanted
 pub opened : (end a c : ℕ) (w : Word) (v : Want) (inside : List Bound) (after todo : List Want) (ts : List Placed) →

@@ -1,33 +1,17 @@
 -- What the grammar spells is closed and well kinded: each use of a name has a binder of its place's kind.
-use Rattle.std.proofs.Common.{◌≡◌, ℕ, List, [], ◌∷◌, ◌++◌, length, Option, Some, None, Result, Ok, Err, IfOk}
-use Rattle.std.proofs.Common.{slice_get, map, refl, ap, sym, subst, ◌∙◌, append_assoc}
-use Rattle.std.specs.Option.{option_map}
-use Rattle.std.proofs.lemmas.List.{map-append}
-use Rattle.std.proofs.lemmas.Option.{slice_get-map}
-use Rattle.effect_term.specs.declared.term.Kind.{Kind}
+use Rattle.std.proofs.Common.{◌≡◌, ℕ, List, [], ◌∷◌, ◌++◌, length, Option, Some, None, Result, Ok, Err, IfOk, slice_get, map, refl, ap, sym, subst, ◌∙◌}
+use Rattle.std.{proofs.{Common.append_assoc, lemmas.{List.map-append, Option.slice_get-map}}, specs.Option.option_map}
+use Rattle.effect_term.specs.declared.term.{Kind.Kind, Name.Name, Operand.TheVariants.{Number, Named}, Term.{Term, Row_of-Term, end_of-Term, more_of-Term}}
+use Rattle.effect_term.specs.declared.term.Term.TheVariants.{Pure, Let', Seq', Handle', If0', Add, Cede, Never, Canceled, Uncancelable', Poll'}
+use Rattle.effect_term.specs.declared.term.Term.TheVariants.{OnCancel', Start', Join', Ref', Set, Modify, Deferred', Complete, Repeat'}
+use Rattle.effect_term.specs.{declared.term.Term.TheVariants.{Forever', Guarantee', Bracket', BracketCase', BracketFull', Race', Both'}, Kinds.Fits}
+use Rattle.effect_term.specs.Kinds.{ValueFits, WellKinded, AllWellKinded}
+use Rattle.term_parse.specs.{declared.{error.ParseError.ParseError, table.{Part.Part, Word.Word}}, Atoms.{Atom, word, value, name, ended, atoms_of}}
+use Rattle.term_parse.specs.{Grammar.{Phrase, done, spelled, counted, form, Means, Spells}, Language.parts_of, Innermost.IsInnermost, Reading.{Bound, picked}}
+use Rattle.term_parse.specs.{Reading.{entered, reading}, Shapes.{Shape, closed, value_then, name_then, form_then, term_then, row_then, shape_of}}
+use Rattle.term_parse.proofs.{ShapeLaws.{flat, apart, flat_term}, SpelledLaws.spelled-from_reading}
 use Rattle.effect_term.specs.declared.term.Kind.TheVariants as kinds
-use Rattle.effect_term.specs.declared.term.Name.{Name}
-use Rattle.effect_term.specs.declared.term.Operand.TheVariants.{Number, Named}
-use Rattle.effect_term.specs.declared.term.Term.{Term, Row_of-Term, end_of-Term, more_of-Term}
-use Rattle.effect_term.specs.declared.term.Term.TheVariants.{Pure, Raise, Let', Seq', Handle', If0', Add, Say}
-use Rattle.effect_term.specs.declared.term.Term.TheVariants.{Cede, Never, Canceled, Uncancelable', Poll'}
-use Rattle.effect_term.specs.declared.term.Term.TheVariants.{OnCancel', Start', Join', Cancel, Ref', Get, Set}
-use Rattle.effect_term.specs.declared.term.Term.TheVariants.{Modify, Deferred', Complete, Await, Repeat'}
-use Rattle.effect_term.specs.declared.term.Term.TheVariants.{Forever', Guarantee', Bracket', BracketCase'}
-use Rattle.effect_term.specs.declared.term.Term.TheVariants.{BracketFull', Race', Both'}
-use Rattle.effect_term.specs.Kinds.{Fits, ValueFits, WellKinded, AllWellKinded}
-use Rattle.term_parse.specs.declared.error.ParseError.{ParseError}
-use Rattle.term_parse.specs.declared.table.Part.{Part}
 use Rattle.term_parse.specs.declared.table.Part.TheVariants as parts
-use Rattle.term_parse.specs.declared.table.Word.{Word}
-use Rattle.term_parse.specs.Atoms.{Atom, word, value, name, ended, atoms_of}
-use Rattle.term_parse.specs.Grammar.{Phrase, done, spelled, counted, form, Means, Spells}
-use Rattle.term_parse.specs.Language.{parts_of}
-use Rattle.term_parse.specs.Innermost.{IsInnermost}
-use Rattle.term_parse.specs.Reading.{Bound, picked, entered, reading}
-use Rattle.term_parse.specs.Shapes.{Shape, closed, value_then, name_then, form_then, term_then, row_then, shape_of}
-use Rattle.term_parse.proofs.ShapeLaws.{flat, apart, flat_term}
-use Rattle.term_parse.proofs.SpelledLaws.{spelled-from_reading}
 
 abbrev kind_of : Bound → Kind
 kind_of b = b.kind
@@ -143,37 +127,7 @@ kinded_phrase p s b ps xs m = absurd m
 -- each term is a form
 as_form : (t : Term) (rest : Shape) → (w : Word) × (x : Shape) × (term_then t rest ≡ form_then w x rest)
 as_form (Pure v) rest = (_, _, refl)
-as_form (Raise v) rest = (_, _, refl)
-as_form (Let' p e q k) rest = (_, _, refl)
-as_form (Seq' p a q b shape more) rest = (_, _, refl)
-as_form (Handle' p e q h) rest = (_, _, refl)
-as_form (If0' v p s q e) rest = (_, _, refl)
-as_form (Add v w) rest = (_, _, refl)
-as_form (Say v) rest = (_, _, refl)
-as_form Cede rest = (_, _, refl)
-as_form Never rest = (_, _, refl)
-as_form Canceled rest = (_, _, refl)
-as_form (Uncancelable' p e) rest = (_, _, refl)
-as_form (Poll' n p e) rest = (_, _, refl)
-as_form (OnCancel' p e q fin) rest = (_, _, refl)
-as_form (Start' p e q k) rest = (_, _, refl)
-as_form (Join' f p s q e r c) rest = (_, _, refl)
-as_form (Cancel f) rest = (_, _, refl)
-as_form (Ref' v p k) rest = (_, _, refl)
-as_form (Get r) rest = (_, _, refl)
-as_form (Set r v) rest = (_, _, refl)
-as_form (Modify r v) rest = (_, _, refl)
-as_form (Deferred' p k) rest = (_, _, refl)
-as_form (Complete d v) rest = (_, _, refl)
-as_form (Await d) rest = (_, _, refl)
-as_form (Repeat' v p e) rest = (_, _, refl)
-as_form (Forever' p e) rest = (_, _, refl)
-as_form (Guarantee' p e q fin) rest = (_, _, refl)
-as_form (Bracket' p acq q body r rel) rest = (_, _, refl)
-as_form (BracketCase' p acq q body r rs s re t rc) rest = (_, _, refl)
-as_form (BracketFull' p acq q body r rs s re t rc) rest = (_, _, refl)
-as_form (Race' p a q b) rest = (_, _, refl)
-as_form (Both' p a q b r k) rest = (_, _, refl)
+as_form _ rest = (_, _, refl)
 
 -- a term where a part wants one, and what stands behind it
 split_term : (t : Term) (rest : Shape) (ks bs : List Kind) (ps : List Part) → KindedParts ks bs (parts.Term ∷ ps) (term_then t rest) →
@@ -209,8 +163,6 @@ mutual
   unfolding parts_of
 
   kinded_term : (t : Term) (ks : List Kind) (rest : Shape) → KindedForm ks (term_then t rest) → WellKinded ks t
-  kinded_term (Pure v) ks rest m = m.0
-  kinded_term (Raise v) ks rest m = m.0
   kinded_term (Let' p e q k) ks rest m =
       let in_e = split_term e (term_then k closed) ks (kinds.Value ∷ []) _ m in
       let in_k = split_under 0 k closed ks (kinds.Value ∷ []) _ in_e.1 in
@@ -228,7 +180,6 @@ mutual
       let in_e = split_term e closed ks [] _ in_s.1 in
       (m.0, kinded_term s ks (term_then e closed) in_s.0, kinded_term e ks closed in_e.0)
   kinded_term (Add v w) ks rest m = (m.0, m.1.0)
-  kinded_term (Say v) ks rest m = m.0
   kinded_term Cede ks rest m = tt
   kinded_term Never ks rest m = tt
   kinded_term Canceled ks rest m = tt
@@ -255,18 +206,15 @@ mutual
         kinded_term e (ks ++ kinds.Value ∷ []) (term_then c closed) in_e.0,
         kinded_term c ks closed in_c.0,
       )
-  kinded_term (Cancel f) ks rest m = m.0
   kinded_term (Ref' v p k) ks rest m =
       let in_k = split_under 0 k closed ks (kinds.Ref ∷ []) _ m.1 in
       (m.0, kinded_term k (ks ++ kinds.Ref ∷ []) closed in_k.0)
-  kinded_term (Get r) ks rest m = m.0
   kinded_term (Set r v) ks rest m = (m.0, m.1.0)
   kinded_term (Modify r v) ks rest m = (m.0, m.1.0)
   kinded_term (Deferred' p k) ks rest m =
       let in_k = split_under 0 k closed ks (kinds.Deferred ∷ []) _ m in
       kinded_term k (ks ++ kinds.Deferred ∷ []) closed in_k.0
   kinded_term (Complete d v) ks rest m = (m.0, m.1.0)
-  kinded_term (Await d) ks rest m = m.0
   kinded_term (Repeat' v p e) ks rest m =
       let in_e = split_term e closed ks [] _ m.1 in
       (m.0, kinded_term e ks closed in_e.0)
@@ -321,6 +269,7 @@ mutual
         kinded_term b ks (term_then k closed) in_b.0,
         kinded_term k (ks ++ kinds.Value ∷ kinds.Value ∷ []) closed in_k.0,
       )
+  kinded_term _ ks rest m = m.0
 
   kinded_row : {m : _} (more : Row_of-Term m) (ks bs : List Kind) (ps : List Part) → KindedParts ks bs (parts.More ∷ ps) (row_then more closed) →
       AllWellKinded ks more

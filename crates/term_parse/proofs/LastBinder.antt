@@ -1,14 +1,9 @@
 -- The last binder of a scope is looked at first.
 use Rattle.std.proofs.Common.{◌≡◌, ◌≤◌, ◌+◌, ℕ, suc, Bool, true, false, List, [], ◌∷◌, ◌++◌, length, Option, Some, None, refl, ap, sym, subst, ◌∙◌, arith}
-use Rattle.std.specs.List.{slice_range}
-use Rattle.std.specs.Str.{bytes_eq}
-use Rattle.std.proofs.lemmas.Slice.Eq.{bytes_eq-Decides}
+use Rattle.std.{proofs.lemmas.Slice.Eq.bytes_eq-Decides, specs.{List.slice_range, Str.bytes_eq}}
 use Rattle.effect_term.specs.declared.term.Name.{Name}
-use Rattle.term_parse.specs.declared.scope.Binding.{Binding}
-use Rattle.term_parse.specs.Reading.{Bound, find_from}
-use Rattle.term_parse.specs.Bindings.{bounds, bound_of, hash_of, InText}
-use Rattle.term_parse.proofs.ScopeLaws.{find-from_innermost}
-use Rattle.term_parse.proofs.Steps.{bounds-append}
+use Rattle.term_parse.specs.{declared.scope.Binding.Binding, Reading.{Bound, find_from}, Bindings.{bounds, bound_of, hash_of, InText}}
+use Rattle.term_parse.proofs.{ScopeLaws.find-from_innermost, Steps.bounds-append}
 
 other_result : (x y : List ℕ) (b : Bool) → bytes_eq x y ≡ b → (hash_of x ≡ hash_of y → ⊥) → b ≡ false
 other_result x y true e h = absurd (h (ap hash_of ((bytes_eq-Decides x y).0 e)))

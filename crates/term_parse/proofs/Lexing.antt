@@ -1,22 +1,12 @@
 -- One byte of a text, as the tokens see it.
 use Prim.Native.Nat.{zero}
-use Rattle.std.proofs.Common.{◌≡◌, ◌≤◌, ◌<◌, ◌+◌, ◌-◌, ◌*◌, ◌/◌, ◌^◌, ◌==◌, ◌||◌, ◌&&◌, ℕ, suc, Bool, true}
-use Rattle.std.proofs.Common.{false, nat_lt, nat_le, List, [], ◌∷◌, ◌++◌, length, get_or, take, drop, refl, ap}
-use Rattle.std.proofs.Common.{sym, ◌∙◌, arith, rules, length-drop, append_assoc, drop-cons, add-one, pos, neg_ℤ}
-use Rattle.std.proofs.Common.{None}
-use Rattle.std.specs.List.{slice_range}
-use Rattle.std.specs.Char.{digit_value}
-use Rattle.std.specs.Str.Parse.{digits_value}
-use Rattle.std.proofs.Math.Seq.{take-suc}
-use Rattle.std.proofs.lemmas.List.{get_or-drop}
-use Rattle.std.proofs.lemmas.Bool.Decides.{nat_tests}
-use Rattle.std.proofs.lemmas.Grind.{common_steps}
+use Rattle.std.proofs.Common.{◌≡◌, ◌≤◌, ◌<◌, ◌+◌, ◌-◌, ◌*◌, ◌/◌, ◌^◌, ◌==◌, ◌||◌, ◌&&◌, ℕ, suc, Bool, true, false, nat_lt, nat_le, List, [], ◌∷◌, ◌++◌, length}
+use Rattle.std.proofs.Common.{get_or, take, drop, refl, ap, sym, ◌∙◌, arith, rules, length-drop, append_assoc, drop-cons, add-one, pos, neg_ℤ, None}
+use Rattle.std.proofs.{Math.Seq.take-suc, lemmas.{List.get_or-drop, Bool.Decides.nat_tests, Grind.common_steps, Int.Digits.digits_value_more}}
+use Rattle.std.{proofs.lemmas.Str.Parse.digits_value-take-le, specs.{List.slice_range, Char.digit_value, Str.Parse.digits_value}}
 use Rattle.effect_term.specs.Values.{IsValue}
-use Rattle.term_parse.specs.Lexemes.{is_space, is_digit, is_letter, is_run, run_of, all_digits, is_plain, lexeme_of, lexemes, lexemes_at}
-use Rattle.term_parse.specs.Seen.{lexeme_as, plain_value, seen_kind, IsNext}
-use Rattle.std.proofs.lemmas.Int.Digits.{digits_value_more}
-use Rattle.std.proofs.lemmas.Str.Parse.{digits_value-take-le}
-use Rattle.term_parse.specs.declared.token.TokenKind.{TokenKind}
+use Rattle.term_parse.specs.{Lexemes.{is_space, is_digit, is_letter, is_run, run_of, all_digits, is_plain, lexeme_of, lexemes, lexemes_at}, Seen.lexeme_as}
+use Rattle.term_parse.specs.{Seen.{plain_value, seen_kind, IsNext}, declared.token.TokenKind.TokenKind}
 
 lexemes-space : (b at : ℕ) (bs : List ℕ) → is_space b ≡ true → lexemes false at (b ∷ bs) ≡ lexemes false (suc at) bs
 unfolding lexemes
@@ -57,9 +47,6 @@ pub record RunsTo (text : List ℕ) (from at : ℕ) : Type 0 where
   pub high : at ≤ length text
   pub run : slice_range text from at ++ run_of (drop at text) ≡ run_of (drop from text)
   pub skipped : lexemes true from (drop from text) ≡ lexemes true at (drop at text)
-
-pub run_begins : (text : List ℕ) (from : ℕ) → from ≤ length text → RunsTo text from from
-run_begins text from h = record { low = omega arith; high = h; run = grind (arith, common_steps); skipped = refl }
 
 pub run_goes_on : (text : List ℕ) (from at : ℕ) → RunsTo text from at → at < length text → is_run (get_or text at 0) ≡ true → RunsTo text from (at + 1)
 run_goes_on text from at r h s =

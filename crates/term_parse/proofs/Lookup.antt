@@ -1,13 +1,8 @@
 -- A word is found among those that begin with its letter.
-use Rattle.std.proofs.Common.{◌≡◌, Bool, true, false, if◌then◌else◌, ℕ, List, [], ◌∷◌, Option, Some, None, length}
-use Rattle.std.proofs.Common.{refl, sym, subst, find, bytes_eq, arith, drop, get_or, ap, ◌∙◌, ◌+◌, ◌<◌, ◌≤◌}
-use Rattle.std.proofs.lemmas.List.{at_drop_more, at_drop_all}
-use Rattle.std.proofs.lemmas.Slice.Eq.{bytes_eq-Decides}
-use Rattle.term_parse.specs.declared.table.Word.{Word}
+use Rattle.std.proofs.Common.{◌≡◌, Bool, true, false, if◌then◌else◌, ℕ, List, [], ◌∷◌, Option, Some, None, length, refl, sym, subst, find, bytes_eq, arith}
+use Rattle.std.proofs.{Common.{drop, get_or, ap, ◌∙◌, ◌+◌, ◌<◌, ◌≤◌}, lemmas.{List.{at_drop_more, at_drop_all}, Slice.Eq.bytes_eq-Decides}}
+use Rattle.term_parse.{specs.{declared.table.Word.Word, Language.{word_spelling, word_of}, Lookup.words_from}, proofs.Words.{spelling-found, word_of-spelled}}
 use Rattle.term_parse.specs.declared.table.Word.TheVariants as words
-use Rattle.term_parse.specs.Language.{word_spelling, word_of}
-use Rattle.term_parse.specs.Lookup.{words_from}
-use Rattle.term_parse.proofs.Words.{spelling-found, word_of-spelled}
 
 abbrev nearby : List ℕ → Option Word
 nearby [] = None
@@ -16,37 +11,7 @@ nearby (first ∷ rest) = find (λ w. bytes_eq (word_spelling w) (first ∷ rest
 nearby-spelled : (w : Word) → nearby (word_spelling w) ≡ Some w
 unfolding words_from word_spelling
 nearby-spelled words.Pure = refl
-nearby-spelled words.Raise = refl
-nearby-spelled words.Let = refl
-nearby-spelled words.Seq = refl
-nearby-spelled words.Handle = refl
-nearby-spelled words.If0 = refl
-nearby-spelled words.Add = refl
-nearby-spelled words.Say = refl
-nearby-spelled words.Cede = refl
-nearby-spelled words.Never = refl
-nearby-spelled words.Canceled = refl
-nearby-spelled words.Uncancelable = refl
-nearby-spelled words.Poll = refl
-nearby-spelled words.OnCancel = refl
-nearby-spelled words.Start = refl
-nearby-spelled words.Join = refl
-nearby-spelled words.Cancel = refl
-nearby-spelled words.Ref = refl
-nearby-spelled words.Get = refl
-nearby-spelled words.Set = refl
-nearby-spelled words.Modify = refl
-nearby-spelled words.Deferred = refl
-nearby-spelled words.Complete = refl
-nearby-spelled words.Await = refl
-nearby-spelled words.Repeat = refl
-nearby-spelled words.Forever = refl
-nearby-spelled words.Guarantee = refl
-nearby-spelled words.Bracket = refl
-nearby-spelled words.BracketCase = refl
-nearby-spelled words.BracketFull = refl
-nearby-spelled words.Race = refl
-nearby-spelled words.Both = refl
+nearby-spelled _ = refl
 
 chosen_passes : (p : Word → Bool) (v w : Word) (others : Option Word) (b : Bool) → p v ≡ b → (others ≡ Some w → p w ≡ true) →
     (if b then Some v else others) ≡ Some w → p w ≡ true

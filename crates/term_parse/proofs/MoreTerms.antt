@@ -1,13 +1,9 @@
 -- The further terms of a `seq`, written one after another.
 use Rattle.std.proofs.Common.{◌≡◌, ◌+◌, ◌<◌, ◌≤◌, ℕ, zero, suc, List, [], ◌∷◌, ◌++◌, length, get_or, drop, ap, sym, subst, ◌∙◌, arith, append_assoc}
-use Rattle.std.proofs.lemmas.List.{at_drop_more, at_drop_all}
+use Rattle.std.proofs.lemmas.List.{at_drop_more}
 use Rattle.effect_term.specs.declared.term.Term.{Term}
-use Rattle.term_parse.specs.Atoms.{ended, atoms_of}
-use Rattle.term_parse.specs.Numbers.{NumbersFit}
-use Rattle.term_parse.specs.PrintedParts.{terms_spelled, terms_atoms}
-use Rattle.term_parse.specs.Spelling.{spelling, more_spelling}
-use Rattle.term_parse.proofs.PrintedNumbers.{join_numbers}
-use Rattle.term_parse.proofs.Weights.{weight, terms_weight}
+use Rattle.term_parse.specs.{Atoms.{ended, atoms_of}, Numbers.NumbersFit, PrintedParts.{terms_spelled, terms_atoms}, Spelling.{spelling, more_spelling}}
+use Rattle.term_parse.proofs.{PrintedNumbers.join_numbers, Weights.{weight, terms_weight}}
 
 -- one of them weighs at most what all weigh
 pub weight_at : (ts : List Term) (i : ℕ) (t : Term) → i < length ts → t ≡ get_or ts i t → weight t ≤ terms_weight ts
@@ -27,12 +23,6 @@ next_text ts i t around out new all within is e so_far =
     ∙ append_assoc out (32 ∷ []) (spelling t around ++ behind)
     ∙ ap (λ x. out ++ 32 ∷ (spelling x around ++ behind)) is ∙ ap (λ x. out ++ x) (sym here) ∙ so_far
 
--- behind the last stands the closing bracket
-pub last_text : (ts : List Term) (i : ℕ) (around : ℕ) (out new all : List ℕ) → length ts ≤ i → new ≡ out ++ 41 ∷ [] → out ++
-    more_spelling around (terms_spelled (drop i ts)) ≡ all → new ≡ all
-last_text ts i around out new all over e so_far =
-    e ∙ ap (λ x. out ++ x) (sym (at_drop_all (λ xs. more_spelling around (terms_spelled xs)) ts i over)) ∙ so_far
-
 pub next_numbers : (ts : List Term) (i : ℕ) (t : Term) → i < length ts → t ≡ get_or ts i t → NumbersFit (atoms_of t) →
     NumbersFit (terms_atoms (drop (i + 1) ts) (ended ∷ [])) → NumbersFit (terms_atoms (drop i ts) (ended ∷ []))
 next_numbers ts i t within is here behind =
@@ -40,6 +30,3 @@ next_numbers ts i t within is here behind =
     at_drop_more (λ xs. terms_atoms xs (ended ∷ [])) ts i t within in
     subst NumbersFit (sym all)
     (join_numbers (atoms_of (get_or ts i t)) (terms_atoms (drop (i + 1) ts) (ended ∷ [])) (subst (λ (x : Term). NumbersFit (atoms_of x)) is here) behind)
-
-pub last_numbers : (ts : List Term) (i : ℕ) → length ts ≤ i → NumbersFit (terms_atoms (drop i ts) (ended ∷ []))
-last_numbers ts i over = subst NumbersFit (sym (at_drop_all (λ xs. terms_atoms xs (ended ∷ [])) ts i over)) tt

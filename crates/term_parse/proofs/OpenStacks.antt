@@ -1,24 +1,14 @@
 -- The forms that are open, under the binders that stand around the innermost.
-use Rattle.std.proofs.Common.{◌≡◌, ◌≤◌, ◌<◌, ◌+◌, ℕ, List, [], ◌∷◌, ◌++◌}
-use Rattle.std.proofs.Common.{length, take, refl, ap, sym, subst, ◌∙◌, arith, Box}
-use Rattle.std.proofs.lemmas.List.{take-take, length-take}
-use Rattle.std.specs.declared.alloc.Global.{Global}
+use Rattle.std.proofs.{Common.{◌≡◌, ◌≤◌, ◌<◌, ◌+◌, ℕ, List, [], ◌∷◌, ◌++◌, length, take, refl, ap, sym, subst, ◌∙◌, arith, Box}, lemmas.List.take-take}
+use Rattle.std.{proofs.lemmas.List.length-take, specs.declared.alloc.Global.Global}
+use Rattle.term_parse.specs.{declared.{error.ParseError.ParseError, table.Word.Word, scope.Binding.Binding, form.{Form.Form, FormStep.FormStep}}, Atoms.word}
+use Rattle.term_parse.specs.{Atoms.atoms_of, Language.parts_of, Reading.{term, parts, with_front, reads_at, Fails}, OpenForms.{innermost, outer, outers}}
+use Rattle.term_parse.specs.{OpenForms.{begun_form, IsBegun, Growing}, Forms.{Adds, Buildable, Closes, FailsAt, IsOpen, IsStack, Opens, Reads, Shaped}}
+use Rattle.term_parse.{specs.Forms.{Sound, Stepped, ends, sorts}, proofs.{Words.completed, Stacks.{stack_reads, stack_opens, stack_closes}}}
+use Rattle.term_parse.proofs.Stacks.{stack_fails}
 use Rattle.effect_term.specs.declared.term.Term as terms
-use Rattle.term_parse.specs.declared.error.ParseError.{ParseError}
-use Rattle.term_parse.specs.declared.table.Word.{Word}
-use Rattle.term_parse.specs.declared.scope.Binding.{Binding}
 use Rattle.term_parse.specs.declared.form.ReadPart.TheVariants as pieces
-use Rattle.term_parse.specs.declared.form.Form.{Form}
-use Rattle.term_parse.specs.declared.form.FormStep.{FormStep}
 use Rattle.term_parse.specs.declared.form.FormStep.TheVariants as steps
-use Rattle.term_parse.specs.Atoms.{word, atoms_of}
-use Rattle.term_parse.specs.Language.{parts_of}
-use Rattle.term_parse.specs.Reading.{term, parts, with_front, reads_at, Fails}
-use Rattle.term_parse.specs.OpenForms.{innermost, outer, outers, begun_form, IsBegun, Growing}
-use Rattle.term_parse.specs.Forms.{Adds, Buildable, Closes, FailsAt, IsOpen, IsStack, IsWhole, Opens, Reads}
-use Rattle.term_parse.specs.Forms.{Shaped, Sound, Stepped, ends, sorts}
-use Rattle.term_parse.proofs.Words.{completed}
-use Rattle.term_parse.proofs.Stacks.{stack_reads, stack_opens, stack_closes, stack_ends, stack_fails}
 
 outers-length : (s : List Binding) (fs : List (Box Form Global)) → length (outers s fs) ≡ length fs
 outers-length s [] = refl
@@ -129,12 +119,6 @@ open_closes text at next s t f g b fs rest u o n c a e d l w =
       stack = subst (IsStack text next (innermost t g)) (sym same) stack;
       growing = subst (Growing 0 rest) (sym long) front;
     }
-
-pub open_ends : (text : List ℕ) (at next : ℕ) (s : List Binding) (f : Form) (fs : List (Box Form Global))
-    (u : terms.Term) → IsOpen text at s f fs → fs ≡ [] → Closes text at (innermost s f) next →
-    atoms_of u ≡ word f.word ∷ ends f.pieces.items → next ≤ length text → IsWhole text u next
-open_ends text at next s f fs u o n c a w =
-    stack_ends text at next (innermost s f) (outers s fs) u o.stack (ap (outers s) n) c a w
 
 pub open_fails : (text : List ℕ) (at depth : ℕ) (s : List Binding) (f : Form) (fs : List (Box Form Global))
     (e : ParseError) → IsOpen text at s f fs → depth ≡ length fs + 1 → FailsAt text at depth (innermost s f) e →

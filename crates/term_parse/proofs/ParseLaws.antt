@@ -1,16 +1,9 @@
 -- What a result of parsing says of its text, in the grammar's words.
 use Rattle.std.proofs.Common.{◌≡◌, ◌≢◌, ℕ, List, Result, Ok, Err, IfOk, IfErr}
+use Rattle.term_parse.specs.{declared.error.ParseError.ParseError, Atoms.atoms_of, Faults.IsFaultOf, Grammar.Spells, Reading.{reading, Fails}, Shapes.shape_of}
+use Rattle.term_parse.proofs.{FaultLaws.{fault-from_reading, one_first_fault}, ShapeLaws.same_shape, SpelledLaws.{spelled-from_reading, reading-from_spelled}}
 use Rattle.effect_term.specs.declared.term.Term as terms
-use Rattle.term_parse.specs.declared.error.ParseError.{ParseError}
 use Rattle.term_parse.specs.declared.error.ParseError.TheVariants as errors
-use Rattle.term_parse.specs.Atoms.{atoms_of}
-use Rattle.term_parse.specs.Faults.{IsFaultOf}
-use Rattle.term_parse.specs.Grammar.{Spells}
-use Rattle.term_parse.specs.Reading.{reading, Fails}
-use Rattle.term_parse.specs.Shapes.{shape_of}
-use Rattle.term_parse.proofs.FaultLaws.{fault-from_reading, one_first_fault}
-use Rattle.term_parse.proofs.ShapeLaws.{same_shape}
-use Rattle.term_parse.proofs.SpelledLaws.{spelled-from_reading, reading-from_spelled}
 
 -- a text is read as one term, but for where it lies in memory
 pub one_term : (text : List ℕ) (t u : terms.Term) → reading text ≡ Ok (atoms_of t) → reading text ≡ Ok (atoms_of u) → shape_of u ≡ shape_of t

@@ -1,17 +1,11 @@
 -- What is written of a form, part by part.
-use Rattle.std.proofs.Common.{◌≡◌, ◌+◌, ◌-◌, ◌≤◌, ℕ, List, [], ◌∷◌, ◌++◌, length, get_or, take, drop, Option}
-use Rattle.std.proofs.Common.{Some, Result, OnOk, refl, ap, sym, ◌∙◌, arith, append_assoc}
-use Rattle.std.proofs.Math.Seq.{take_all}
-use Rattle.std.proofs.lemmas.Result.{on_ok_weaker}
+use Rattle.std.proofs.Common.{◌≡◌, ◌+◌, ◌-◌, ◌≤◌, ℕ, List, [], ◌∷◌, ◌++◌, length, get_or, take, drop, Option, Some, Result, OnOk, refl, ap, sym, ◌∙◌, arith}
+use Rattle.std.proofs.{Common.append_assoc, Math.Seq.take_all, lemmas.Result.on_ok_weaker}
 use Rattle.effect_term.specs.declared.term.Kind.{Kind}
-use Rattle.term_parse.specs.declared.printer.PrintedPart.{PrintedPart}
-use Rattle.term_parse.specs.declared.table.Part.{Part}
-use Rattle.term_parse.specs.declared.table.Part.TheVariants.{Bind, Use, Value, Term, Under, UnderBoth, More, Close}
-use Rattle.term_parse.specs.declared.table.Word.{Word}
+use Rattle.term_parse.specs.declared.{printer.PrintedPart.PrintedPart, table.Part.{Part, TheVariants.{Bind, More, Close}}}
+use Rattle.term_parse.specs.{declared.table.Word.Word, Language.{word_spelling, parts_of}, Spelling.{name_spelling, parts_spelling, piece_spelling}}
+use Rattle.term_parse.specs.{Spelling.{more_spelling, outer_binders, form}, PrintedParts.{piece_of, pieces_of}}
 use Rattle.term_parse.specs.Spelling as spelled
-use Rattle.term_parse.specs.Language.{word_spelling, parts_of}
-use Rattle.term_parse.specs.Spelling.{name_spelling, parts_spelling, piece_spelling, more_spelling, outer_binders, form}
-use Rattle.term_parse.specs.PrintedParts.{piece_of, pieces_of}
 
 -- a byte, a text and a further text, one after another
 pub appended : {A E : Type 0} (r : Result A E) (byte : ℕ) (old one two new text more all : List ℕ) → OnOk r (new ≡ two ++ more) → two ≡ one ++ text →
@@ -60,11 +54,7 @@ unfolding parts_spelling
 piece_front (Bind k) ps x a b q m f g h = absurd (f k refl)
 piece_front More ps x a b q m f g h = absurd (g refl)
 piece_front Close ps x a b q m f g h = absurd (h refl)
-piece_front (Use k) ps x a b q m f g h = refl
-piece_front Value ps x a b q m f g h = refl
-piece_front Term ps x a b q m f g h = refl
-piece_front (Under i) ps x a b q m f g h = refl
-piece_front (UnderBoth i j) ps x a b q m f g h = refl
+piece_front _ ps x a b q m f g h = refl
 
 pub piece_text : (parts : List Part) (pieces : List (Option PrintedPart)) (d : Part) (e : Option PrintedPart) (piece : PrintedPart)
     (a b : ℕ) (m : List (ℕ → List ℕ)) →

@@ -1,13 +1,9 @@
 -- The binders that a part names.
-use Rattle.std.proofs.Common.{◌≡◌, ◌≤◌, ◌<◌, get_or, ℕ, suc, List, [], ◌∷◌, ◌++◌, length, Some, None, refl, ap, sym}
-use Rattle.std.proofs.Common.{subst, ◌∙◌, slice_get, take}
+use Rattle.std.proofs.Common.{◌≡◌, ◌≤◌, ◌<◌, get_or, ℕ, suc, List, [], ◌∷◌, ◌++◌, length, Some, None, refl, ap, sym, subst, ◌∙◌, slice_get, take}
+use Rattle.std.proofs.lemmas.{Option.{slice_get-get_or, slice_get_past}, List.take-take}
 use Prim.Native.Nat.{zero}
-use Rattle.std.proofs.lemmas.Option.{slice_get-get_or, slice_get_past}
-use Rattle.std.proofs.lemmas.List.{take-take}
-use Rattle.term_parse.specs.declared.scope.Binding.{Binding}
-use Rattle.term_parse.specs.Reading.{Bound, picked}
-use Rattle.term_parse.specs.Bindings.{bounds, bound_of, InText}
-use Rattle.term_parse.proofs.Steps.{bounds-append, in_text-append}
+use Rattle.term_parse.{specs.{declared.scope.Binding.Binding, Reading.{Bound, picked}, Bindings.{bounds, bound_of, InText}}, proofs.Steps.bounds-append}
+use Rattle.term_parse.proofs.Steps.{in_text-append}
 
 bounds-get : (text : List ℕ) (xs : List Binding) (i : ℕ) (b : Binding) → slice_get xs i ≡ Some b → slice_get (bounds text xs) i ≡ Some (bound_of text b)
 bounds-get text [] i b e = cc

@@ -1,14 +1,8 @@
 -- The numbers of what is written are in the range of values.
-use Rattle.std.proofs.Common.{◌≡◌, ◌-◌, ◌≤◌, List, [], ◌∷◌, ◌++◌, length, get_or, take, drop, Option, Some, None, sym, subst, arith}
-use Rattle.std.proofs.Math.Seq.{take_all}
-use Rattle.effect_term.specs.declared.term.Operand.TheVariants.{Number, Named}
-use Rattle.effect_term.specs.declared.term.Term.{Term}
-use Rattle.term_parse.specs.declared.printer.PrintedPart.{PrintedPart}
-use Rattle.term_parse.specs.declared.table.Part.{Part}
-use Rattle.term_parse.specs.declared.table.Part.TheVariants.{More, Close}
-use Rattle.term_parse.specs.Atoms.{Atom, word, value, name, ended}
-use Rattle.term_parse.specs.Numbers.{NumbersFit}
-use Rattle.term_parse.specs.PrintedParts.{piece_atoms, pieces_atoms, terms_atoms, Spent, Suffice}
+use Rattle.std.proofs.{Common.{◌≡◌, ◌-◌, ◌≤◌, List, [], ◌∷◌, ◌++◌, length, get_or, take, drop, Option, Some, None, sym, subst, arith}, Math.Seq.take_all}
+use Rattle.effect_term.specs.declared.term.{Operand.TheVariants.{Number, Named}, Term.Term}
+use Rattle.term_parse.specs.{declared.{printer.PrintedPart.PrintedPart, table.Part.{Part, TheVariants.{More, Close}}}, Atoms.{Atom, word, value, name, ended}}
+use Rattle.term_parse.specs.{Numbers.NumbersFit, PrintedParts.{piece_atoms, pieces_atoms, terms_atoms, Spent, Suffice}}
 
 pub join_numbers : (xs ys : List Atom) → NumbersFit xs → NumbersFit ys → NumbersFit (xs ++ ys)
 join_numbers [] ys h k = k

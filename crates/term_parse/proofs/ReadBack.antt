@@ -1,27 +1,15 @@
 -- Reading the canonical spelling of a term gives the term's atoms.
-use Rattle.std.proofs.Common.{◌≡◌, ◌+◌, ◌*◌, ◌≤◌, ℕ, suc, false, List, [], ◌∷◌, ◌++◌, length, Some, Ok, refl}
-use Rattle.std.proofs.Common.{ap, sym, subst, ◌∙◌, arith, append_assoc, slice_get, length-append}
-use Rattle.std.specs.Fmt.{signed_decimal}
-use Rattle.effect_term.specs.declared.term.Kind.{Kind}
+use Rattle.std.proofs.Common.{◌≡◌, ◌+◌, ◌*◌, ◌≤◌, ℕ, suc, false, List, [], ◌∷◌, ◌++◌, length, Some, Ok, refl, ap, sym, subst, ◌∙◌, arith, append_assoc}
+use Rattle.std.{proofs.Common.{slice_get, length-append}, specs.Fmt.signed_decimal}
+use Rattle.effect_term.specs.{declared.term.{Kind.Kind, Name.Name, Operand.{Operand, TheVariants.{Number, Named}}}, Kinds.{Fits, ValueFits}}
+use Rattle.term_parse.specs.{declared.table.{Part.{Part, TheVariants.{Bind, Use, Value, Term, Under, UnderBoth, More, Close}}, Word.Word}, Atoms.{Atom, word}}
+use Rattle.term_parse.specs.{Atoms.{value, name, ended}, Language.{word_spelling, parts_of}, Lexemes.{Lexeme, opens, called, number, Placed, lexeme_of}}
+use Rattle.term_parse.specs.{Lexemes.lexemes, Reading.{Bound, Want, a_word, parts, ReadStep, want_step, part_step, used, opening, entered, open_of, with_front}}
+use Rattle.term_parse.specs.{Reading.reads, Numbers.NumbersFit, Spelling.{name_spelling, outer_binders, more_spelling, parts_spelling, form}}
+use Rattle.term_parse.proofs.{Fronts.with_both, GrammarLaws.opened, Tokens.{Ends, name_token, number_token, word_token}, CanonicalScopes.{scope_of, Own}}
+use Rattle.term_parse.proofs.CanonicalScopes.{own_names, own_names-append, meant, slot_below, entered_under, entered_both, outer_few}
 use Rattle.effect_term.specs.declared.term.Kind.TheVariants as kinds
-use Rattle.effect_term.specs.declared.term.Name.{Name}
-use Rattle.effect_term.specs.declared.term.Operand.{Operand}
-use Rattle.effect_term.specs.declared.term.Operand.TheVariants.{Number, Named}
-use Rattle.effect_term.specs.Kinds.{Fits, ValueFits}
-use Rattle.term_parse.specs.declared.table.Part.{Part}
-use Rattle.term_parse.specs.declared.table.Part.TheVariants.{Bind, Use, Value, Term, Under, UnderBoth, More, Close}
-use Rattle.term_parse.specs.declared.table.Word.{Word}
-use Rattle.term_parse.specs.Atoms.{Atom, word, value, name, ended}
-use Rattle.term_parse.specs.Language.{word_spelling, parts_of}
-use Rattle.term_parse.specs.Lexemes.{Lexeme, opens, called, number, Placed, lexeme_of, lexemes}
-use Rattle.term_parse.specs.Reading.{Bound, Want, a_word, parts, ReadStep, want_step, part_step, used, opening, entered, open_of, with_front, reads}
-use Rattle.term_parse.specs.Numbers.{NumbersFit}
 use Rattle.term_parse.specs.Spelling as spelled
-use Rattle.term_parse.specs.Spelling.{name_spelling, binders_of, outer_binders, more_spelling, parts_spelling, form}
-use Rattle.term_parse.proofs.Fronts.{with_both}
-use Rattle.term_parse.proofs.GrammarLaws.{opened}
-use Rattle.term_parse.proofs.Tokens.{Ends, name_token, number_token, word_token}
-use Rattle.term_parse.proofs.CanonicalScopes.{scope_of, Own, own_names, own_names-append, meant, slot_below, entered_under, entered_both, outer_few}
 
 -- a term by its spelling, its atoms and a bound of its depth
 pub record Reader : Type 0 where

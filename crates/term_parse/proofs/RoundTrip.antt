@@ -1,25 +1,16 @@
 -- The canonical spelling of a closed, well-kinded term within the limits is read as its atoms.
 use Rattle.std.proofs.Common.{◌≡◌, ◌≤◌, ℕ, suc, List, [], ◌∷◌, ◌++◌, length, Ok, false, nat_lt, refl, ap, sym, ◌∙◌, arith, append_assoc, append-nil}
 use Rattle.std.proofs.lemmas.Bool.{le-ltb}
-use Rattle.effect_term.specs.declared.term.Kind.{Kind}
-use Rattle.effect_term.specs.declared.term.Kind.TheVariants as kinds
-use Rattle.effect_term.specs.declared.term.Term.{Term, Row_of-Term, end_of-Term, more_of-Term}
-use Rattle.effect_term.specs.declared.term.Term.TheVariants.{Pure, Raise, Let', Seq', Handle', If0', Add, Say}
-use Rattle.effect_term.specs.declared.term.Term.TheVariants.{Cede, Never, Canceled, Uncancelable', Poll'}
-use Rattle.effect_term.specs.declared.term.Term.TheVariants.{OnCancel', Start', Join', Cancel, Ref', Get, Set}
-use Rattle.effect_term.specs.declared.term.Term.TheVariants.{Modify, Deferred', Complete, Await, Repeat'}
-use Rattle.effect_term.specs.declared.term.Term.TheVariants.{Forever', Guarantee', Bracket', BracketCase'}
-use Rattle.effect_term.specs.declared.term.Term.TheVariants.{BracketFull', Race', Both'}
-use Rattle.effect_term.specs.Kinds.{WellKinded, AllWellKinded}
-use Rattle.effect_term.specs.Sizes.{nest_of, nests_of}
-use Rattle.term_parse.specs.declared.table.Word.TheVariants as words
-use Rattle.term_parse.specs.Atoms.{word, ended, atoms_of, row_atoms}
-use Rattle.term_parse.specs.Language.{parts_of}
-use Rattle.term_parse.specs.Lexemes.{lexemes, lexemes_at}
-use Rattle.term_parse.specs.Reading.{term, want_step, reads, reads_at, reading}
-use Rattle.term_parse.specs.Numbers.{NumbersFit}
-use Rattle.term_parse.specs.Spelling.{inner, form, spelling, row_spellings, canonical}
+use Rattle.effect_term.specs.declared.term.{Kind.Kind, Term.{Term, Row_of-Term, end_of-Term, more_of-Term, TheVariants.{Pure, Raise, Let', Seq', Handle'}}}
+use Rattle.effect_term.specs.declared.term.Term.TheVariants.{If0', Add, Say, Cede, Never, Canceled, Uncancelable', Poll', OnCancel', Start', Join', Cancel}
+use Rattle.effect_term.specs.declared.term.Term.TheVariants.{Ref', Get, Set, Modify, Deferred', Complete, Await, Repeat', Forever', Guarantee', Bracket'}
+use Rattle.effect_term.specs.{declared.term.Term.TheVariants.{BracketCase', BracketFull', Race', Both'}, Kinds.{WellKinded, AllWellKinded}, Sizes.nest_of}
+use Rattle.effect_term.specs.Sizes.{nests_of}
+use Rattle.term_parse.specs.{Atoms.{word, ended, atoms_of, row_atoms}, Language.parts_of, Lexemes.{lexemes, lexemes_at}, Reading.{term, want_step, reads}}
+use Rattle.term_parse.specs.{Reading.{reads_at, reading}, Numbers.NumbersFit, Spelling.{inner, form, spelling, row_spellings, canonical}}
 use Rattle.term_parse.proofs.ReadBack.{Reader, value_read, name_read, inner_read, texts, more_atoms, Readable, AllReadable, form_read}
+use Rattle.effect_term.specs.declared.term.Kind.TheVariants as kinds
+use Rattle.term_parse.specs.declared.table.Word.TheVariants as words
 
 abbrev reader : Term → Reader
 reader t = record { text = spelling t; atoms = atoms_of t; nest = nest_of t }
@@ -46,27 +37,18 @@ mutual
       refl (kinded, tt) (omega arith)
   term_read (Let' p e q k) ks kinded =
       form_read words.Let (inner_read (reader e) ∷ inner_read (reader k) ∷ []) [] ks (nest_of (Let' p e q k)) (spelling (Let' p e q k))
-      (atoms_of (Let' p e q k)) refl refl (
-        omega arith,
-        term_read e ks kinded.0,
-        (kinds.Value, refl, omega arith, term_read k (ks ++ kinds.Value ∷ []) kinded.1, tt),
-      ) (omega arith)
+      (atoms_of (Let' p e q k)) refl refl (omega arith, term_read e ks kinded.0, (kinds.Value, refl, omega arith, term_read k (ks ++ kinds.Value ∷ []) kinded.1,
+      tt)) (omega arith)
   term_read (Seq' p a q b shape more) ks kinded =
       form_read words.Seq (inner_read (reader a) ∷ inner_read (reader b) ∷ []) (readers_of more) ks (nest_of (Seq' p a q b shape more))
       (spelling (Seq' p a q b shape more)) (atoms_of (Seq' p a q b shape more))
       (ap (form words.Seq (inner (spelling a) ∷ inner (spelling b) ∷ [])) (row_texts more))
-      (ap (λ xs. word words.Seq ∷ (atoms_of a ++ (atoms_of b ++ xs))) (row_more more)) (
-        omega arith,
-        term_read a ks kinded.0,
-        (omega arith, term_read b ks kinded.1, row_read more ks (nest_of (Seq' p a q b shape more)) kinded.2 (omega arith)),
-      ) (omega arith)
+      (ap (λ xs. word words.Seq ∷ (atoms_of a ++ (atoms_of b ++ xs))) (row_more more)) (omega arith, term_read a ks kinded.0, (omega arith,
+      term_read b ks kinded.1, row_read more ks (nest_of (Seq' p a q b shape more)) kinded.2 (omega arith))) (omega arith)
   term_read (Handle' p e q h) ks kinded =
       form_read words.Handle (inner_read (reader e) ∷ inner_read (reader h) ∷ []) [] ks (nest_of (Handle' p e q h)) (spelling (Handle' p e q h))
-      (atoms_of (Handle' p e q h)) refl refl (
-        omega arith,
-        term_read e ks kinded.0,
-        (kinds.Value, refl, omega arith, term_read h (ks ++ kinds.Value ∷ []) kinded.1, tt),
-      ) (omega arith)
+      (atoms_of (Handle' p e q h)) refl refl (omega arith, term_read e ks kinded.0, (kinds.Value, refl, omega arith,
+      term_read h (ks ++ kinds.Value ∷ []) kinded.1, tt)) (omega arith)
   term_read (If0' v p s q e) ks kinded =
       form_read words.If0 (value_read v ∷ inner_read (reader s) ∷ inner_read (reader e) ∷ []) [] ks (nest_of (If0' v p s q e))
       (spelling (If0' v p s q e)) (atoms_of (If0' v p s q e)) refl refl
@@ -87,30 +69,17 @@ mutual
       refl refl (kinded.0, (omega arith, term_read e ks kinded.1, tt)) (omega arith)
   term_read (OnCancel' p e q fin) ks kinded =
       form_read words.OnCancel (inner_read (reader e) ∷ inner_read (reader fin) ∷ []) [] ks (nest_of (OnCancel' p e q fin))
-      (spelling (OnCancel' p e q fin)) (atoms_of (OnCancel' p e q fin)) refl refl (
-        omega arith,
-        term_read e ks kinded.0,
-        (omega arith, term_read fin ks kinded.1, tt),
-      ) (omega arith)
+      (spelling (OnCancel' p e q fin)) (atoms_of (OnCancel' p e q fin)) refl refl (omega arith, term_read e ks kinded.0, (omega arith,
+      term_read fin ks kinded.1, tt)) (omega arith)
   term_read (Start' p e q k) ks kinded =
       form_read words.Start (inner_read (reader e) ∷ inner_read (reader k) ∷ []) [] ks (nest_of (Start' p e q k)) (spelling (Start' p e q k))
-      (atoms_of (Start' p e q k)) refl refl (
-        omega arith,
-        term_read e ks kinded.0,
-        (kinds.Fiber, refl, omega arith, term_read k (ks ++ kinds.Fiber ∷ []) kinded.1, tt),
-      ) (omega arith)
+      (atoms_of (Start' p e q k)) refl refl (omega arith, term_read e ks kinded.0, (kinds.Fiber, refl, omega arith,
+      term_read k (ks ++ kinds.Fiber ∷ []) kinded.1, tt)) (omega arith)
   term_read (Join' f p s q e r c) ks kinded =
       form_read words.Join (name_read f ∷ inner_read (reader s) ∷ inner_read (reader e) ∷ inner_read (reader c) ∷ []) [] ks
-      (nest_of (Join' f p s q e r c)) (spelling (Join' f p s q e r c)) (atoms_of (Join' f p s q e r c)) refl refl (
-        kinded.0,
-        (
-          kinds.Value,
-          refl,
-          omega arith,
-          term_read s (ks ++ kinds.Value ∷ []) kinded.1,
-          (kinds.Value, refl, omega arith, term_read e (ks ++ kinds.Value ∷ []) kinded.2, (omega arith, term_read c ks kinded.3, tt)),
-        ),
-      ) (omega arith)
+      (nest_of (Join' f p s q e r c)) (spelling (Join' f p s q e r c)) (atoms_of (Join' f p s q e r c)) refl refl (kinded.0, (kinds.Value, refl, omega arith,
+      term_read s (ks ++ kinds.Value ∷ []) kinded.1, (kinds.Value, refl, omega arith, term_read e (ks ++ kinds.Value ∷ []) kinded.2, (omega arith,
+      term_read c ks kinded.3, tt)))) (omega arith)
   term_read (Cancel f) ks kinded =
       form_read words.Cancel (name_read f ∷ []) [] ks (nest_of (Cancel f)) (spelling (Cancel f)) (atoms_of (Cancel f)) refl refl (kinded, tt) (omega arith)
   term_read (Ref' v p k) ks kinded =
@@ -140,102 +109,38 @@ mutual
       refl (omega arith, term_read e ks kinded, tt) (omega arith)
   term_read (Guarantee' p e q fin) ks kinded =
       form_read words.Guarantee (inner_read (reader e) ∷ inner_read (reader fin) ∷ []) [] ks (nest_of (Guarantee' p e q fin))
-      (spelling (Guarantee' p e q fin)) (atoms_of (Guarantee' p e q fin)) refl refl (
-        omega arith,
-        term_read e ks kinded.0,
-        (omega arith, term_read fin ks kinded.1, tt),
-      ) (omega arith)
+      (spelling (Guarantee' p e q fin)) (atoms_of (Guarantee' p e q fin)) refl refl (omega arith, term_read e ks kinded.0, (omega arith,
+      term_read fin ks kinded.1, tt)) (omega arith)
   term_read (Bracket' p acq q body r rel) ks kinded =
       form_read words.Bracket (inner_read (reader acq) ∷ inner_read (reader body) ∷ inner_read (reader rel) ∷ []) [] ks
-      (nest_of (Bracket' p acq q body r rel)) (spelling (Bracket' p acq q body r rel)) (atoms_of (Bracket' p acq q body r rel)) refl refl (
-        omega arith,
-        term_read acq ks kinded.0,
-        (
-          kinds.Value,
-          refl,
-          omega arith,
-          term_read body (ks ++ kinds.Value ∷ []) kinded.1,
-          (kinds.Value, refl, omega arith, term_read rel (ks ++ kinds.Value ∷ []) kinded.2, tt),
-        ),
-      ) (omega arith)
+      (nest_of (Bracket' p acq q body r rel)) (spelling (Bracket' p acq q body r rel)) (atoms_of (Bracket' p acq q body r rel)) refl refl (omega arith,
+      term_read acq ks kinded.0, (kinds.Value, refl, omega arith, term_read body (ks ++ kinds.Value ∷ []) kinded.1, (kinds.Value, refl, omega arith,
+      term_read rel (ks ++ kinds.Value ∷ []) kinded.2, tt))) (omega arith)
   term_read (BracketCase' p acq q body r rs s re t rc) ks kinded =
       form_read words.BracketCase
       (inner_read (reader acq) ∷ inner_read (reader body) ∷ inner_read (reader rs) ∷ inner_read (reader re) ∷ inner_read (reader rc) ∷ []) [] ks
       (nest_of (BracketCase' p acq q body r rs s re t rc)) (spelling (BracketCase' p acq q body r rs s re t rc))
-      (atoms_of (BracketCase' p acq q body r rs s re t rc)) refl refl (
-        omega arith,
-        term_read acq ks kinded.0,
-        (
-          kinds.Value,
-          refl,
-          omega arith,
-          term_read body (ks ++ kinds.Value ∷ []) kinded.1,
-          (
-            kinds.Value,
-            kinds.Value,
-            refl,
-            refl,
-            omega arith,
-            term_read rs (ks ++ kinds.Value ∷ kinds.Value ∷ []) kinded.2,
-            (
-              kinds.Value,
-              kinds.Value,
-              refl,
-              refl,
-              omega arith,
-              term_read re (ks ++ kinds.Value ∷ kinds.Value ∷ []) kinded.3,
-              (kinds.Value, refl, omega arith, term_read rc (ks ++ kinds.Value ∷ []) kinded.4, tt),
-            ),
-          ),
-        ),
-      ) (omega arith)
+      (atoms_of (BracketCase' p acq q body r rs s re t rc)) refl refl (omega arith, term_read acq ks kinded.0, (kinds.Value, refl, omega arith,
+      term_read body (ks ++ kinds.Value ∷ []) kinded.1, (kinds.Value, kinds.Value, refl, refl, omega arith,
+      term_read rs (ks ++ kinds.Value ∷ kinds.Value ∷ []) kinded.2, (kinds.Value, kinds.Value, refl, refl, omega arith,
+      term_read re (ks ++ kinds.Value ∷ kinds.Value ∷ []) kinded.3, (kinds.Value, refl, omega arith, term_read rc (ks ++ kinds.Value ∷ []) kinded.4,
+      tt))))) (omega arith)
   term_read (BracketFull' p acq q body r rs s re t rc) ks kinded =
       form_read words.BracketFull
       (inner_read (reader acq) ∷ inner_read (reader body) ∷ inner_read (reader rs) ∷ inner_read (reader re) ∷ inner_read (reader rc) ∷ []) [] ks
       (nest_of (BracketFull' p acq q body r rs s re t rc)) (spelling (BracketFull' p acq q body r rs s re t rc))
-      (atoms_of (BracketFull' p acq q body r rs s re t rc)) refl refl (
-        kinds.Poll,
-        refl,
-        omega arith,
-        term_read acq (ks ++ kinds.Poll ∷ []) kinded.0,
-        (
-          kinds.Value,
-          refl,
-          omega arith,
-          term_read body (ks ++ kinds.Value ∷ []) kinded.1,
-          (
-            kinds.Value,
-            kinds.Value,
-            refl,
-            refl,
-            omega arith,
-            term_read rs (ks ++ kinds.Value ∷ kinds.Value ∷ []) kinded.2,
-            (
-              kinds.Value,
-              kinds.Value,
-              refl,
-              refl,
-              omega arith,
-              term_read re (ks ++ kinds.Value ∷ kinds.Value ∷ []) kinded.3,
-              (kinds.Value, refl, omega arith, term_read rc (ks ++ kinds.Value ∷ []) kinded.4, tt),
-            ),
-          ),
-        ),
-      ) (omega arith)
+      (atoms_of (BracketFull' p acq q body r rs s re t rc)) refl refl (kinds.Poll, refl, omega arith, term_read acq (ks ++ kinds.Poll ∷ []) kinded.0,
+      (kinds.Value, refl, omega arith, term_read body (ks ++ kinds.Value ∷ []) kinded.1, (kinds.Value, kinds.Value, refl, refl, omega arith,
+      term_read rs (ks ++ kinds.Value ∷ kinds.Value ∷ []) kinded.2, (kinds.Value, kinds.Value, refl, refl, omega arith,
+      term_read re (ks ++ kinds.Value ∷ kinds.Value ∷ []) kinded.3, (kinds.Value, refl, omega arith, term_read rc (ks ++ kinds.Value ∷ []) kinded.4,
+      tt))))) (omega arith)
   term_read (Race' p a q b) ks kinded =
       form_read words.Race (inner_read (reader a) ∷ inner_read (reader b) ∷ []) [] ks (nest_of (Race' p a q b)) (spelling (Race' p a q b))
       (atoms_of (Race' p a q b)) refl refl (omega arith, term_read a ks kinded.0, (omega arith, term_read b ks kinded.1, tt)) (omega arith)
   term_read (Both' p a q b r k) ks kinded =
       form_read words.Both (inner_read (reader a) ∷ inner_read (reader b) ∷ inner_read (reader k) ∷ []) [] ks (nest_of (Both' p a q b r k))
-      (spelling (Both' p a q b r k)) (atoms_of (Both' p a q b r k)) refl refl (
-        omega arith,
-        term_read a ks kinded.0,
-        (
-          omega arith,
-          term_read b ks kinded.1,
-          (kinds.Value, kinds.Value, refl, refl, omega arith, term_read k (ks ++ kinds.Value ∷ kinds.Value ∷ []) kinded.2, tt),
-        ),
-      ) (omega arith)
+      (spelling (Both' p a q b r k)) (atoms_of (Both' p a q b r k)) refl refl (omega arith, term_read a ks kinded.0, (omega arith, term_read b ks kinded.1,
+      (kinds.Value, kinds.Value, refl, refl, omega arith, term_read k (ks ++ kinds.Value ∷ kinds.Value ∷ []) kinded.2, tt))) (omega arith)
 
   row_read : {m : _} (k : Row_of-Term m) (ks : List Kind) (n : ℕ) → AllWellKinded ks k → suc (nests_of k) ≤ n → AllReadable n ks (readers_of k)
   row_read end_of-Term ks n h l = tt

@@ -1,17 +1,10 @@
 -- The meaning of a name is the innermost binder of its spelling.
-use Rattle.std.proofs.Common.{◌≡◌, ◌≢◌, ◌↔◌, ◌+◌, ℕ, suc, List, [], ◌∷◌, ◌++◌, length, Option, Some, None}
-use Rattle.std.proofs.Common.{Result, Ok, Err, Bool, true, false, refl, ap, sym, subst, ◌∙◌, arith}
-use Rattle.std.specs.Str.{bytes_eq}
-use Rattle.std.proofs.lemmas.Slice.Eq.{bytes_eq-Decides}
-use Rattle.std.proofs.lemmas.Bool.Decides.{not_from_Decides}
-use Rattle.effect_term.specs.declared.term.Kind.{Kind}
+use Rattle.std.proofs.Common.{◌≡◌, ◌≢◌, ◌↔◌, ◌+◌, ℕ, suc, List, [], ◌∷◌, ◌++◌, length, Option, Some, None, Result, Ok, Err, Bool, true, false, refl, ap, sym}
+use Rattle.std.{proofs.{Common.{subst, ◌∙◌, arith}, lemmas.{Slice.Eq.bytes_eq-Decides, Bool.Decides.not_from_Decides}}, specs.Str.bytes_eq}
+use Rattle.effect_term.specs.{declared.term.{Kind.Kind, Name.Name}, Names.same_kind}
+use Rattle.term_parse.specs.{declared.error.ParseError.ParseError, Reading.{Bound, find_from, meaning}, Innermost.{Unspelled, IsInnermost}}
 use Rattle.effect_term.specs.declared.term.Kind.TheVariants as kinds
-use Rattle.effect_term.specs.declared.term.Name.{Name}
-use Rattle.term_parse.specs.declared.error.ParseError.{ParseError}
 use Rattle.term_parse.specs.declared.error.ParseError.TheVariants as errors
-use Rattle.effect_term.specs.Names.{same_kind}
-use Rattle.term_parse.specs.Reading.{Bound, find_from, meaning}
-use Rattle.term_parse.specs.Innermost.{Unspelled, IsInnermost}
 
 -- the innermost binder, where the scope's first has this slot
 record IsInnermostFrom (from : ℕ) (scope : List Bound) (x : List ℕ) (n : Name) : Type 0 where
@@ -114,10 +107,7 @@ innermost-from_find scope x n (Some m) q e h =
 
 same_kind_self : (k : Kind) → same_kind k k ≡ true
 same_kind_self kinds.Value = refl
-same_kind_self kinds.Poll = refl
-same_kind_self kinds.Fiber = refl
-same_kind_self kinds.Ref = refl
-same_kind_self kinds.Deferred = refl
+same_kind_self _ = refl
 
 same_kind_same : (j k : Kind) → same_kind j k ≡ true → j ≡ k
 same_kind_same kinds.Value kinds.Value h = refl

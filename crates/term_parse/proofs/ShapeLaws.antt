@@ -1,15 +1,12 @@
 -- Terms with the same atoms are the same but for where they lie in memory.
 use Rattle.std.proofs.Common.{◌≡◌, List, [], ◌∷◌, ◌++◌, refl, ap, sym, ◌∙◌, append_assoc}
-use Rattle.effect_term.specs.declared.term.Term.{Term, Row_of-Term, end_of-Term, more_of-Term}
-use Rattle.effect_term.specs.declared.term.Term.TheVariants.{Pure, Raise, Let', Seq', Handle', If0', Add, Say}
-use Rattle.effect_term.specs.declared.term.Term.TheVariants.{Cede, Never, Canceled, Uncancelable', Poll'}
-use Rattle.effect_term.specs.declared.term.Term.TheVariants.{OnCancel', Start', Join', Cancel, Ref', Get, Set}
-use Rattle.effect_term.specs.declared.term.Term.TheVariants.{Modify, Deferred', Complete, Await, Repeat'}
-use Rattle.effect_term.specs.declared.term.Term.TheVariants.{Forever', Guarantee', Bracket', BracketCase'}
+use Rattle.effect_term.specs.declared.term.Term.{Term, Row_of-Term, end_of-Term, more_of-Term, TheVariants.{Let', Seq', Handle', If0'}}
+use Rattle.effect_term.specs.declared.term.Term.TheVariants.{Uncancelable', Poll', OnCancel', Start', Join', Ref'}
+use Rattle.effect_term.specs.declared.term.Term.TheVariants.{Deferred', Repeat', Forever', Guarantee', Bracket', BracketCase'}
 use Rattle.effect_term.specs.declared.term.Term.TheVariants.{BracketFull', Race', Both'}
+use Rattle.term_parse.specs.{Atoms.{Atom, word, value, name, ended, atoms_of, row_atoms}, Shapes.{Shape, closed, value_then, name_then, form_then, term_then}}
+use Rattle.term_parse.specs.Shapes.{row_then, shape_of}
 use Rattle.term_parse.specs.declared.table.Word.TheVariants as words
-use Rattle.term_parse.specs.Atoms.{Atom, word, value, name, ended, atoms_of, row_atoms}
-use Rattle.term_parse.specs.Shapes.{Shape, closed, value_then, name_then, form_then, term_then, row_then, shape_of}
 
 abbrev pub flat : Shape → List Atom
 flat closed = ended ∷ []
@@ -40,8 +37,6 @@ apart s r xs ys e = cc
 
 mutual
   pub flat_term : (t : Term) (rest : Shape) → flat (term_then t rest) ≡ atoms_of t ++ flat rest
-  flat_term (Pure v) rest = refl
-  flat_term (Raise v) rest = refl
   flat_term (Let' p e q k) rest =
       ap (λ x. word words.Let ∷ (x ++ flat rest)) (flat_term e (term_then k closed) ∙ ap (λ x. atoms_of e ++ x) (flat_term k closed))
   flat_term (Seq' p a q b shape more) rest =
@@ -51,11 +46,6 @@ mutual
       ap (λ x. word words.Handle ∷ (x ++ flat rest)) (flat_term e (term_then h closed) ∙ ap (λ x. atoms_of e ++ x) (flat_term h closed))
   flat_term (If0' v p s q e) rest =
       ap (λ x. word words.If0 ∷ (x ++ flat rest)) (ap (λ x. value v ∷ x) (flat_term s (term_then e closed) ∙ ap (λ x. atoms_of s ++ x) (flat_term e closed)))
-  flat_term (Add v w) rest = refl
-  flat_term (Say v) rest = refl
-  flat_term Cede rest = refl
-  flat_term Never rest = refl
-  flat_term Canceled rest = refl
   flat_term (Uncancelable' p e) rest = ap (λ x. word words.Uncancelable ∷ (x ++ flat rest)) (flat_term e closed)
   flat_term (Poll' n p e) rest = ap (λ x. word words.Poll ∷ (x ++ flat rest)) (ap (λ x. name n ∷ x) (flat_term e closed))
   flat_term (OnCancel' p e q fin) rest =
@@ -66,14 +56,8 @@ mutual
       ap (λ x. word words.Join ∷ (x ++ flat rest))
       (ap (λ x. name f ∷ x) (flat_term s (term_then e (term_then c closed)) ∙
       ap (λ x. atoms_of s ++ x) (flat_term e (term_then c closed) ∙ ap (λ x. atoms_of e ++ x) (flat_term c closed))))
-  flat_term (Cancel f) rest = refl
   flat_term (Ref' v p k) rest = ap (λ x. word words.Ref ∷ (x ++ flat rest)) (ap (λ x. value v ∷ x) (flat_term k closed))
-  flat_term (Get r) rest = refl
-  flat_term (Set r v) rest = refl
-  flat_term (Modify r v) rest = refl
   flat_term (Deferred' p k) rest = ap (λ x. word words.Deferred ∷ (x ++ flat rest)) (flat_term k closed)
-  flat_term (Complete d v) rest = refl
-  flat_term (Await d) rest = refl
   flat_term (Repeat' v p e) rest = ap (λ x. word words.Repeat ∷ (x ++ flat rest)) (ap (λ x. value v ∷ x) (flat_term e closed))
   flat_term (Forever' p e) rest = ap (λ x. word words.Forever ∷ (x ++ flat rest)) (flat_term e closed)
   flat_term (Guarantee' p e q fin) rest =
@@ -96,6 +80,7 @@ mutual
   flat_term (Both' p a q b r k) rest =
       ap (λ x. word words.Both ∷ (x ++ flat rest)) (flat_term a (term_then b (term_then k closed)) ∙
       ap (λ x. atoms_of a ++ x) (flat_term b (term_then k closed) ∙ ap (λ x. atoms_of b ++ x) (flat_term k closed)))
+  flat_term _ rest = refl
 
   flat_row : {m : _} (k : Row_of-Term m) (rest : Shape) → flat (row_then k rest) ≡ row_atoms k ++ flat rest
   flat_row end_of-Term rest = refl

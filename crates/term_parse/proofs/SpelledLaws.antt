@@ -1,15 +1,10 @@
 -- A whole text is read exactly where the grammar spells it.
-use Rattle.std.proofs.Common.{◌≡◌, ◌≤◌, ℕ, List, [], ◌∷◌, ◌++◌, Ok, Err, Bool, true, false, nat_lt, length, refl, ap, sym, ◌∙◌, arith}
-use Rattle.std.proofs.lemmas.Bool.{ltb-false, le-ltb}
-use Rattle.std.proofs.lemmas.List.{append-nil}
-use Rattle.term_parse.specs.declared.error.ParseError.TheVariants as errors
-use Rattle.term_parse.specs.Atoms.{Atom, word}
-use Rattle.term_parse.specs.Language.{word_spelling, parts_of}
-use Rattle.term_parse.specs.Lexemes.{opens, called, lexemes_at}
-use Rattle.term_parse.specs.Reading.{term, parts, want_step, with_front, reads, reads_at, reading}
-use Rattle.term_parse.specs.Grammar.{tokens_of, Spells}
-use Rattle.term_parse.proofs.GrammarLaws.{opened, reads_phrase}
+use Rattle.std.proofs.{Common.{◌≡◌, ◌≤◌, ℕ, List, [], ◌∷◌, ◌++◌, Ok, Err, Bool, true, false, nat_lt, length, refl, ap, sym, ◌∙◌, arith}, lemmas.Bool.ltb-false}
+use Rattle.std.proofs.lemmas.{Bool.le-ltb, List.append-nil}
+use Rattle.term_parse.specs.{Atoms.{Atom, word}, Language.{word_spelling, parts_of}, Lexemes.{opens, called, lexemes_at}, Reading.{term, parts, want_step}}
+use Rattle.term_parse.{specs.{Reading.{with_front, reads, reads_at, reading}, Grammar.{tokens_of, Spells}}, proofs.GrammarLaws.{opened, reads_phrase}}
 use Rattle.term_parse.proofs.Coverage.{Covered, covered}
+use Rattle.term_parse.specs.declared.error.ParseError.TheVariants as errors
 
 reads_spelled : (text : List ℕ) (atoms : List Atom) → Spells text atoms → reads (length text) (term [] ∷ []) (lexemes_at 0 text) ≡ Ok atoms
 unfolding reads want_step

@@ -1,26 +1,15 @@
 -- What one token does to the forms that are open.
-use Rattle.std.proofs.Common.{◌≡◌, ◌≤◌, ◌<◌, ◌+◌, ℕ, suc, true, false, nat_lt, List, [], ◌∷◌, ◌++◌, length}
-use Rattle.std.proofs.Common.{drop, Result, Ok, Err, IfOk, IfErr, refl, ap, sym, subst, ◌∙◌, arith}
-use Rattle.std.proofs.Common.{append_assoc}
-use Rattle.std.proofs.lemmas.Bool.{lt-ltb, le-ltb}
+use Rattle.std.proofs.Common.{◌≡◌, ◌≤◌, ◌<◌, ◌+◌, ℕ, suc, true, false, nat_lt, List, [], ◌∷◌, ◌++◌, length, drop, Result, Ok, Err, IfOk, IfErr, refl, ap, sym}
+use Rattle.std.{proofs.{Common.{subst, ◌∙◌, arith, append_assoc}, lemmas.Bool.{lt-ltb, le-ltb}}, specs.List.slice_range}
+use Rattle.term_parse.specs.{declared.{error.ParseError.ParseError, token.{Token.Token, TokenKind.TokenKind}}, OpenForms.OpenForm, Atoms.{Atom, word, ended}}
+use Rattle.term_parse.specs.{Atoms.atoms_of, Language.parts_of, Lexemes.lexemes_at, Reading.{Bound, Want, term, a_word, want_step, open_of, with_front, reads}}
+use Rattle.term_parse.specs.{Reading.{reads_at, reading, Fails}, Seen.{seen_kind, IsNext, IsGood}, Forms.{ends, Completes, Shaped, Awaits, want_of, front_of}}
+use Rattle.term_parse.{specs.Forms.{Adds, FailsAt, Reads, Opens, Closes, todo_onto, fronts, AllAwait, ScopesWithin, IsStack, IsWhole}, proofs.Steps.read_step}
+use Rattle.term_parse.proofs.Steps.{read_fault, with_none, with_both, pieces_atoms-add, sorts-add}
 use Rattle.effect_term.specs.declared.term.Term as terms
-use Rattle.term_parse.specs.declared.error.ParseError.{ParseError}
 use Rattle.term_parse.specs.declared.error.ParseError.TheVariants as errors
-use Rattle.term_parse.specs.declared.token.Token.{Token}
-use Rattle.term_parse.specs.declared.token.TokenKind.{TokenKind}
 use Rattle.term_parse.specs.declared.token.TokenKind.TheVariants as tokens
 use Rattle.term_parse.specs.declared.form.ReadPart.TheVariants as pieces
-use Rattle.term_parse.specs.OpenForms.{OpenForm}
-use Rattle.term_parse.specs.Atoms.{Atom, word, ended, atoms_of}
-use Rattle.term_parse.specs.Language.{parts_of}
-use Rattle.term_parse.specs.Lexemes.{lexemes_at}
-use Rattle.term_parse.specs.Reading.{Bound, Want, term, a_word, want_step, open_of, with_front, reads, reads_at}
-use Rattle.term_parse.specs.Reading.{reading, Fails}
-use Rattle.term_parse.specs.Seen.{seen_kind, IsNext, IsGood}
-use Rattle.std.specs.List.{slice_range}
-use Rattle.term_parse.specs.Forms.{ends, Completes, Shaped, Awaits, want_of, front_of, Adds, FailsAt, Reads, Opens}
-use Rattle.term_parse.specs.Forms.{Closes, todo_onto, fronts, AllAwait, ScopesWithin, IsStack, IsWhole}
-use Rattle.term_parse.proofs.Steps.{read_step, read_fault, with_none, with_both, pieces_atoms-add, sorts-add}
 
 todo-add : (text : List ℕ) (around : List Want) (fs : List OpenForm) (f : OpenForm) →
     todo_onto text around (fs ++ f ∷ []) ≡ want_of text f ∷ todo_onto text around fs
@@ -128,17 +117,6 @@ pub stack_fails : (text : List ℕ) (at depth : ℕ) (f : OpenForm) (fs : List O
     IsStack text at f fs → depth ≡ length fs + 1 → FailsAt text at depth f e → Fails e (reads_at text 0 (term [] ∷ []))
 stack_fails text at depth f fs e s d h ne = sym s.left ∙ ap (with_front (fronts fs ++ front_of f)) (h (todo_onto text [] fs) (depth_is text fs depth d) ne)
 
-pub stack_ends : (text : List ℕ) (at next : ℕ) (f : OpenForm) (fs : List OpenForm) (t : terms.Term) →
-    IsStack text at f fs → fs ≡ [] → Closes text at f next → atoms_of t ≡ word f.word ∷ ends f.pieces →
-    next ≤ length text → IsWhole text t next
-stack_ends text at next f fs t s n c a w =
-    let s' : IsStack text at f [] = subst (IsStack text at f) n s in
-    record {
-      within = w;
-      left = sym s'.left ∙ ap (with_front (front_of f)) (c.goes_on []) ∙ with_both (front_of f) (ended ∷ []) (reads_at text next []) ∙
-          ap (λ x. with_front x (reads_at text next [])) (sym a);
-    }
-
 pub stack_closes : (text : List ℕ) (at next : ℕ) (f outer g : OpenForm) (fs rest : List OpenForm) (t : terms.Term) →
     IsStack text at f fs → fs ≡ rest ++ outer ∷ [] → Closes text at f next →
     atoms_of t ≡ word f.word ∷ ends f.pieces → Adds outer (pieces.Term t) outer.next g → at < next →
@@ -187,11 +165,9 @@ term_misfit : (d : ℕ) (s : List Bound) (run : List ℕ) (k : TokenKind) (at : 
     want_step d (term s) (seen_kind run k) at ≡ Err (errors.Arity at)
 unfolding want_step
 term_misfit d s run tokens.Open at g h = absurd (h refl)
-term_misfit d s run tokens.Close at g h = refl
-term_misfit d s run tokens.Called at g h = refl
-term_misfit d s run (tokens.Number n) at g h = refl
 term_misfit d s run tokens.BadNumber at g h = absurd g
 term_misfit d s run tokens.BadByte at g h = absurd g
+term_misfit d s run _ at g h = refl
 
 pub no_opening : (text : List ℕ) (at : ℕ) (t : Token) → IsNext text at t → IsGood t.kind → (t.kind ≡ tokens.Open → ⊥) →
     reads_at text at (term [] ∷ []) ≡ Err (errors.Arity t.start)
@@ -226,10 +202,6 @@ unfolding reads_at reads
 reading_trails text t end k l w n =
     let more : reads_at text end [] ≡ Err (errors.Trailing k.start) = rw (n.tokens) refl in
     reading_short text l ∙ w.left ∙ ap (with_front (atoms_of t)) more
-
-pub none_left : {A : Type 0} (fs : List A) → length fs ≡ 0 → fs ≡ []
-none_left [] h = refl
-none_left (f ∷ fs) h = absurd (omega arith)
 
 only_memory : (e : ParseError) (r : Result (List Atom) ParseError) (atoms : List Atom) → Fails e r → r ≡ Ok atoms → e ≡ errors.NoMemory
 only_memory errors.NoMemory r atoms f h = refl

@@ -1,37 +1,18 @@
 -- What one token does where a part of a form is wanted.
-use Rattle.std.proofs.Common.{◌≡◌, ◌≤◌, ◌<◌, ◌+◌, ℕ, suc, ℤ, true, false, nat_lt, List, [], ◌∷◌, ◌++◌, length}
-use Rattle.std.proofs.Common.{drop, Result, Ok, Err, Some, None, refl, ap, sym, subst, ◌∙◌, arith, append_assoc}
-use Rattle.std.specs.List.{slice_range}
-use Rattle.std.proofs.lemmas.Grind.{common_steps}
-use Rattle.std.proofs.lemmas.Bool.{lt-ltb, le-ltb}
-use Rattle.effect_term.specs.declared.term.Kind.{Kind}
+use Rattle.std.proofs.Common.{◌≡◌, ◌≤◌, ◌<◌, ◌+◌, ℕ, suc, ℤ, true, false, nat_lt, List, [], ◌∷◌, ◌++◌, length, drop, Result, Ok, Err, Some, None, refl, ap, sym}
+use Rattle.std.{proofs.{Common.{subst, ◌∙◌, arith, append_assoc}, lemmas.{Grind.common_steps, Bool.{lt-ltb, le-ltb}}}, specs.List.slice_range}
+use Rattle.effect_term.specs.declared.term.{Kind.Kind, Name.Name, Operand.{Operand, TheVariants.{Number, Named}}}
+use Rattle.term_parse.specs.declared.table.{Word.Word, Part.{Part, TheVariants.{Bind, Use, Value, Term, Under, UnderBoth, More, Close}}}
+use Rattle.term_parse.specs.declared.{error.ParseError.ParseError, token.{Token.Token, TokenKind.TokenKind}, scope.Binding.Binding, form.ReadPart.ReadPart}
+use Rattle.term_parse.specs.{OpenForms.OpenForm, Atoms.{Atom, word, value, name, ended}, Language.{parts_of, word_of}, Lexemes.{opens, closes, called}}
+use Rattle.term_parse.specs.{Lexemes.{bad_number, bad_byte, lexemes_at}, Reading.{Bound, Want, a_word, parts, ReadStep, want_step, part_step, begun, used}}
+use Rattle.term_parse.specs.{Reading.{opening, entered, meaning, open_of, with_front, reads, reads_at}, Seen.{seen, seen_kind, IsNext, IsGood}, Bindings.bounds}
+use Rattle.term_parse.specs.{Bindings.{bound_of, hash_of, InText}, Forms.{Sort, a_term, sorts, sort_of, pieces_atoms, piece_atoms, Completes, Shaped, want_of}}
+use Rattle.term_parse.{specs.Forms.{front_of, NextIs, Adds, IsTermPart, IsOneTerm, after, FailsAt, Reads, Opens, Closes}, proofs.Words.completed}
 use Rattle.effect_term.specs.declared.term.Kind.TheVariants as kinds
-use Rattle.effect_term.specs.declared.term.Name.{Name}
-use Rattle.effect_term.specs.declared.term.Operand.{Operand}
-use Rattle.effect_term.specs.declared.term.Operand.TheVariants.{Number, Named}
-use Rattle.term_parse.specs.declared.table.Word.{Word}
-use Rattle.term_parse.specs.declared.table.Part.{Part}
-use Rattle.term_parse.specs.declared.table.Part.TheVariants.{Bind, Use, Value, Term, Under, UnderBoth, More, Close}
-use Rattle.term_parse.specs.declared.error.ParseError.{ParseError}
 use Rattle.term_parse.specs.declared.error.ParseError.TheVariants as errors
-use Rattle.term_parse.specs.declared.token.Token.{Token}
-use Rattle.term_parse.specs.declared.token.TokenKind.{TokenKind}
 use Rattle.term_parse.specs.declared.token.TokenKind.TheVariants as tokens
-use Rattle.term_parse.specs.declared.scope.Binding.{Binding}
-use Rattle.term_parse.specs.declared.form.ReadPart.{ReadPart}
 use Rattle.term_parse.specs.declared.form.ReadPart.TheVariants as pieces
-use Rattle.term_parse.specs.OpenForms.{OpenForm}
-use Rattle.term_parse.specs.Atoms.{Atom, word, value, name, ended}
-use Rattle.term_parse.specs.Language.{parts_of, word_of}
-use Rattle.term_parse.specs.Lexemes.{opens, closes, called, bad_number, bad_byte, lexemes_at}
-use Rattle.term_parse.specs.Reading.{Bound, Want, a_word, parts, ReadStep, want_step, part_step, begun, used}
-use Rattle.term_parse.specs.Reading.{opening, entered, meaning, open_of, with_front, reads, reads_at}
-use Rattle.term_parse.specs.Seen.{seen, seen_kind, IsNext, IsGood}
-use Rattle.term_parse.specs.Bindings.{bounds, bound_of, hash_of, InText}
-use Rattle.term_parse.proofs.Words.{completed}
-use Rattle.term_parse.specs.Forms.{Sort, a_term, sorts, sort_of, pieces_atoms, piece_atoms, Completes, Shaped}
-use Rattle.term_parse.specs.Forms.{want_of, front_of, NextIs, Adds, IsTermPart, IsOneTerm, after, FailsAt}
-use Rattle.term_parse.specs.Forms.{Reads, Opens, Closes}
 
 pub read_step : (text : List ℕ) (at : ℕ) (t : Token) (w : Want) (todo : List Want) (s : ReadStep) → IsNext text at t →
     want_step (open_of (w ∷ todo)) w (seen text t) t.start ≡ Ok s → reads_at text at (w ∷ todo) ≡ with_front s.atoms (reads_at text t.end (s.wants ++ todo))
@@ -96,12 +77,10 @@ read_no_word text at t n k f s todo =
 word_misfit : (d : ℕ) (s : List Bound) (run : List ℕ) (k : TokenKind) (at : ℕ) → IsGood k → (k ≡ tokens.Called → ⊥) →
     want_step d (a_word s) (seen_kind run k) at ≡ Err (errors.UnknownWord at)
 unfolding want_step
-word_misfit d s run tokens.Open at g h = refl
-word_misfit d s run tokens.Close at g h = refl
 word_misfit d s run tokens.Called at g h = absurd (h refl)
-word_misfit d s run (tokens.Number n) at g h = refl
 word_misfit d s run tokens.BadNumber at g h = absurd g
 word_misfit d s run tokens.BadByte at g h = absurd g
+word_misfit d s run _ at g h = refl
 
 pub read_not_a_word : (text : List ℕ) (at : ℕ) (t : Token) → IsNext text at t → IsGood t.kind → (t.kind ≡ tokens.Called → ⊥) →
     (s : List Bound) (todo : List Want) → reads_at text at (a_word s ∷ todo) ≡ Err (errors.UnknownWord t.start)
@@ -132,22 +111,18 @@ fails_part text at f p t e n i h depth todo o ne = at_part text at f p i todo �
 bind_misfit : (d : ℕ) (s b : List Bound) (q : Kind) (ps : List Part) (run : List ℕ) (k : TokenKind) (at : ℕ) → IsGood k → (k ≡ tokens.Called → ⊥) →
     want_step d (parts s b (Bind q ∷ ps)) (seen_kind run k) at ≡ Err (errors.Arity at)
 unfolding want_step part_step
-bind_misfit d s b q ps run tokens.Open at g h = refl
-bind_misfit d s b q ps run tokens.Close at g h = refl
 bind_misfit d s b q ps run tokens.Called at g h = absurd (h refl)
-bind_misfit d s b q ps run (tokens.Number n) at g h = refl
 bind_misfit d s b q ps run tokens.BadNumber at g h = absurd g
 bind_misfit d s b q ps run tokens.BadByte at g h = absurd g
+bind_misfit d s b q ps run _ at g h = refl
 
 use_misfit : (d : ℕ) (s b : List Bound) (q : Kind) (ps : List Part) (run : List ℕ) (k : TokenKind) (at : ℕ) → IsGood k → (k ≡ tokens.Called → ⊥) →
     want_step d (parts s b (Use q ∷ ps)) (seen_kind run k) at ≡ Err (errors.Arity at)
 unfolding want_step part_step
-use_misfit d s b q ps run tokens.Open at g h = refl
-use_misfit d s b q ps run tokens.Close at g h = refl
 use_misfit d s b q ps run tokens.Called at g h = absurd (h refl)
-use_misfit d s b q ps run (tokens.Number n) at g h = refl
 use_misfit d s b q ps run tokens.BadNumber at g h = absurd g
 use_misfit d s b q ps run tokens.BadByte at g h = absurd g
+use_misfit d s b q ps run _ at g h = refl
 
 value_misfit : (d : ℕ) (s b : List Bound) (ps : List Part) (run : List ℕ) (k : TokenKind) (at : ℕ) → IsGood k → (k ≡ tokens.Called → ⊥) →
     ((n : ℤ) → k ≡ tokens.Number n → ⊥) → want_step d (parts s b (Value ∷ ps)) (seen_kind run k) at ≡ Err (errors.Arity at)
@@ -162,12 +137,10 @@ value_misfit d s b ps run tokens.BadByte at g h i = absurd g
 close_misfit : (d : ℕ) (s b : List Bound) (ps : List Part) (run : List ℕ) (k : TokenKind) (at : ℕ) → IsGood k → (k ≡ tokens.Close → ⊥) →
     want_step d (parts s b (Close ∷ ps)) (seen_kind run k) at ≡ Err (errors.Arity at)
 unfolding want_step part_step
-close_misfit d s b ps run tokens.Open at g h = refl
 close_misfit d s b ps run tokens.Close at g h = absurd (h refl)
-close_misfit d s b ps run tokens.Called at g h = refl
-close_misfit d s b ps run (tokens.Number n) at g h = refl
 close_misfit d s b ps run tokens.BadNumber at g h = absurd g
 close_misfit d s b ps run tokens.BadByte at g h = absurd g
+close_misfit d s b ps run _ at g h = refl
 
 more_misfit : (d : ℕ) (s b : List Bound) (ps : List Part) (run : List ℕ) (k : TokenKind) (at : ℕ) → IsGood k → (k ≡ tokens.Open → ⊥) →
     (k ≡ tokens.Close → ⊥) → want_step d (parts s b (More ∷ ps)) (seen_kind run k) at ≡ Err (errors.Arity at)
@@ -183,42 +156,32 @@ plain_term_misfit : (d : ℕ) (s b : List Bound) (ps : List Part) (run : List �
     want_step d (parts s b (Term ∷ ps)) (seen_kind run k) at ≡ Err (errors.Arity at)
 unfolding want_step part_step
 plain_term_misfit d s b ps run tokens.Open at g h = absurd (h refl)
-plain_term_misfit d s b ps run tokens.Close at g h = refl
-plain_term_misfit d s b ps run tokens.Called at g h = refl
-plain_term_misfit d s b ps run (tokens.Number n) at g h = refl
 plain_term_misfit d s b ps run tokens.BadNumber at g h = absurd g
 plain_term_misfit d s b ps run tokens.BadByte at g h = absurd g
+plain_term_misfit d s b ps run _ at g h = refl
 
 under_misfit : (d : ℕ) (s b : List Bound) (i : ℕ) (ps : List Part) (run : List ℕ) (k : TokenKind) (at : ℕ) → IsGood k → (k ≡ tokens.Open → ⊥) →
     want_step d (parts s b (Under i ∷ ps)) (seen_kind run k) at ≡ Err (errors.Arity at)
 unfolding want_step part_step
 under_misfit d s b i ps run tokens.Open at g h = absurd (h refl)
-under_misfit d s b i ps run tokens.Close at g h = refl
-under_misfit d s b i ps run tokens.Called at g h = refl
-under_misfit d s b i ps run (tokens.Number n) at g h = refl
 under_misfit d s b i ps run tokens.BadNumber at g h = absurd g
 under_misfit d s b i ps run tokens.BadByte at g h = absurd g
+under_misfit d s b i ps run _ at g h = refl
 
 under_both_misfit : (d : ℕ) (s b : List Bound) (i j : ℕ) (ps : List Part) (run : List ℕ) (k : TokenKind) (at : ℕ) → IsGood k →
     (k ≡ tokens.Open → ⊥) → want_step d (parts s b (UnderBoth i j ∷ ps)) (seen_kind run k) at ≡ Err (errors.Arity at)
 unfolding want_step part_step
 under_both_misfit d s b i j ps run tokens.Open at g h = absurd (h refl)
-under_both_misfit d s b i j ps run tokens.Close at g h = refl
-under_both_misfit d s b i j ps run tokens.Called at g h = refl
-under_both_misfit d s b i j ps run (tokens.Number n) at g h = refl
 under_both_misfit d s b i j ps run tokens.BadNumber at g h = absurd g
 under_both_misfit d s b i j ps run tokens.BadByte at g h = absurd g
+under_both_misfit d s b i j ps run _ at g h = refl
 
 term_misfit : (d : ℕ) (s b : List Bound) (p : Part) (ps : List Part) (run : List ℕ) (k : TokenKind) (at : ℕ) → IsOneTerm p → IsGood k →
     (k ≡ tokens.Open → ⊥) → want_step d (parts s b (p ∷ ps)) (seen_kind run k) at ≡ Err (errors.Arity at)
 term_misfit d s b Term ps run k at o g h = plain_term_misfit d s b ps run k at g h
 term_misfit d s b (Under i) ps run k at o g h = under_misfit d s b i ps run k at g h
 term_misfit d s b (UnderBoth i j) ps run k at o g h = under_both_misfit d s b i j ps run k at g h
-term_misfit d s b (Bind q) ps run k at o g h = absurd o
-term_misfit d s b (Use q) ps run k at o g h = absurd o
-term_misfit d s b Value ps run k at o g h = absurd o
-term_misfit d s b Close ps run k at o g h = absurd o
-term_misfit d s b More ps run k at o g h = absurd o
+term_misfit d s b _ ps run k at o g h = absurd o
 
 pub fails_bind : (text : List ℕ) (at : ℕ) (f : OpenForm) (q : Kind) (t : Token) → IsNext text at t → IsGood t.kind →
     NextIs f.word f.next (Bind q) → (t.kind ≡ tokens.Called → ⊥) → (depth : ℕ) →
@@ -265,12 +228,9 @@ fails_term text at f p t n g i o h =
 over_misfit : (d : ℕ) (s b : List Bound) (run : List ℕ) (k : TokenKind) (at : ℕ) → IsGood k →
     want_step d (parts s b []) (seen_kind run k) at ≡ Err (errors.Arity at)
 unfolding want_step
-over_misfit d s b run tokens.Open at g = refl
-over_misfit d s b run tokens.Close at g = refl
-over_misfit d s b run tokens.Called at g = refl
-over_misfit d s b run (tokens.Number n) at g = refl
 over_misfit d s b run tokens.BadNumber at g = absurd g
 over_misfit d s b run tokens.BadByte at g = absurd g
+over_misfit d s b run _ at g = refl
 
 pub fails_over : (text : List ℕ) (at : ℕ) (f : OpenForm) (t : Token) → IsNext text at t → IsGood t.kind →
     drop f.next (parts_of f.word) ≡ [] → (depth : ℕ) → FailsAt text at depth f (errors.Arity t.start)
@@ -482,24 +442,18 @@ closes_more text at f t n k i = closes_form text at f t More n k i (λ d s b ps.
 term_opens : (d : ℕ) (s b : List Bound) (p : Part) (ps : List Part) (at : ℕ) → IsTermPart p →
     want_step d (parts s b (p ∷ ps)) opens at ≡ opening d at (a_word (entered s b p) ∷ parts s b (after p ps) ∷ [])
 unfolding want_step part_step
-term_opens d s b Term ps at h = refl
-term_opens d s b (Under i) ps at h = refl
-term_opens d s b (UnderBoth i j) ps at h = refl
-term_opens d s b More ps at h = refl
 term_opens d s b (Bind k) ps at h = absurd h
 term_opens d s b (Use k) ps at h = absurd h
 term_opens d s b Value ps at h = absurd h
 term_opens d s b Close ps at h = absurd h
+term_opens d s b _ ps at h = refl
 
 term_completes : (p : Part) (ps : List Part) (more : List Sort) → IsTermPart p → Completes (after p ps) more → Completes (p ∷ ps) (a_term ∷ more)
 term_completes Term ps more h c = (more, refl, c)
 term_completes (Under i) ps more h c = (more, refl, c)
 term_completes (UnderBoth i j) ps more h c = (more, refl, c)
 term_completes More ps more h c = c
-term_completes (Bind k) ps more h c = absurd h
-term_completes (Use k) ps more h c = absurd h
-term_completes Value ps more h c = absurd h
-term_completes Close ps more h c = absurd h
+term_completes _ ps more h c = absurd h
 
 opening_low : (d at : ℕ) (ws : List Want) → d < 100 → opening d at ws ≡ Ok (record { atoms = []; wants = ws })
 opening_low d at ws l = let t : nat_lt d 100 ≡ true = lt-ltb d 100 l in rw t refl

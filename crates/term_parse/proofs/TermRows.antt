@@ -1,9 +1,7 @@
 -- The terms of a `seq` behind its first two, read at the items of their `Vec`.
 use Rattle.std.proofs.Common.{◌≡◌, ◌++◌, List, ◌∷◌, ap, refl, ◌∙◌, append_assoc}
 use Rattle.effect_term.specs.declared.term.Term.{Row_of-Term, end_of-Term, more_of-Term, items-the_row-Term}
-use Rattle.term_parse.specs.Atoms.{Atom, atoms_of, row_atoms}
-use Rattle.term_parse.specs.Spelling.{spelling, row_spellings}
-use Rattle.term_parse.specs.PrintedParts.{terms_spelled, terms_atoms}
+use Rattle.term_parse.specs.{Atoms.{Atom, atoms_of, row_atoms}, Spelling.{spelling, row_spellings}, PrintedParts.{terms_spelled, terms_atoms}}
 
 pub row_spellings_items : (m : _) (k : Row_of-Term m) → row_spellings k ≡ terms_spelled (items-the_row-Term m k)
 row_spellings_items _ end_of-Term = refl

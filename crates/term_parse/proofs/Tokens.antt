@@ -1,20 +1,13 @@
 -- The tokens of what the printer writes.
-use Rattle.std.proofs.Common.{◌≡◌, ◌^◌, ◌<◌, ◌≤◌, ◌==◌, ◌&&◌, ◌||◌, ℕ, suc, ℤ, pos, negsuc, neg_ℤ, Bool, true}
-use Rattle.std.proofs.Common.{false, cond, nat_lt, nat_le, List, [], ◌∷◌, ◌++◌, length, get_or, Option, Some}
-use Rattle.std.proofs.Common.{refl, ap, ◌∙◌, arith, rules, zero, decimal}
-use Rattle.std.specs.Fmt.{signed_decimal}
-use Rattle.std.specs.Str.Parse.{digits_value}
-use Rattle.std.proofs.lemmas.Bool.{and_parts, lt-ltb, leb-true, le-leb, lt-leb, ne_eqb}
-use Rattle.std.proofs.lemmas.Fmt.{digits_decimal, decimal_digit, decimal_is_IsNumeral, first_decimal, decimal_nonempty}
-use Rattle.std.proofs.lemmas.Str.Parse.{IsNumeralModel, numerals_by_value}
-use Rattle.effect_term.specs.Values.{IsValue}
-use Rattle.effect_term.specs.declared.term.Kind.{Kind}
+use Rattle.std.proofs.Common.{◌≡◌, ◌^◌, ◌<◌, ◌≤◌, ◌==◌, ◌&&◌, ◌||◌, ℕ, suc, ℤ, pos, negsuc, neg_ℤ, Bool, true, false, cond, nat_lt, nat_le, List, [], ◌∷◌, ◌++◌}
+use Rattle.std.proofs.{Common.{length, get_or, Option, Some, refl, ap, ◌∙◌, arith, rules, zero, decimal}, lemmas.Bool.{and_parts, lt-ltb, leb-true, le-leb}}
+use Rattle.std.proofs.lemmas.{Bool.{lt-leb, ne_eqb}, Fmt.{digits_decimal, decimal_digit, decimal_is_IsNumeral, first_decimal, decimal_nonempty}}
+use Rattle.std.{proofs.lemmas.Str.Parse.{IsNumeralModel, numerals_by_value}, specs.{Fmt.signed_decimal, Str.Parse.digits_value}}
+use Rattle.effect_term.specs.{Values.IsValue, declared.term.Kind.Kind}
+use Rattle.term_parse.specs.{declared.table.Word.Word, Lexemes.{called, number, is_letter, is_digit, is_run, run_of, all_digits, is_plain, number_of, numbered}}
+use Rattle.term_parse.specs.{Lexemes.{lexeme_of, lexemes}, Language.word_spelling, Spelling.{letter_of, name_spelling}}
 use Rattle.effect_term.specs.declared.term.Kind.TheVariants as kinds
-use Rattle.term_parse.specs.declared.table.Word.{Word}
 use Rattle.term_parse.specs.declared.table.Word.TheVariants as words
-use Rattle.term_parse.specs.Lexemes.{called, number, is_letter, is_digit, is_run, run_of, all_digits, is_plain, number_of, numbered, lexeme_of, lexemes}
-use Rattle.term_parse.specs.Language.{word_spelling}
-use Rattle.term_parse.specs.Spelling.{letter_of, name_spelling}
 
 abbrev pub all_run : List ℕ → Bool
 all_run [] = true
@@ -89,10 +82,7 @@ letter_begins : (kind : Kind) (at : ℕ) (bs : List ℕ) →
     lexemes false at (letter_of kind ∷ bs) ≡ record { lexeme = called (letter_of kind ∷ run_of bs); place = at } ∷ lexemes true (suc at) bs
 unfolding lexemes lexeme_of
 letter_begins kinds.Value at bs = refl
-letter_begins kinds.Poll at bs = refl
-letter_begins kinds.Fiber at bs = refl
-letter_begins kinds.Ref at bs = refl
-letter_begins kinds.Deferred at bs = refl
+letter_begins _ at bs = refl
 
 pub name_token : (kind : Kind) (slot at : ℕ) (rest : List ℕ) → slot < 2 ^ 64 → Ends rest → (next : ℕ) ×
     (lexemes false at (name_spelling kind slot ++ rest) ≡ record { lexeme = called (name_spelling kind slot); place = at } ∷ lexemes false next rest)

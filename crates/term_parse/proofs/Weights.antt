@@ -1,11 +1,9 @@
 -- How much of a term the printer has left to write: the number of its atoms.
 use Rattle.std.proofs.Common.{◌≡◌, ◌+◌, ℕ, List, [], ◌∷◌, length, Option, Some, None, ap, arith, length-append}
 use Rattle.effect_term.specs.declared.term.Term.{Term}
-use Rattle.term_parse.specs.declared.printer.PrintedPart.{PrintedPart}
+use Rattle.term_parse.specs.{declared.{printer.PrintedPart.PrintedPart, table.Word.Word}, Atoms.{Atom, word, ended, atoms_of}, PrintedParts.pieces_atoms}
+use Rattle.term_parse.specs.PrintedParts.{terms_atoms}
 use Rattle.term_parse.specs.declared.printer.PrintedPart.TheVariants as held
-use Rattle.term_parse.specs.declared.table.Word.{Word}
-use Rattle.term_parse.specs.Atoms.{Atom, word, ended, atoms_of}
-use Rattle.term_parse.specs.PrintedParts.{pieces_atoms, terms_atoms}
 
 abbrev pub weight : Term → ℕ
 weight t = length (atoms_of t)

@@ -1,11 +1,7 @@
 -- What a text's reads come to.
-use Rattle.std.proofs.Common.{◌≡◌, ◌≢◌, ◌+◌, ◌≤◌, ◌<◌, ◌||◌, ℕ, Bool, true, false, List, length, take, arith, refl, ne_eqb}
-use Rattle.std.specs.Prelude.{Ok}
-use Rattle.std.specs.Io.KnownBytes.{Consumes}
-use Rattle.std.proofs.lemmas.List.{length-take, length-take-le}
-use Rattle.text_io.specs.Device.{found_end}
-use Rattle.text_io.specs.Devices.{Reader}
-use Rattle.text_io.specs.Exchange.{IsOutOfReads, IsRead}
+use Rattle.std.proofs.{Common.{◌≡◌, ◌≢◌, ◌+◌, ◌≤◌, ◌<◌, ◌||◌, ℕ, Bool, true, false, List, length, take, arith, refl, ne_eqb}, lemmas.List.length-take}
+use Rattle.std.{proofs.lemmas.List.length-take-le, specs.{Prelude.Ok, Io.KnownBytes.Consumes}}
+use Rattle.text_io.specs.{Device.found_end, Devices.Reader, Exchange.{IsOutOfReads, IsRead}}
 
 -- what told of no end
 pub or-false : (old : Bool) → (old || false) ≡ old

@@ -1,26 +1,14 @@
 -- Numbers, items and texts of items.
-use Rattle.std.proofs.Common.{◌≡◌, ◌≢◌, ◌+◌, ◌<◌, ◌≤◌, ◌^◌, ℕ, true, List, [], ◌∷◌, ◌++◌, length, get_or}
-use Rattle.std.proofs.Common.{Result, Ok, Err, IfOk, Option, Some, None, MatchOption, arith, refl, sym, ap, ◌∙◌}
-use Rattle.std.proofs.Common.{inl, inr, append_assoc, replicate, ◌/◌, ◌%◌, ◌-◌, length-append, Bor, suc}
-use Rattle.std.proofs.Common.{append-nil, drop, take, ◌*◌}
-use Rattle.std.proofs.Math.Seq.{drop-cons, take-add, take-suc}
-use Rattle.std.proofs.lemmas.List.{get_or-drop, length-drop, take-append-drop}
-use Rattle.std.specs.Fmt.{decimal}
-use Rattle.std.specs.List.{AllByRecursion}
-use Rattle.std.specs.Str.Parse.{AllDigits, digits_value, ParsesUnsigned}
-use Rattle.std.proofs.lemmas.Str.Parse.{IsNumeralModel, numerals_by_value, tells_digits, parse_plain, not_in_digits}
+use Rattle.std.proofs.Common.{◌≡◌, ◌≢◌, ◌+◌, ◌<◌, ◌≤◌, ◌^◌, ℕ, true, List, [], ◌∷◌, ◌++◌, length, get_or, Result, Ok, Err, IfOk, Option, Some, None}
+use Rattle.std.proofs.Common.{MatchOption, arith, refl, sym, ap, ◌∙◌, inl, inr, append_assoc, replicate, ◌/◌, ◌%◌, ◌-◌, length-append, Bor, suc, append-nil}
+use Rattle.std.proofs.{Common.{drop, take, ◌*◌}, Math.Seq.{drop-cons, take-add, take-suc}, lemmas.List.{get_or-drop, length-drop, take-append-drop}}
+use Rattle.std.proofs.lemmas.{List.length-replicate, Str.Parse.{IsNumeralModel, numerals_by_value, tells_digits, parse_plain, not_in_digits}}
 use Rattle.std.proofs.lemmas.Fmt.{digits_decimal, decimal-digits_value, first_decimal, decimal_nonempty, decimal_injective, decimal_digit, decimal_step}
-use Rattle.std.proofs.lemmas.Bool.{cases_lt}
-use Rattle.std.proofs.lemmas.List.{length-replicate}
-use Rattle.std.proofs.lemmas.Grind.{common_steps}
-use Rattle.text_io.specs.Digits.{is_plain}
-use Rattle.text_io.specs.Schedule.{Item, once, repeated, IsItem, fiber_of, times_of, spelling, text_of}
-use Rattle.text_io.specs.Schedule.{entries_of, front_of, BeginsWith, IsFirstBad, HasNo, IsItemOf, SpellsEntries}
-use Rattle.text_io.specs.Schedule.{GivesEntries, RefusesAt}
-use Rattle.text_io.specs.Reading.{GoesOn, HasRead}
-use Rattle.text_io.specs.declared.schedule.ScheduleError.{ScheduleError}
-use Rattle.text_io.specs.declared.schedule.ScheduleError.TheVariants.{NoMemory, BadSchedule}
-use Rattle.std.specs.declared.vec.Vec.{Vec}
+use Rattle.std.{proofs.lemmas.{Bool.cases_lt, Grind.common_steps}, specs.{Fmt.decimal, List.AllByRecursion, Str.Parse.{AllDigits, digits_value}}}
+use Rattle.std.specs.{Str.Parse.ParsesUnsigned, declared.vec.Vec.Vec}
+use Rattle.text_io.specs.{Digits.is_plain, Schedule.{Item, once, repeated, IsItem, fiber_of, times_of, spelling, text_of, entries_of, front_of, BeginsWith}}
+use Rattle.text_io.specs.{Schedule.{IsFirstBad, HasNo, IsItemOf, SpellsEntries, GivesEntries, RefusesAt}, Reading.{GoesOn, HasRead}}
+use Rattle.text_io.specs.declared.schedule.ScheduleError.{ScheduleError, TheVariants.{NoMemory, BadSchedule}}
 
 own : IsNumeralModel (AllDigits 10) (digits_value 10)
 own = numerals_by_value (AllDigits 10) tells_digits
@@ -52,17 +40,6 @@ decimal_plain n small = elim (cases_lt n 10) [
       let two : 1 < length (decimal n) = rw (decimal_step n big (omega arith)) (omega (arith, length-append (decimal (n / 10)) ((48 + n % 10) ∷ []))) in
       plain_long (decimal n) two (first_decimal n (omega arith) (omega arith))
   | inl low ↦ rw (decimal_digit n low) (plain_digit n)
-]
-
--- a number that is spelled by one byte
-pub one_digit : (b n : ℕ) → n < 2 ^ 32 → b ∷ [] ≡ decimal n → (n < 10) × (b ≡ 48 + n)
-one_digit b n small e = elim (cases_lt n 10) [
-  | inr big ↦
-      let some : 0 < length (decimal (n / 10)) = decimal_nonempty (n / 10) (omega arith) in
-      let two : 1 < length (decimal n) = rw (decimal_step n big (omega arith)) (omega (arith, length-append (decimal (n / 10)) ((48 + n % 10) ∷ []))) in
-      let one : length (decimal n) ≡ 1 = sym (ap length e) in
-      absurd (omega arith)
-  | inl low ↦ (low, ap (λ bs. get_or bs 0 0) (e ∙ decimal_digit n low))
 ]
 
 -- what was parsed is the text of its number
@@ -159,10 +136,6 @@ text_some : (i : Item) (items : List Item) → IsItem i → 0 < length (text_of 
 text_some i [] g = spelling_some i g
 text_some i (j ∷ items) g = omega (arith, length-append (spelling i) (32 ∷ text_of (j ∷ items)), spelling_some i g)
 
-none_longer : (xs ys : List ℕ) → [] ≡ xs ++ ys → 0 < length xs → ⊥
-none_longer [] ys e l = omega arith
-none_longer (x ∷ xs) ys e l = cc
-
 -- a text of good items has no first bad one
 not_bad : (n : ℕ) (i : Item) (items before : List Item) (rest : List ℕ) → AllByRecursion IsItem (i ∷ items) → AllByRecursion IsItem before →
     text_of (i ∷ items) ≡ front_of before ++ rest → n + length (entries_of (i ∷ items)) ≤ 1000000 →
@@ -204,9 +177,6 @@ same_items (i ∷ k ∷ xs) (j ∷ l ∷ ys) g h e =
     cc
 
 -- The steps of the reader
-
-pub read_none : (text : List ℕ) → 0 < length text → HasRead text text []
-read_none text l = record { items = []; good = tt; text_is = refl; entries_are = refl; few = omega arith; some = l }
 
 pub read_more : (text rest first behind entries more : List ℕ) (fiber times : ℕ) → HasRead text rest entries → rest ≡ first ++ 32 ∷ behind →
     IsItemOf first fiber times → more ≡ entries ++ replicate times fiber → length entries + times ≤ 1000000 → HasRead text behind more

@@ -1,13 +1,7 @@
 -- What is told of a bad schedule.
 use Rattle.std.proofs.Common.{◌≡◌, ℕ, List, Result, refl, subst}
-use Rattle.text_io.specs.declared.fault.TextFault.{TextFault}
-use Rattle.text_io.specs.declared.schedule.ScheduleError.{ScheduleError}
-use Rattle.text_io.specs.declared.schedule.ScheduleError.TheVariants.{BadSchedule}
-use Rattle.text_io.specs.declared.status.Status.TheVariants.{Usage}
-use Rattle.text_io.specs.Devices.{Writer}
-use Rattle.text_io.specs.FaultLines.{schedule_line}
-use Rattle.text_io.specs.Telling.{RefusesSchedule}
-use Rattle.text_io.specs.Text.{GoesOut, OnlyWriteFaults, is_write_fault}
+use Rattle.text_io.specs.declared.{fault.TextFault.TextFault, schedule.ScheduleError.{ScheduleError, TheVariants.BadSchedule}, status.Status.TheVariants.Usage}
+use Rattle.text_io.specs.{Devices.Writer, FaultLines.schedule_line, Telling.RefusesSchedule, Text.{GoesOut, OnlyWriteFaults, is_write_fault}}
 
 -- a bad schedule is told by its line
 pub schedule_refused : (error : ScheduleError) (place : ℕ) (line : List ℕ) (before after : Writer) (result : Result (Unit {0}) TextFault) →

@@ -1,16 +1,8 @@
 -- How a schedule's text is written, item by item.
-use Rattle.std.proofs.Common.{◌≡◌, ◌-◌, Result, Ok, Err, ◌<◌, ◌≤◌, ℕ, List, [], ◌∷◌, ◌++◌, length, take, drop}
-use Rattle.std.proofs.Common.{replicate, refl, sym, ap, ◌∙◌, append_assoc, append-nil, arith, subst}
-use Rattle.std.specs.Prelude.{IfOk}
-use Rattle.std.specs.List.{All}
-use Rattle.std.proofs.lemmas.List.{length-drop, take-append-drop, take_all}
-use Rattle.std.proofs.lemmas.List.Elements.{All-drop}
-use Rattle.text_io.specs.Schedule.{Item, IsItemOf, SpellsEntries, entries_of, fiber_of, front_of, times_of}
-use Rattle.text_io.specs.Reading.{HasWritten}
+use Rattle.std.proofs.Common.{◌≡◌, ◌-◌, Result, Ok, Err, ◌<◌, ◌≤◌, ℕ, List, [], ◌∷◌, ◌++◌, length, take, drop, replicate, refl, sym, ap, ◌∙◌, append_assoc}
+use Rattle.std.{proofs.{Common.{append-nil, arith, subst}, lemmas.List.{length-drop, take-append-drop, take_all, Elements.All-drop}}, specs.Prelude.IfOk}
+use Rattle.text_io.specs.{Schedule.{Item, IsItemOf, SpellsEntries, entries_of, fiber_of, front_of, times_of}, Reading.HasWritten}
 use Rattle.text_io.proofs.ScheduleLemmas.{entries_more, front_more, good_more, text_more}
-
-pub write_none : (entries : List ℕ) → All (λ fiber. fiber < 1000) entries → 0 < length entries → HasWritten [] entries entries
-write_none entries fibers some = record { items = []; good = tt; text_is = refl; entries_are = refl; fibers = fibers; some = some }
 
 -- the entries that an item adds
 added : (rest entries : List ℕ) (items : List Item) (i : Item) (times : ℕ) → entries ≡ entries_of items ++ rest → times ≡ times_of i →

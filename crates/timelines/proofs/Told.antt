@@ -1,13 +1,10 @@
 -- Answers with a timeline.
-use Rattle.std.proofs.Common.{◌≡◌, ℕ, List, ◌∷◌, ◌++◌, Ok, Err, sym, ◌∙◌, ap, subst}
-use Rattle.std.specs.Prelude.{Result, IfOk}
-use Rattle.cell_registry.specs.declared.limits.Limits.{Limits}
-use Rattle.cell_registry.specs.declared.limits.RunError.{RunError}
+use Rattle.std.{proofs.Common.{◌≡◌, ℕ, List, ◌∷◌, ◌++◌, Ok, Err, sym, ◌∙◌, ap, subst}, specs.Prelude.{Result, IfOk}}
+use Rattle.cell_registry.specs.declared.limits.{Limits.Limits, RunError.RunError}
 use Rattle.effect_term.specs.declared.term.Term.{Term}
 use Rattle.text_io.specs.declared.status.Status.{Status}
-use Rattle.outcome_trace.specs.declared.text_order.Answer.{Answer}
+use Rattle.outcome_trace.specs.{declared.text_order.Answer.Answer, ReplayAnswers.{IsRunAnswer, reports, faults, replayed}}
 use Rattle.scheduled_core.specs.declared.report.Report.{Report}
-use Rattle.outcome_trace.specs.ReplayAnswers.{IsRunAnswer, reports, faults, replayed}
 use Rattle.timelines.specs.TimelineAnswers.{IsToldAnswer, end_status, end_text}
 
 -- the end of a run gives the answer without a timeline

@@ -1,21 +1,15 @@
 -- Each step keeps the rule of a bay's table.
-use Rattle.std.proofs.Common.{◌≡◌, ◌≢◌, ◌==◌, ◌<◌, ℕ, zero, suc, true, false, Option, None, List, [], ◌∷◌}
-use Rattle.std.proofs.Common.{length, map, replicate, set, get_or, get_or-set_same, get_or-set_other, sym, refl}
-use Rattle.std.proofs.Common.{ap, ◌∙◌, subst, ⊎_elim, arith}
-use Rattle.std.proofs.lemmas.Bool.Decides.{nat_tests}
-use Rattle.std.proofs.Math.ListN.{length-set}
-use Rattle.std.proofs.lemmas.List.{length-map, length-replicate}
-use mathlib.Core.Option.{some, none, some-ne-none, some-injective}
-use mathlib.Core.Logic.{dite}
+use Rattle.std.proofs.Common.{◌≡◌, ◌≢◌, ◌==◌, ◌<◌, ℕ, zero, suc, true, false, Option, None, List, [], ◌∷◌, length, map, replicate, set, get_or, get_or-set_same}
+use Rattle.std.proofs.{Common.{get_or-set_other, sym, refl, ap, ◌∙◌, subst, ⊎_elim, arith}, lemmas.{Bool.Decides.nat_tests, List.length-map}}
+use Rattle.std.proofs.{lemmas.List.length-replicate, Math.ListN.length-set}
+use mathlib.Core.{Option.{some, none, some-ne-none, some-injective}, Logic.dite}
 use native.Mathlib.Decide.{ℕ_discrete}
 use lib.ListN.{get_elem?}
 use prog.Atomic.{either}
-use Rattle.atomic_table.specs.Table.{State, step, keeps, takes, gives, Allows, Splits, Final, opening, rest}
-use Rattle.atomic_table.proofs.Lists.{at_set, at_snoc, set_here, set_else, some_there}
+use Rattle.atomic_table.{specs.Table.{State, step, keeps, takes, gives, Allows, Splits, Final, opening, rest}, proofs.Lists.{at_set, at_snoc, set_here}}
+use Rattle.atomic_table.proofs.Lists.{set_else, some_there}
 use Rattle.fiber_poll.specs.Tasks.{TaskView}
-use Rattle.wait_bay.specs.declared.rule.Knowledge.{Knowledge}
-use Rattle.wait_bay.specs.Names.{Named, MayLie}
-use Rattle.wait_bay.specs.Rule.{KeepsTasks, GoesOut, ComesHome}
+use Rattle.wait_bay.specs.{declared.rule.Knowledge.Knowledge, Names.{Named, MayLie}, Rule.{KeepsTasks, GoesOut, ComesHome}}
 
 abbrev Tasks : Type 0
 Tasks = State (Option TaskView) Knowledge

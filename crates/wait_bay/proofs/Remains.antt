@@ -1,19 +1,13 @@
 -- The slots of a bay at its end.
-use Rattle.std.proofs.Common.{◌≡◌, ◌≢◌, ◌==◌, ◌⊎◌, inl, inr, ◌<◌, ◌≤◌, ◌+◌, ℕ, zero, suc, true, false, Bool}
-use Rattle.std.proofs.Common.{Option, Some, List, [], ◌∷◌, ◌++◌, length, set, get_or, get_or-set_other, sym}
-use Rattle.std.proofs.Common.{refl, ◌∙◌, subst, arith, All, AllPairs}
-use mathlib.Core.Logic.{dite}
+use Rattle.std.proofs.Common.{◌≡◌, ◌≢◌, ◌==◌, ◌⊎◌, inl, inr, ◌<◌, ◌≤◌, ◌+◌, ℕ, zero, suc, true, false, Bool, Option, Some, List, [], ◌∷◌, ◌++◌, length, set}
+use Rattle.std.proofs.{Common.{get_or, get_or-set_other, sym, refl, ◌∙◌, subst, arith, All, AllPairs}, lemmas.Bool.Decides.nat_tests}
+use Rattle.std.proofs.lemmas.List.{Elements.{All-get_or, All-push}, Quantifiers.all_pairs_push}
+use mathlib.Core.{Logic.dite, Option.{some, some-ne-none, some-injective}}
 use native.Mathlib.Decide.{ℕ_discrete}
 use lib.ListN.{get_elem?}
-use mathlib.Core.Option.{some, some-ne-none, some-injective}
-use Rattle.std.proofs.lemmas.Bool.Decides.{nat_tests}
-use Rattle.std.proofs.lemmas.List.Elements.{All-get_or, All-push}
-use Rattle.std.proofs.lemmas.List.Quantifiers.{all_pairs_push}
 use Rattle.atomic_table.specs.Table.{Final}
 use Rattle.fiber_poll.specs.Tasks.{TaskView}
-use Rattle.wait_bay.specs.Names.{ComesBefore, Named, IsNamed, MayLie}
-use Rattle.wait_bay.specs.Rule.{KeepsTasks}
-use Rattle.wait_bay.proofs.Keeping.{emptied}
+use Rattle.wait_bay.{specs.{Names.{ComesBefore, Named, IsNamed, MayLie}, Rule.KeepsTasks}, proofs.Keeping.emptied}
 
 pub other_flag : (fs : List Bool) (f g : ℕ) → g ≢ f → get_or (set fs f false) g false ≡ get_or fs g false
 other_flag fs f g apart = rw get_or-set_other

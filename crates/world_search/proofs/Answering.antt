@@ -1,20 +1,11 @@
 -- Answers that are added.
 use Rattle.std.proofs.Common.{◌≡◌, ◌≢◌, ℕ, ◌+◌, ◌<◌, false, List, [], ◌∷◌, length, Some, Result, Ok, Err, refl, sym, ap, ◌∙◌, subst, arith, inl, inr}
-use Rattle.std.proofs.Common.{length-append}
-use Rattle.std.specs.List.{slice_get}
-use Rattle.std.proofs.lemmas.Bool.{cases_lt}
-use Rattle.std.proofs.lemmas.Option.{slice_get_within}
+use Rattle.std.{proofs.{Common.length-append, lemmas.{Bool.cases_lt, Option.slice_get_within}}, specs.List.slice_get}
 use mathlib.Core.Logic.{◌⊎◌}
-use Rattle.world_search.specs.declared.answers.Answer.{Answer}
-use Rattle.world_search.specs.declared.graphs.Node.{Node}
-use Rattle.world_search.specs.declared.graphs.Noted.{Noted}
-use Rattle.world_search.specs.declared.landings.Landing.{Landing}
+use Rattle.world_search.specs.{declared.{answers.Answer.Answer, graphs.{Node.Node, Noted.Noted}, landings.Landing.Landing}, Answers.{AreApart, TellOnce, Tells}}
+use Rattle.world_search.specs.{Answers.IsAnswered, Lists.IsMore, Private.Listed.{Adds, AddsFaults, AreListed, HaveNoFault, IsWorldListed, IsFaultListed}}
+use Rattle.world_search.{specs.Private.{Listed.IsNamed, Shapes.{AreNotedOnce, Shape}}, proofs.Lists.{more_back, more_in, get_last, get_end}}
 use Rattle.world_search.specs.declared.landings.Landing.TheVariants as to
-use Rattle.world_search.specs.Answers.{AreApart, TellOnce, Tells, IsAnswered}
-use Rattle.world_search.specs.Lists.{IsMore}
-use Rattle.world_search.specs.Private.Listed.{Adds, AddsFaults, AreListed, HaveNoFault, IsWorldListed, IsFaultListed, IsNamed}
-use Rattle.world_search.specs.Private.Shapes.{AreNotedOnce, Shape}
-use Rattle.world_search.proofs.Lists.{more_back, more_in, get_last, get_end}
 
 pub adds_more : (nodes : List Node) (last : Node) (end : Landing) (old new : List Answer) → Adds nodes last end old new → IsMore old new
 adds_more nodes last end old new h = record { more = h.answer ∷ []; is = sym h.is }

@@ -1,19 +1,11 @@
 -- What the listed claims say, from the graph of the search.
-use Rattle.std.proofs.Common.{◌≡◌, ℕ, ◌+◌, ◌<◌, ◌≤◌, Bool, true, false, List, [], ◌∷◌, ◌++◌, length, Some, Result, Ok, Err, sym, ap, ◌∙◌, subst, arith}
-use Rattle.std.specs.List.{slice_get, All}
-use Rattle.std.proofs.lemmas.Option.{same_Some, slice_get_within}
+use Rattle.std.proofs.Common.{◌≡◌, ℕ, ◌+◌, ◌<◌, ◌≤◌, Bool, false, List, [], ◌∷◌, ◌++◌, length, Some, Result, Ok, Err, sym, ◌∙◌, subst, arith}
+use Rattle.std.{proofs.lemmas.Option.slice_get_within, specs.List.{slice_get, All}}
 use mathlib.Core.Logic.{◌⊎◌, inl, inr, dite}
 use native.Mathlib.Decide.{ℕ_discrete}
-use Rattle.world_search.specs.declared.claims.Met.{Met}
-use Rattle.world_search.specs.declared.graphs.Node.{Node}
-use Rattle.world_search.specs.Claims.{IsBrief, IsFew, IsFound, IsMetBy}
-use Rattle.world_search.specs.Lists.{IsIn, IsMore}
-use Rattle.world_search.specs.Systems.{run}
-use Rattle.world_search.specs.Private.Claimed.{AddsMet, AreListedMet, AreLooked, IsListedMet, MeetsNone}
-use Rattle.world_search.specs.Private.Graphs.{Fits, IsDone, IsMet, IsReached, IsTold}
-use Rattle.world_search.specs.Private.Shapes.{Shape}
-use Rattle.world_search.proofs.Closed.{IsOf, closed_run}
-use Rattle.world_search.proofs.Lists.{all_from, get_end, get_last, get_low, more_by, more_in}
+use Rattle.world_search.specs.{declared.{claims.Met.Met, graphs.Node.Node}, Claims.{IsBrief, IsFew, IsFound, IsMetBy}, Lists.IsMore, Systems.run}
+use Rattle.world_search.specs.Private.{Claimed.{AddsMet, AreListedMet, AreLooked, IsListedMet, MeetsNone}, Graphs.{Fits, IsDone, IsMet, IsReached, IsTold}}
+use Rattle.world_search.{specs.Private.Shapes.Shape, proofs.{Closed.{IsOf, closed_run}, Lists.{all_from, get_end, get_last, get_low, more_by, more_in}}}
 use Rattle.world_search.proofs.Paths.{path_long, path_numbers, path_runs, reached_short}
 
 found_more : (i : ℕ) (old new : List Met) → IsMore old new → IsFound i old → IsFound i new

@@ -1,16 +1,12 @@
 -- The entries at one world, and at all of them.
 use Rattle.std.proofs.Common.{◌≡◌, ℕ, zero, suc, ◌+◌, ◌<◌, ◌≤◌, Bool, true, false, List, length, set, Some, Result, Ok, sym, ◌∙◌, subst, arith, inl, inr}
-use Rattle.std.specs.List.{slice_get}
-use Rattle.std.proofs.lemmas.Option.{same_Some}
+use Rattle.std.{proofs.lemmas.Option.same_Some, specs.List.slice_get}
 use mathlib.Core.Logic.{◌⊎◌, dite}
 use native.Mathlib.Decide.{ℕ_discrete}
-use Rattle.world_search.specs.declared.expanding.Came.{Came}
+use Rattle.world_search.specs.{declared.expanding.Came.Came, Lists.IsMore, Private.{Shapes.{Shape, with_quiet}, Graphs.{IsMet, Stays, IsQuiet, Grows, IsDone}}}
+use Rattle.world_search.{specs.Private.Graphs.{ComesTo, CameSo, SameFlags, worse_of}, proofs.{Lists.{more_at, set_same, set_other}, Fitting.grow_met}}
+use Rattle.world_search.proofs.Fitting.{grow_stays, grow_done}
 use Rattle.world_search.specs.declared.expanding.Came.TheVariants as came
-use Rattle.world_search.specs.Lists.{IsMore}
-use Rattle.world_search.specs.Private.Shapes.{Shape, with_quiet}
-use Rattle.world_search.specs.Private.Graphs.{IsMet, Stays, IsQuiet, Grows, IsDone, ComesTo, CameSo, SameFlags, worse_of}
-use Rattle.world_search.proofs.Lists.{more_at, set_same, set_other}
-use Rattle.world_search.proofs.Fitting.{grow_met, grow_stays, grow_done}
 
 pub same_flags : (i : ℕ) (old new : List Bool) → IsMore old new → SameFlags i old new
 same_flags i old new m j apart low = more_at old new j m low

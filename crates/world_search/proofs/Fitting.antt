@@ -1,17 +1,12 @@
 -- What is known of the worlds and entries of a search still holds where more are added.
-use Rattle.std.proofs.Common.{◌≡◌, ℕ, ◌+◌, ◌<◌, true, false, List, [], ◌∷◌, ◌++◌, length, Some, Result, Ok, Err, sym}
-use Rattle.std.proofs.Common.{◌∙◌, ap, subst, arith, inl, inr, length-append, length-set}
-use Rattle.std.specs.List.{slice_get}
-use Rattle.std.proofs.lemmas.Option.{same_Some, slice_get_within}
+use Rattle.std.proofs.Common.{◌≡◌, ℕ, ◌+◌, ◌<◌, true, false, List, [], ◌∷◌, ◌++◌, length, Some, Result, Ok, Err, sym, ◌∙◌, ap, subst, arith, inl, inr}
+use Rattle.std.{proofs.{Common.{length-append, length-set}, lemmas.Option.{same_Some, slice_get_within}}, specs.List.slice_get}
 use mathlib.Core.Logic.{dite}
 use native.Mathlib.Decide.{ℕ_discrete}
-use Rattle.world_search.specs.declared.graphs.Node.{Node}
-use Rattle.world_search.specs.declared.graphs.Edge.{Edge}
-use Rattle.world_search.specs.declared.graphs.Noted.{Noted}
-use Rattle.world_search.specs.Lists.{IsMore}
-use Rattle.world_search.specs.Private.Shapes.{AreNotedOnce, IsNotedIn, Shape, with_node, with_edge, with_noted, with_quiet}
-use Rattle.world_search.specs.Private.Graphs.{CanEnter, IsEntry, IsReached, IsEdge, IsNoted, IsTold, IsMet, Stays, IsQuiet, Fits, Grows, IsDone}
-use Rattle.world_search.proofs.Lists.{more_same, more_by, more_more, more_get, more_back, more_long, get_end, set_other}
+use Rattle.world_search.specs.{declared.graphs.{Node.Node, Edge.Edge, Noted.Noted}, Lists.IsMore, Private.Shapes.{AreNotedOnce, IsNotedIn, Shape, with_node}}
+use Rattle.world_search.specs.Private.{Shapes.{with_edge, with_noted, with_quiet}, Graphs.{CanEnter, IsEntry, IsReached, IsEdge, IsNoted, IsTold, IsMet, Stays}}
+use Rattle.world_search.{specs.Private.Graphs.{IsQuiet, Fits, Grows, IsDone}, proofs.Lists.{more_same, more_by, more_more, more_get, more_back, more_long}}
+use Rattle.world_search.proofs.Lists.{get_end, set_other}
 
 pub grows_same : {W E : Type 0} (ws : List W) (es : List E) (s : Shape) → Grows ws ws es es s s
 grows_same ws es s = record { worlds = more_same ws; faults = more_same es; nodes = more_same s.nodes; edges = more_same s.edges; noted = more_same s.noted }

@@ -1,12 +1,9 @@
 -- Flags that spread back along edges.
-use Rattle.std.proofs.Common.{◌≡◌, ℕ, zero, suc, ◌<◌, Bool, true, false, List, [], ◌∷◌, set, Some, refl, sym, ◌∙◌, subst, arith}
-use Rattle.std.specs.List.{slice_get}
-use Rattle.std.proofs.lemmas.Option.{same_Some, slice_get_within}
+use Rattle.std.proofs.{Common.{◌≡◌, ℕ, zero, suc, ◌<◌, Bool, true, false, List, [], ◌∷◌, set, Some, refl, sym, ◌∙◌, subst, arith}, lemmas.Option.same_Some}
+use Rattle.std.{proofs.lemmas.Option.slice_get_within, specs.List.slice_get}
 use mathlib.Core.Logic.{dite}
 use native.Mathlib.Decide.{ℕ_discrete}
-use Rattle.world_search.specs.declared.graphs.Edge.{Edge}
-use Rattle.world_search.specs.Private.Flags.{LeadsOn, AreFlagged, KeepsFlags, AreBack, unset}
-use Rattle.world_search.specs.Private.Flags.LeadsOn.{Here, Along}
+use Rattle.world_search.specs.{declared.graphs.Edge.Edge, Private.Flags.{LeadsOn, AreFlagged, KeepsFlags, AreBack, unset, LeadsOn.{Here, Along}}}
 use Rattle.world_search.proofs.Lists.{set_same, set_other}
 
 pub unset_set : (flags : List Bool) (i : ℕ) → slice_get flags i ≡ Some false → unset (set flags i true) < unset flags

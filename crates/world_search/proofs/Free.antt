@@ -11,6 +11,7 @@ use Rattle.world_search.specs.Free.{Commutes, AreEarly, AreFree, Leads, Leaps, A
 use Rattle.world_search.specs.Free.Leads.{Here, On}
 use Rattle.world_search.specs.Systems.{run, reported, IsSettled}
 use Rattle.world_search.proofs.Closed.{run-append}
+use Rattle.world_search.specs.declared.landings.Landing.TheVariants as to
 
 -- a fault stays
 pub run_fault : {W E : Type 0} (step : W → ℕ → Result W E) (e : E) (s : List ℕ) → run step (Err e) s ≡ Err e

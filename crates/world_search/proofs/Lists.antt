@@ -1,11 +1,7 @@
 -- Elements of lists that are extended, or in which one element is set.
-use Rattle.std.proofs.Common.{◌≡◌, ◌≢◌, ℕ, zero, suc, ◌+◌, ◌<◌, ◌≤◌, List, [], ◌∷◌, ◌++◌, length, set, Some, refl, sym, ap}
-use Rattle.std.proofs.Common.{◌∙◌, subst, arith, append_assoc, append-nil, length-append, inl, inr, get_or}
-use Rattle.std.specs.Prelude.{◌*◌, IfOk, Result, Ok, Err}
-use Rattle.std.proofs.Math.Nat.{mul-suc}
-use Rattle.std.proofs.Math.Numerals.{add-one}
-use Rattle.std.specs.List.{slice_get, All}
-use Rattle.std.proofs.lemmas.Option.{same_Some, slice_get-get_or, slice_get_within}
+use Rattle.std.proofs.Common.{◌≡◌, ◌≢◌, ℕ, zero, suc, ◌+◌, ◌<◌, ◌≤◌, List, [], ◌∷◌, ◌++◌, length, set, Some, refl, sym, ap, ◌∙◌, subst, arith, append_assoc}
+use Rattle.std.proofs.{Common.{append-nil, length-append, inl, inr, get_or}, Math.{Nat.mul-suc, Numerals.add-one}, lemmas.Option.{same_Some, slice_get-get_or}}
+use Rattle.std.{proofs.lemmas.Option.slice_get_within, specs.{Prelude.{◌*◌, IfOk, Result, Ok, Err}, List.{slice_get, All}}}
 use mathlib.Core.Logic.{◌⊎◌}
 use Rattle.world_search.specs.Lists.{IsIn, IsMore}
 

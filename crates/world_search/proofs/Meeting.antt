@@ -1,16 +1,11 @@
 -- One entry of a search: what it adds, and where it leads.
-use Rattle.std.proofs.Common.{◌≡◌, ℕ, ◌<◌, List, length, Some, Result, Ok, Err, refl, sym, subst, arith, inl, inr}
+use Rattle.std.proofs.{Common.{◌≡◌, ℕ, ◌<◌, List, length, Some, Result, Ok, Err, refl, sym, subst, arith, inl, inr}, lemmas.Option.slice_get_within}
 use Rattle.std.specs.List.{slice_get}
-use Rattle.std.proofs.lemmas.Option.{slice_get_within}
-use Rattle.world_search.specs.declared.graphs.Node.{Node}
-use Rattle.world_search.specs.declared.graphs.Edge.{Edge}
+use Rattle.world_search.specs.{declared.graphs.{Node.Node, Edge.Edge}, Landings.LandsAt, Private.Shapes.{Shape, with_edge, Keeps, Notes, IsNotedIn}}
+use Rattle.world_search.{specs.Private.Graphs.{CanEnter, IsEntry, IsTold, IsMet, Leaves, Fits, Grows, ComesTo}, proofs.Lists.{get_last, get_low}}
+use Rattle.world_search.proofs.Fitting.{grows_same, grows_node, fits_node, fits_edge, fits_noted}
 use Rattle.world_search.specs.declared.landings.Landing.TheVariants as to
 use Rattle.world_search.specs.declared.expanding.Came.TheVariants as came
-use Rattle.world_search.specs.Landings.{LandsAt}
-use Rattle.world_search.specs.Private.Shapes.{Shape, with_edge, Keeps, Notes, IsNotedIn}
-use Rattle.world_search.specs.Private.Graphs.{CanEnter, IsEntry, IsTold, IsMet, Leaves, Fits, Grows, ComesTo}
-use Rattle.world_search.proofs.Lists.{get_last, get_low}
-use Rattle.world_search.proofs.Fitting.{grows_same, grows_node, fits_node, fits_edge, fits_noted}
 
 module _ {W E R : Type 0} (step : W → ℕ → Result W E) (report : W → R) (most longest : ℕ) (ws : List W) (es : List E) where
   -- the entry of this node leads to world number j

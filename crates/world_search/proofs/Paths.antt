@@ -1,17 +1,9 @@
 -- A schedule that is read back from a node leads to the world or fault of this node.
 use Rattle.std.proofs.Common.{◌≡◌, ℕ, zero, suc, ◌<◌, ◌≤◌, List, [], ◌∷◌, ◌++◌, length, Some, Result, Ok, Err, sym, ap, ◌∙◌, subst, arith, length-append}
-use Rattle.std.specs.List.{slice_get}
-use Rattle.std.proofs.lemmas.Option.{same_Some}
+use Rattle.std.{proofs.lemmas.Option.same_Some, specs.List.slice_get}
 use mathlib.Core.Logic.{inl, inr}
-use Rattle.world_search.specs.declared.graphs.Node.{Node}
-use Rattle.world_search.specs.Systems.{run}
-use Rattle.world_search.specs.Private.Paths.{IsPath, IsChained, AreChained}
-use Rattle.world_search.specs.Private.Paths.IsPath.{Root, Then}
-use Rattle.world_search.specs.Private.Shapes.{Shape}
-use Rattle.world_search.specs.Private.Graphs.{IsEntry, IsReached, Fits}
-use Rattle.world_search.specs.Private.Listed.{AreNotedChained}
-use Rattle.world_search.proofs.Closed.{run-append}
-use Rattle.world_search.proofs.Lists.{get_low, get_end}
+use Rattle.world_search.specs.{declared.graphs.Node.Node, Systems.run, Private.{Paths.{IsPath, IsChained, AreChained, IsPath.{Root, Then}}, Shapes.Shape}}
+use Rattle.world_search.{specs.Private.{Graphs.{IsEntry, IsReached, Fits}, Listed.AreNotedChained}, proofs.{Closed.run-append, Lists.{get_low, get_end}}}
 
 pub path_long : (nodes : List Node) (n : Node) (p : List ℕ) → IsPath nodes n p → length p ≡ n.depth
 path_long nodes n p (Root m q none nil) = let e : length q ≡ 0 = ap (λ (l : List ℕ). length l) nil in omega arith

@@ -1,27 +1,14 @@
 -- What the answers of a search say, from its graph.
-use Rattle.std.proofs.Common.{◌≡◌, ◌≢◌, ℕ, zero, suc, ◌+◌, ◌<◌, ◌≤◌, Bool, true, false, List, [], ◌∷◌, ◌++◌, length, Some, Result}
-use Rattle.std.proofs.Common.{Ok, Err, refl, sym, ap, ◌∙◌, subst, arith}
-use Rattle.std.specs.List.{slice_get, All}
-use Rattle.std.proofs.lemmas.Option.{same_Some, slice_get_within}
+use Rattle.std.proofs.Common.{◌≡◌, ◌≢◌, ℕ, zero, suc, ◌+◌, ◌<◌, ◌≤◌, Bool, true, false, List, [], ◌∷◌, ◌++◌, length, Some, Result, Ok, Err, refl, sym, ap, ◌∙◌}
+use Rattle.std.{proofs.{Common.{subst, arith}, lemmas.Option.{same_Some, slice_get_within}}, specs.List.{slice_get, All}}
 use mathlib.Core.Logic.{◌⊎◌, inl, inr}
-use Rattle.world_search.specs.declared.answers.Answer.{Answer}
-use Rattle.world_search.specs.declared.graphs.Edge.{Edge}
-use Rattle.world_search.specs.declared.graphs.Noted.{Noted}
-use Rattle.world_search.specs.declared.landings.Landing.{Landing}
+use Rattle.world_search.specs.{declared.{answers.Answer.Answer, graphs.{Edge.Edge, Noted.Noted}, landings.Landing.Landing}, Systems.{run, reported, IsSettled}}
+use Rattle.world_search.specs.{Answers.{LeadsTo, IsRight, IsShort, IsNumbered, IsAnswered, IsCovered, IsEnd}, Private.Flags.{AreWithin, LeadsOn, AreFlagged}}
+use Rattle.world_search.specs.Private.{Flags.{KeepsFlags, AreBack, LeadsOn.{Here, Along}}, Shapes.Shape, Graphs.{IsReached, IsTold, IsMet, Stays, Leaves, Fits}}
+use Rattle.world_search.{specs.{Private.{Graphs.IsDone, Listed.{AreListed, IsWorldListed, IsFaultListed, IsNamed}}, Free.AreGrowing}, proofs.Closed.IsOf}
+use Rattle.world_search.proofs.{Closed.{StaysIn, closed_run, run-append, settled, settled_next, settled_stays}, Lists.{get_low, all_from}, Paths.path_long}
+use Rattle.world_search.proofs.{Paths.{path_runs, path_numbers, reached_short}, Answering.named_fault, Free.grown}
 use Rattle.world_search.specs.declared.landings.Landing.TheVariants as to
-use Rattle.world_search.specs.Systems.{run, reported, IsSettled}
-use Rattle.world_search.specs.Answers.{LeadsTo, IsRight, IsShort, IsNumbered, IsAnswered, IsCovered, IsEnd}
-use Rattle.world_search.specs.Private.Flags.{AreWithin, LeadsOn, AreFlagged, KeepsFlags, AreBack}
-use Rattle.world_search.specs.Private.Flags.LeadsOn.{Here, Along}
-use Rattle.world_search.specs.Private.Shapes.{Shape}
-use Rattle.world_search.specs.Private.Graphs.{IsReached, IsTold, IsMet, Stays, Leaves, Fits, IsDone}
-use Rattle.world_search.specs.Private.Listed.{AreListed, IsWorldListed, IsFaultListed, IsNamed}
-use Rattle.world_search.proofs.Closed.{IsOf, StaysIn, closed_run, run-append, settled, settled_next, settled_stays}
-use Rattle.world_search.proofs.Lists.{get_low, all_from}
-use Rattle.world_search.proofs.Paths.{path_long, path_runs, path_numbers, reached_short}
-use Rattle.world_search.proofs.Answering.{named_fault}
-use Rattle.world_search.proofs.Free.{grown}
-use Rattle.world_search.specs.Free.{AreGrowing}
 
 -- the sum of the sizes of all worlds
 abbrev total : {W : Type 0} → (W → ℕ) → List W → ℕ

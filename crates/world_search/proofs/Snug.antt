@@ -1,15 +1,10 @@
 -- Each world of a store was met, and no node is deeper than its number.
-use Rattle.std.proofs.Common.{◌≡◌, ℕ, ◌+◌, ◌<◌, ◌≤◌, List, [], ◌∷◌, ◌++◌, length, refl, sym, subst}
-use Rattle.std.proofs.Common.{arith, length-append, inl, inr}
+use Rattle.std.proofs.Common.{◌≡◌, ℕ, ◌+◌, ◌<◌, ◌≤◌, List, [], ◌∷◌, ◌++◌, length, refl, sym, subst, arith, length-append, inl, inr}
 use Rattle.std.proofs.lemmas.Option.{slice_get_within}
 use mathlib.Core.Logic.{◌⊎◌}
-use Rattle.world_search.specs.declared.graphs.Node.{Node}
-use Rattle.world_search.specs.declared.graphs.Edge.{Edge}
-use Rattle.world_search.specs.declared.expanding.Came.{Came}
+use Rattle.world_search.specs.{declared.{graphs.{Node.Node, Edge.Edge}, expanding.Came.Came}, Private.Shapes.{Shape, with_edge, with_quiet, Keeps}}
+use Rattle.world_search.{specs.Private.Graphs.{CanEnter, AreShallow, IsSnug, IsNearly, IsStopped, worse_of}, proofs.Lists.get_end}
 use Rattle.world_search.specs.declared.expanding.Came.TheVariants as came
-use Rattle.world_search.specs.Private.Shapes.{Shape, with_edge, with_quiet, Keeps, Notes}
-use Rattle.world_search.specs.Private.Graphs.{CanEnter, AreShallow, IsSnug, IsNearly, IsStopped, worse_of}
-use Rattle.world_search.proofs.Lists.{get_end}
 
 shallow_next : (most longest : ℕ) (nodes : List Node) (n : Node) → AreShallow nodes → CanEnter most longest nodes n →
     AreShallow (nodes ++ (n ∷ []))
@@ -75,13 +70,6 @@ edge_snug s e many h = record { even = h.even; shallow = h.shallow }
 -- so does a world that becomes quiet
 pub quiet_snug : (s : Shape) (i many : ℕ) → IsSnug many s → IsSnug many (with_quiet s i)
 quiet_snug s i many h = record { even = h.even; shallow = h.shallow }
-
--- so does a fault that is noted
-pub noted_snug : (s t : Shape) (fault : ℕ) (n : Node) (many : ℕ) → Notes s t fault n → IsSnug many s → IsSnug many t
-noted_snug s t fault n many notes h = elim notes [
-  | inl same ↦ subst (IsSnug many) (sym same.1) h
-  | inr next ↦ subst (IsSnug many) (sym next.1) (record { even = h.even; shallow = h.shallow })
-]
 
 -- the result of two is `Lost` only if one of them is
 pub worse_lost : (one other : Came) → worse_of one other ≡ came.Lost → (one ≡ came.Lost) ⊎ (other ≡ came.Lost)

@@ -6,13 +6,19 @@ use Rattle.cell_registry.specs.declared.limits.RunError.TheVariants as run
 use Rattle.world_search.specs.declared.landings.Landing.TheVariants as to
 use Rattle.world_search.specs.declared.landings.Entered.{Entered}
 use Rattle.world_search.specs.declared.landings.Entered.TheVariants as came
-use Rattle.every_outcome.specs.Places.{Place}
+use Rattle.every_schedule.specs.Claims.{View}
 
 -- the world has this number, unless there was no room
-abbrev pub IsKept : List Place → Entered → Place → Type 0
+abbrev pub IsKept : {A : Type 0} → List A → Entered → A → Type 0
 IsKept ps (came.At (to.World j)) p = slice_get ps j ≡ Some p
 IsKept ps (came.At (to.Fault j)) p = ⊥
 IsKept ps came.Full p = Unit {0}
+
+-- the views and faults that are kept, and the number of bytes that are counted for them
+pub record KeptViews : Type 0 where
+  pub views : List View
+  pub faults : List RunError
+  pub bytes : ℕ
 
 -- no element occurs twice
 abbrev pub AreSingle : {A : Type 0} → List A → Type 0

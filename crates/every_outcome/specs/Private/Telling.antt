@@ -1,5 +1,5 @@
 -- The answers of a search, with their outcomes and faults.
-use Rattle.std.specs.Prelude.{◌≡◌, ◌<◌, ℕ, List, length, Option, Some, Result, Ok, Err}
+use Rattle.std.specs.Prelude.{◌≡◌, ◌<◌, ℕ, true, List, length, Option, Some, Result, Ok, Err}
 use Rattle.std.specs.List.{slice_get}
 use Rattle.effect_term.specs.declared.reply.Outcome.{Outcome}
 use Rattle.cell_registry.specs.declared.limits.RunError.{RunError}
@@ -22,7 +22,7 @@ IsEnd k (Fault i) end = (e : RunError) × (slice_get k.faults i ≡ Some e) × (
 
 -- the answer has the outcomes or the fault that was found, and a schedule with every move as an entry that leads there
 pub record IsTold (k : Kept) (first : Place) (found : Found) (answer : OutcomeAnswer) : Type 0 where
-  pub schedule : IsUnfolded first found.schedule.items answer.schedule
+  pub schedule : IsUnfolded true first found.schedule.items answer.schedule
   pub ends : IsEnd k found.end answer.end
 
 -- the answers are those that were found, in the same order

@@ -1,16 +1,7 @@
 -- What a row of a word without parts makes: a value, an error or such a word, no child, and no mark but that of `say`.
-use Rattle.std.proofs.Common.{ℕ, true, false, if◌then◌else◌, List, [], ◌∷◌, Option, Some, None}
-use Rattle.std.specs.Prelude.{ℤ, pos, ◌+ℤ◌}
-use Rattle.derived_ops.specs.Tree.{Act, Action, Add, Await, Canceled, Cede, Complete, Ending, Get, Handle}
-use Rattle.derived_ops.specs.Tree.{Modify, Never, Number, Pure, Raise, Request, Say, Set, Tree, Operand}
-use Rattle.effect_term.specs.declared.reply.Outcome.{Outcome}
-use Rattle.effect_term.specs.declared.reply.Reply.{Reply}
-use Rattle.fiber_frames.specs.Rows.{Born, Ceded, Ended, RowKind, Plain, Row, Waited, action_row, after_end}
-use Rattle.fiber_frames.specs.Rows.{after_read, fits, is_ended, number_of, outcome_in, read_in, sum_or_raise}
-use Rattle.fiber_frames.specs.Rows.{unit, wait}
-use Rattle.fiber_frames.specs.declared.ask.Ask.{Ask}
-use Rattle.fiber_frames.specs.declared.mark.Mark.{Mark}
-use Rattle.fiber_frames.specs.declared.mark.Mark.TheVariants as mark
+use Rattle.fiber_frames.proofs.Prelude.{ℕ, true, false, if◌then◌else◌, List, [], ◌∷◌, Option, Some, None, ℤ, pos, ◌+ℤ◌, Act, Action, Add, Await, Ending, Handle}
+use Rattle.fiber_frames.proofs.Prelude.{Never, Number, Pure, Raise, Request, Say, Tree, Operand, Outcome, Reply, Born, RowKind, Row, action_row, after_end}
+use Rattle.fiber_frames.proofs.Prelude.{after_read, fits, is_ended, number_of, outcome_in, read_in, sum_or_raise, unit, wait, Ask, Mark}
 
 -- a value, an error, or a word without parts
 pub data Simple : Tree → Type 0 where
@@ -21,7 +12,7 @@ pub data Simple : Tree → Type 0 where
 -- no mark, or that of `say`
 pub data Says : List Mark → Type 0 where
   silent : Says []
-  said : (z : ℤ) → Says (mark.Say z ∷ [])
+  said : (z : ℤ) → Says (Mark.Say z ∷ [])
 
 -- a property of what a kind of move starts
 abbrev pub If_born : RowKind → (Tree → Type 0) → Type 0
@@ -34,10 +25,7 @@ NoBirth _ = Unit {0}
 
 pub none_born : (k : RowKind) (p : Tree → Type 0) → NoBirth k → If_born k p
 none_born (Born e) p h = absurd h
-none_born Plain p h = tt
-none_born Waited p h = tt
-none_born Ceded p h = tt
-none_born (Ended o) p h = tt
+none_born _ p h = tt
 
 pub wait_none : {T : Type 0} (o : Option T) → NoBirth (wait o)
 wait_none None = tt
@@ -67,14 +55,9 @@ module _ (i next : ℕ) (r : Reply) where
   pub action_case : (P : Row Tree → Type 0) → ActionRow P → (c : Action) → P (action_row i next r c)
   action_case P f (Add v w) = f _ _ _ _ (sum_simple (number_of v +ℤ number_of w)) silent tt
   action_case P f (Say v) = f _ _ _ _ (a_value _) (said _) tt
-  action_case P f Cede = f _ _ _ _ (a_value _) silent tt
   action_case P f Never = f _ _ _ _ (an_action _) silent tt
-  action_case P f Canceled = f _ _ _ _ (a_value _) silent tt
   action_case P f (Request y) =
       f _ _ _ _ (elim (is_ended r) as (λ b. Simple (if b then unit else Act (Ending y))) [ true ↦ a_value _ | false ↦ an_action _ ]) silent tt
   action_case P f (Ending y) = f _ _ _ _ (end_simple (outcome_in r) y) silent (wait_none (outcome_in r))
-  action_case P f (Get x) = f _ _ _ _ (a_value _) silent tt
-  action_case P f (Set x v) = f _ _ _ _ (a_value _) silent tt
-  action_case P f (Modify x v) = f _ _ _ _ (a_value _) silent tt
-  action_case P f (Complete d v) = f _ _ _ _ (a_value _) silent tt
   action_case P f (Await d) = f _ _ _ _ (read_simple (read_in r) d) silent (wait_none (read_in r))
+  action_case P f _ = f _ _ _ _ (a_value _) silent tt

@@ -1,8 +1,6 @@
 -- The balanced words are those that a stack takes from empty to empty.
-use Rattle.std.proofs.Common.{◌≡◌, ℕ, ◌+◌, ◌≤◌, Bool, true, false, if◌then◌else◌, nat_eq, List, [], ◌∷◌, ◌++◌}
-use Rattle.std.proofs.Common.{Option, Some, None, refl, sym, ap, ◌∙◌, subst, arith, append_assoc}
-use Rattle.std.proofs.lemmas.Bool.{eqb-true, eq-eqb}
-use Rattle.fiber_frames.specs.Marks.{Bracket_step, IsOpenBalanced, Nested, bracket, empty, times_acquired, two}
+use Rattle.fiber_frames.proofs.Prelude.{◌≡◌, ℕ, ◌+◌, ◌≤◌, Bool, true, false, if◌then◌else◌, nat_eq, List, [], ◌∷◌, ◌++◌, Option, Some, None, refl, sym, ap, ◌∙◌}
+use Rattle.fiber_frames.proofs.Prelude.{subst, arith, append_assoc, eqb-true, eq-eqb, Bracket_step, IsOpenBalanced, Nested, bracket, empty, times_acquired, two}
 use Rattle.fiber_frames.specs.Marks as steps
 
 pub data Held_number : Type 0 where
@@ -64,8 +62,7 @@ closes_after : (x : List Bracket_step) (s : List Held_number) (w : List Bracket_
 closes_after x [] w b h = two b h
 closes_after x (Held i ∷ s) w b h =
     (x ++ h.0, h.1, h.2, two b h.3, h.4, h.5, ap (λ y. x ++ y) h.6 ∙ sym (append_assoc x h.0 (steps.Releasing i ∷ (h.1 ++ steps.Released i ∷ h.2))))
-closes_after x (Freeing i ∷ s) w b h =
-    (x ++ h.0, h.1, two b h.2, h.3, ap (λ y. x ++ y) h.4 ∙ sym (append_assoc x h.0 (steps.Released i ∷ h.1)))
+closes_after x (Freeing i ∷ s) w b h = (x ++ h.0, h.1, two b h.2, h.3, ap (λ y. x ++ y) h.4 ∙ sym (append_assoc x h.0 (steps.Released i ∷ h.1)))
 
 -- a word that the stack takes to empty closes it
 pub signs_close : (w : List Bracket_step) (s : List Held_number) → signs w s ≡ Some [] → Closes s w
@@ -74,12 +71,9 @@ signs_close (steps.Acquired i ∷ w) s e =
     let h = signs_close w (Held i ∷ s) e in
     let x : List Bracket_step = steps.Acquired i ∷ (h.0 ++ steps.Releasing i ∷ (h.1 ++ steps.Released i ∷ [])) in
     let inner : (h.1 ++ steps.Released i ∷ []) ++ h.2 ≡ h.1 ++ steps.Released i ∷ h.2 = append_assoc h.1 (steps.Released i ∷ []) h.2 in
-    let whole : x ++ h.2 ≡ steps.Acquired i ∷ w =
-    ap (λ y. steps.Acquired i ∷ y) (append_assoc h.0 (steps.Releasing i ∷ (h.1 ++ steps.Released i ∷ [])) h.2 ∙
+    let whole : x ++ h.2 ≡ steps.Acquired i ∷ w = ap (λ y. steps.Acquired i ∷ y) (append_assoc h.0 (steps.Releasing i ∷ (h.1 ++ steps.Released i ∷ [])) h.2 ∙
     ap (λ y. h.0 ++ steps.Releasing i ∷ y) inner ∙ sym h.6) in
     subst (λ y. Closes s y) whole (closes_after x s h.2 (bracket i h.3 h.4) h.5)
-signs_close (steps.Releasing i ∷ w) [] e = cc
-signs_close (steps.Releasing i ∷ w) (Freeing j ∷ s) e = cc
 signs_close (steps.Releasing i ∷ w) (Held j ∷ s) e = going_close i j w s (nat_eq i j) refl e (signs_close w (Freeing j ∷ s))
   where
     going_close : (i j : ℕ) (w : List Bracket_step) (s : List Held_number) (b : Bool) → nat_eq i j ≡ b →
@@ -90,16 +84,13 @@ signs_close (steps.Releasing i ∷ w) (Held j ∷ s) e = going_close i j w s (na
         let same : i ≡ j = eqb-true i j n in
         ([], h.0, h.1, empty, h.2, h.3, λ k. steps.Releasing (same k) ∷ h.4 k)
     going_close i j w s false n e f = cc
-signs_close (steps.Released i ∷ w) [] e = cc
-signs_close (steps.Released i ∷ w) (Held j ∷ s) e = cc
 signs_close (steps.Released i ∷ w) (Freeing j ∷ s) e = gone_close i j w s (nat_eq i j) refl e (signs_close w s)
   where
     gone_close : (i j : ℕ) (w : List Bracket_step) (s : List Held_number) (b : Bool) → nat_eq i j ≡ b →
         then_signs (if b then Some s else None) (signs w) ≡ Some [] → (signs w s ≡ Some [] → Closes s w) → Closes (Freeing j ∷ s) (steps.Released i ∷ w)
-    gone_close i j w s true n e f =
-        let same : i ≡ j = eqb-true i j n in
-        ([], w, empty, f e, λ k. steps.Released (same k) ∷ w)
+    gone_close i j w s true n e f = let same : i ≡ j = eqb-true i j n in ([], w, empty, f e, λ k. steps.Released (same k) ∷ w)
     gone_close i j w s false n e f = cc
+signs_close _ _ e = cc
 
 pub empty_balanced : (w : List Bracket_step) → signs w [] ≡ Some [] → Nested w
 empty_balanced w e = signs_close w [] e

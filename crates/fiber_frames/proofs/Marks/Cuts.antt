@@ -1,12 +1,9 @@
 -- A cut leaves a chain of finalizers.
-use Rattle.std.proofs.Common.{◌≡◌, ℕ, inl, inr, List, [], ◌∷◌, ◌++◌, Option, Some, None, refl, sym, ap, subst}
-use Rattle.derived_ops.specs.Tree.{Act, Cancel, Guarded, Handled, If0, Join, Let, Loop, Make, Mask, Masked}
-use Rattle.derived_ops.specs.Tree.{Note, On_cancel, Pair, Poll, Polled, Pure, Raise, Seq, Start, Tree}
-use Rattle.derived_ops.specs.Tree.{Uncancelable}
+use Rattle.fiber_frames.proofs.Prelude.{◌≡◌, ℕ, inl, inr, List, [], ◌∷◌, ◌++◌, Option, Some, None, refl, sym, ap, subst, Guarded, Handled, Let, Mask, Masked}
+use Rattle.fiber_frames.proofs.Prelude.{Pair, Polled, Seq, Tree, undone}
 use Rattle.fiber_frames.proofs.Marks.Typed.{Fine, If_ends, In, Leads, Masks, Stack, Typed, Weaker}
 use Rattle.fiber_frames.proofs.Marks.Weaken.{weaker_in}
 use Rattle.fiber_frames.proofs.Walk.{finalizers_below, masks_below}
-use Rattle.fiber_frames.specs.Path.{undone}
 
 module _ (i : ℕ) (P : Masks) where
   -- a finalizer leads from one stack to another, below any mask that isn't known
@@ -18,14 +15,8 @@ module _ (i : ℕ) (P : Masks) where
   Chain (fin ∷ fins) s k = (t : Stack) × In P t × Finalizes s t fin × Chain fins t k
 
   chain_more : (fins : List Tree) (fin : Tree) (s j k : Stack) → In P k → Chain fins s (Some j) → Finalizes j k fin → Chain (fins ++ fin ∷ []) s (Some k)
-  chain_more [] fin s j k kn c f =
-      let same : Option Stack = Some j in
-      (k, kn, subst (λ y. If_ends y (λ y. Finalizes y k fin)) c f, refl)
+  chain_more [] fin s j k kn c f = let same : Option Stack = Some j in (k, kn, subst (λ y. If_ends y (λ y. Finalizes y k fin)) c f, refl)
   chain_more (g ∷ fins) fin s j k kn c f = (c.0, c.1, c.2, chain_more fins fin c.0 j k kn c.3 f)
-
-  fine_none : (up : List Mask) (s : Stack) → Fine up None s → up ≡ [] → ⊥
-  fine_none [] s f e = f
-  fine_none (a ∷ up) s f e = cc
 
   fine_some : (up : List Mask) (k : Option Stack) (s : Stack) → Fine up k s → up ≡ [] → k ≡ Some s
   fine_some [] None s f e = absurd f
@@ -56,16 +47,4 @@ module _ (i : ℕ) (P : Masks) where
   cut_chain (Masked m e) up k s n x kn a h = cut_chain e (Pair i m ∷ up) k s n x kn a h.3
   cut_chain (Polled q e) up k s n x kn a h = cut_chain e (undone q up) k s n x kn a h.3
   cut_chain (Guarded e fin) up k s n x kn a h = guarded_chain h.0 k (finalizers_below e) fin s kn h.3 (cut_chain e up h.0 s n x h.1 a h.2)
-  cut_chain (Pure v) up k s n x kn a h = fine_some up k s h.0 a
-  cut_chain (Raise v) up k s n x kn a h = fine_some up k s h.0 a
-  cut_chain (Act c) up k s n x kn a h = fine_some up k s h.0 a
-  cut_chain (Note e q) up k s n x kn a h = fine_some up k s h.0 a
-  cut_chain (Cancel f) up k s n x kn a h = fine_some up k s h.0 a
-  cut_chain (If0 v b c) up k s n x kn a h = fine_some up k s h.0 a
-  cut_chain (Join f v b w c e) up k s n x kn a h = fine_some up k s h.0 a
-  cut_chain (Make m v b) up k s n x kn a h = fine_some up k s h.0 a
-  cut_chain (Start v e b) up k s n x kn a h = fine_some up k s h.0 a
-  cut_chain (Loop m e) up k s n x kn a h = fine_some up k s h.0 a
-  cut_chain (Uncancelable v e) up k s n x kn a h = fine_some up k s h.0 a
-  cut_chain (Poll q e) up k s n x kn a h = fine_some up k s h.0 a
-  cut_chain (On_cancel e fin) up k s n x kn a h = fine_some up k s h.0 a
+  cut_chain _ up k s n x kn a h = fine_some up k s h.0 a

@@ -1,17 +1,13 @@
 -- Which masks the marks show as on, and which brackets a term may still acquire.
-use Rattle.std.specs.Prelude.{◌≡◌, ◌⊎◌, ℕ, ◌+◌, ◌≤◌, Bool, true, false, nat_eq, if◌then◌else◌, List, [], ◌∷◌}
-use Rattle.derived_ops.specs.Tree.{Acquired, Guarded, Handled, If0, Join, Let, Loop, Make, Mask, Masked, Named}
-use Rattle.derived_ops.specs.Tree.{Note, On_cancel, Poll, Polled, Seq, Start, Tree, Uncancelable}
-use Rattle.fiber_frames.specs.Path.{same_mask}
-use Rattle.fiber_frames.specs.declared.mark.Mark.{Mark}
-use Rattle.fiber_frames.specs.declared.mark.Mark.TheVariants as mark
+use Rattle.fiber_frames.proofs.Prelude.{◌≡◌, ◌⊎◌, ℕ, ◌+◌, ◌≤◌, Bool, true, false, nat_eq, if◌then◌else◌, List, [], ◌∷◌, Acquired, Guarded, Handled, If0, Join}
+use Rattle.fiber_frames.proofs.Prelude.{Let, Loop, Make, Mask, Masked, Named, Note, On_cancel, Poll, Polled, Seq, Start, Tree, Uncancelable, same_mask, Mark}
 
 -- whether mask m is entered, not left and not polled, after a mark
 abbrev pub on_after : ℕ → Mark → Bool → Bool
-on_after m (mark.Enter n) b = if nat_eq n m then true else b
-on_after m (mark.Leave n) b = if nat_eq n m then false else b
-on_after m (mark.PollIn n) b = if nat_eq n m then false else b
-on_after m (mark.PollOut n) b = if nat_eq n m then true else b
+on_after m (Mark.Enter n) b = if nat_eq n m then true else b
+on_after m (Mark.Leave n) b = if nat_eq n m then false else b
+on_after m (Mark.PollIn n) b = if nat_eq n m then false else b
+on_after m (Mark.PollOut n) b = if nat_eq n m then true else b
 on_after m _ b = b
 
 abbrev pub is_on : ℕ → Bool → List Mark → Bool

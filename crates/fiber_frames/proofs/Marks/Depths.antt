@@ -1,13 +1,12 @@
 -- No state has more active masks than were counted on its program.
-use Rattle.std.proofs.Common.{◌≡◌, ℕ, ◌+◌, ◌≤◌, true, false, if◌then◌else◌, List, [], ◌∷◌, ◌++◌, length, Option, Some, None, refl, sym, ap, subst, arith}
-use Rattle.std.specs.Prelude.{max}
+use Rattle.fiber_frames.proofs.Prelude.{◌≡◌, ℕ, ◌+◌, ◌≤◌, true, false, if◌then◌else◌, List, [], ◌∷◌, ◌++◌, length, Option, Some, None, refl, sym, ap, subst}
+use Rattle.fiber_frames.proofs.Prelude.{arith, max, Put, Put_handle, Put_mask, Put_value, put, Act, Action, Always, Cancel, Guarded, Handle, Handled, If0, Join}
+use Rattle.fiber_frames.proofs.Prelude.{Last, Let, Loop, Make, Mask, Masked, New_deferred, New_ref, Note, On_cancel, Pair, Poll, Polled, Seq, Start, Times}
+use Rattle.fiber_frames.proofs.Prelude.{Tree, Turns, Uncancelable, Outcome, Reply, Fiber, Move_case, Reduces, begins, child, cut, kind_in, move, move_case}
+use Rattle.fiber_frames.proofs.Prelude.{term_born, At_final, At_term, Broken, Final, In_guarded, In_handle, In_let, In_masked, In_polled, In_seq, PathStep}
+use Rattle.fiber_frames.proofs.Prelude.{masks_in, ℤ, Over, Running, Runs, active_at, focus, is_effective, same_mask, undone, without_first, Born, RowKind, Row}
+use Rattle.fiber_frames.proofs.Prelude.{action_row, branch, is_positive, is_zero, looped, number_in, number_of, one_less, outcome_in, row_at, unit, Mark}
 use Rattle.derived_ops.specs.Counts.{masks}
-use Rattle.derived_ops.specs.Put.{Put, Put_handle, Put_mask, Put_value, put}
-use Rattle.derived_ops.specs.Tree.{Act, Action, Always, Cancel, Guarded, Handle, Handled, If0, Join, Last, Let}
-use Rattle.derived_ops.specs.Tree.{Loop, Make, Mask, Masked, New_deferred, New_ref, Note, On_cancel, Pair, Poll}
-use Rattle.derived_ops.specs.Tree.{Polled, Pure, Raise, Rest, Seq, Start, Times, Tree, Turns, Uncancelable}
-use Rattle.effect_term.specs.declared.reply.Outcome.{Outcome}
-use Rattle.effect_term.specs.declared.reply.Reply.{Reply}
 use Rattle.fiber_frames.proofs.Marks.Actions.{ActionRow, If_born, action_case, none_born, simple_case, wait_none}
 use Rattle.fiber_frames.proofs.Marks.Cutting.{Live, Static}
 use Rattle.fiber_frames.proofs.Marks.Lawful.{Lawful, final_masked}
@@ -15,18 +14,9 @@ use Rattle.fiber_frames.proofs.Marks.Moves.{cut_run, move_by, noted}
 use Rattle.fiber_frames.proofs.Marks.Regions.{static_put}
 use Rattle.fiber_frames.proofs.Marks.Runs.{AllStatic, LiveRun, born_root, pending_static}
 use Rattle.fiber_frames.proofs.Marks.Spending.{handle_runtime, mask_runtime, value_runtime}
-use Rattle.fiber_frames.proofs.Walk.{End, Gives, Throws, Works, active_path, active_root, end_of}
-use Rattle.fiber_frames.proofs.Walk.{finalizers_below, masks_below, root_row, row_root, under, walk}
-use Rattle.fiber_frames.specs.Fiber.{Cuts, Fiber, Looks, Move_case, Reduces, Rests, begins, child, cut, kind_in, kind_of, move, move_case, term_born}
-use Rattle.fiber_frames.specs.Path.{At_final, At_term, Broken, Final, In_guarded, In_handle, In_let, In_masked}
-use Rattle.fiber_frames.specs.Path.{In_polled, In_seq, Over, Running, Runs, active_at, focus, is_effective}
-use Rattle.fiber_frames.specs.Path.{same_mask, undone, without_first}
-use Rattle.fiber_frames.specs.Rows.{Born, Ceded, Ended, RowKind, Plain, Row, Waited, action_row, branch}
-use Rattle.fiber_frames.specs.Rows.{is_positive, is_zero, looped, number_in, number_of, one_less, outcome_in}
-use Rattle.fiber_frames.specs.Rows.{row_at, unit}
-use Rattle.fiber_frames.specs.declared.mark.Mark.TheVariants as mark
-use Rattle.effect_term.specs.declared.reply.Outcome.TheVariants as outcome
-use Rattle.effect_term.specs.declared.reply.Reply.TheVariants as reply
+use Rattle.fiber_frames.proofs.Walk.{End, Gives, Throws, Works, active_path, active_root, end_of, finalizers_below, masks_below, root_row, row_root, under}
+use Rattle.fiber_frames.proofs.Walk.{walk}
+use Rattle.fiber_frames.specs.Fiber.{kind_of}
 
 masks_put : (t : Tree) (p : Put) → masks (put p t) ≡ masks t
 masks_put (Let e v b) p = λ j. max (masks_put e p j) (masks_put b p j)
@@ -40,22 +30,13 @@ masks_put (Loop m e) p = masks_put e p
 masks_put (Uncancelable v e) p = ap (λ n. 1 + n) (masks_put e p)
 masks_put (Poll q e) p = masks_put e p
 masks_put (On_cancel e fin) p = λ j. max (masks_put e p j) (1 + masks_put fin p j)
-masks_put (Masked m e) p = refl
-masks_put (Polled q e) p = refl
-masks_put (Guarded e fin) p = refl
-masks_put (Pure v) p = refl
-masks_put (Raise v) p = refl
-masks_put (Act c) p = refl
-masks_put (Note h q) p = refl
-masks_put (Cancel f) p = refl
+masks_put _ p = refl
 
 undone_shorter : (q : Mask) (up : List Mask) → length (undone q up) ≤ length up
-undone_shorter q [] =
-    elim (is_effective q []) as (λ b. length {A = Mask} (if b then without_first [] else []) ≤ length {A = Mask} []) [
-      | true ↦ omega arith
-      | false ↦
-          omega arith
-    ]
+undone_shorter q [] = elim (is_effective q []) as (λ b. length {A = Mask} (if b then without_first [] else []) ≤ length {A = Mask} []) [
+  | true ↦ omega arith
+  | false ↦ omega arith
+]
 undone_shorter q (a ∷ up) =
     elim (same_mask q a) as (λ b. length {A = Mask} (if b then up else a ∷ up) ≤ length {A = Mask} (a ∷ up)) [ true ↦ omega arith | false ↦ omega arith ]
 
@@ -80,19 +61,7 @@ module _ (i B : ℕ) where
   room_here (Masked m e) up h = (let l : length (Pair i m ∷ up) ≤ B = room_here e (Pair i m ∷ up) h in omega arith)
   room_here (Polled q e) up h = h.0
   room_here (Guarded e fin) up h = room_here e up h.0
-  room_here (Pure v) up h = omega arith
-  room_here (Raise v) up h = omega arith
-  room_here (Act c) up h = omega arith
-  room_here (Note e q) up h = omega arith
-  room_here (Cancel f) up h = omega arith
-  room_here (If0 v b c) up h = omega arith
-  room_here (Join f v b w c e) up h = omega arith
-  room_here (Make m v b) up h = omega arith
-  room_here (Start v e b) up h = omega arith
-  room_here (Loop m e) up h = omega arith
-  room_here (Uncancelable v e) up h = omega arith
-  room_here (Poll q e) up h = omega arith
-  room_here (On_cancel e fin) up h = omega arith
+  room_here _ up h = omega arith
 
   static_room : (t : Tree) (up : List Mask) → Static t → length up + masks t ≤ B → Room up t
   static_room (Let e v b) up s h = (static_room e up s.0 (omega arith), omega arith)
@@ -101,19 +70,7 @@ module _ (i B : ℕ) where
   static_room (Masked m e) up s h = absurd s
   static_room (Polled q e) up s h = absurd s
   static_room (Guarded e fin) up s h = absurd s
-  static_room (Pure v) up s h = h
-  static_room (Raise v) up s h = h
-  static_room (Act c) up s h = h
-  static_room (Note e q) up s h = h
-  static_room (Cancel f) up s h = h
-  static_room (If0 v b c) up s h = h
-  static_room (Join f v b w c e) up s h = h
-  static_room (Make m v b) up s h = h
-  static_room (Start v e b) up s h = h
-  static_room (Loop m e) up s h = h
-  static_room (Uncancelable v e) up s h = h
-  static_room (Poll q e) up s h = h
-  static_room (On_cancel e fin) up s h = h
+  static_room _ up s h = h
 
   put_room : (t : Tree) (p : Put) (up : List Mask) → Static (put p t) → length up + masks t ≤ B → Room up (put p t)
   put_room t p up s h = static_room (put p t) up s (omega (arith, masks_put t p))
@@ -125,78 +82,51 @@ module _ (i B : ℕ) where
   room_active (Masked m e) up h = room_active e (Pair i m ∷ up) h
   room_active (Polled q e) up h = room_active e (undone q up) h.1
   room_active (Guarded e fin) up h = room_active e up h.0
-  room_active (Pure v) up h = omega arith
-  room_active (Raise v) up h = omega arith
-  room_active (Act c) up h = omega arith
-  room_active (Note e q) up h = omega arith
-  room_active (Cancel f) up h = omega arith
-  room_active (If0 v b c) up h = omega arith
-  room_active (Join f v b w c e) up h = omega arith
-  room_active (Make m v b) up h = omega arith
-  room_active (Start v e b) up h = omega arith
-  room_active (Loop m e) up h = omega arith
-  room_active (Uncancelable v e) up h = omega arith
-  room_active (Poll q e) up h = omega arith
-  room_active (On_cancel e fin) up h = omega arith
+  room_active _ up h = omega arith
 
   pub record Roomy (up : List Mask) (a : Row Tree) : Type 0 where
     pub term : Room up a.becomes
     pub born : If_born a.kind (Small B)
 
   module _ (n : ℕ) (r : Reply) where
-    let_room : (up : List Mask) (v : ℕ) (b : Tree) → Static b → length up + masks b ≤ B → length up ≤ B → (E : End) (a : Row Tree) → Roomy up a →
-        Roomy up (under i n up (In_let v b) E a)
-    let_room up v b s l z (Gives w) a h =
-        record { term = put_room b (Put_value v (number_of w)) up (static_put b (Put_value v (number_of w)) (value_runtime v (number_of w)) s) l; born = tt }
-    let_room up v b s l z (Throws w) a h = record { term = omega arith; born = tt }
-    let_room up v b s l z Works a h = record { term = (h.term, l); born = h.born }
+    -- what is beside the first part of a form has room
+    abbrev RoomStep : PathStep → List Mask → Type 0
+    RoomStep (In_let v b) up = Static b × (length up + masks b ≤ B)
+    RoomStep (In_seq o b) up = Static b × (length up + masks b ≤ B)
+    RoomStep (In_handle v b) up = Static b × (length up + masks b ≤ B)
+    RoomStep (In_guarded fin) up = masks fin + 1 ≤ B
+    RoomStep (In_masked m) up = Unit {0}
+    RoomStep (In_polled q) up = Unit {0}
 
-    seq_room : (up : List Mask) (o : Rest) (b : Tree) → Static b → length up + masks b ≤ B → length up ≤ B → (E : End) (a : Row Tree) → Roomy up a →
-        Roomy up (under i n up (In_seq o b) E a)
-    seq_room up o b s l z (Gives w) a h = record { term = static_room b up s l; born = tt }
-    seq_room up o b s l z (Throws w) a h = record { term = omega arith; born = tt }
-    seq_room up o b s l z Works a h = record { term = (h.term, l); born = h.born }
+    value_room : (up : List Mask) (v : ℕ) (b : Tree) (z : ℤ) → Static b → length up + masks b ≤ B → Room up (put (Put_value v z) b)
+    value_room up v b z s l = put_room b (Put_value v z) up (static_put b (Put_value v z) (value_runtime v z) s) l
 
-    handle_room : (up : List Mask) (v : ℕ) (b : Tree) → Static b → length up + masks b ≤ B → length up ≤ B → (E : End) (a : Row Tree) → Roomy up a →
-        Roomy up (under i n up (In_handle v b) E a)
-    handle_room up v b s l z (Gives w) a h = record { term = omega arith; born = tt }
-    handle_room up v b s l z (Throws w) a h =
-        record { term = put_room b (Put_value v (number_of w)) up (static_put b (Put_value v (number_of w)) (value_runtime v (number_of w)) s) l; born = tt }
-    handle_room up v b s l z Works a h = record { term = (h.term, l); born = h.born }
-
-    guarded_room : (up : List Mask) (fin : Tree) → masks fin + 1 ≤ B → length up ≤ B → (E : End) (a : Row Tree) → Roomy up a →
-        Roomy up (under i n up (In_guarded fin) E a)
-    guarded_room up fin l z (Gives w) a h = record { term = omega arith; born = tt }
-    guarded_room up fin l z (Throws w) a h = record { term = omega arith; born = tt }
-    guarded_room up fin l z Works a h = record { term = (h.term, l); born = h.born }
-
-    masked_room : (up : List Mask) (m : ℕ) → length up ≤ B → (E : End) (a : Row Tree) → Roomy (Pair i m ∷ up) a → Roomy up (under i n up (In_masked m) E a)
-    masked_room up m z (Gives w) a h = record { term = omega arith; born = tt }
-    masked_room up m z (Throws w) a h = record { term = omega arith; born = tt }
-    masked_room up m z Works a h = record { term = h.term; born = h.born }
-
-    polled_room : (up : List Mask) (q : Mask) → length up ≤ B → (E : End) (a : Row Tree) → Roomy (undone q up) a → Roomy up (under i n up (In_polled q) E a)
-    polled_room up q z (Gives w) a h = record { term = omega arith; born = tt }
-    polled_room up q z (Throws w) a h = record { term = omega arith; born = tt }
-    polled_room up q z Works a h = record { term = (z, h.term); born = h.born }
+    step_room : (up : List Mask) (s : PathStep) → RoomStep s up → length up ≤ B → (E : End) (a : Row Tree) → Roomy (masks_in i s up) a →
+        Roomy up (under i n up s E a)
+    step_room up (In_let v b) l z (Gives w) a h = record { term = value_room up v b (number_of w) l.0 l.1; born = tt }
+    step_room up (In_seq o b) l z (Gives w) a h = record { term = static_room b up l.0 l.1; born = tt }
+    step_room up (In_handle v b) l z (Throws w) a h = record { term = value_room up v b (number_of w) l.0 l.1; born = tt }
+    step_room up (In_guarded fin) l z Works a h = record { term = (h.term, l); born = h.born }
+    step_room up (In_masked m) l z Works a h = record { term = h.term; born = h.born }
+    step_room up (In_polled q) l z Works a h = record { term = (z, h.term); born = h.born }
+    step_room up _ l z Works a h = record { term = (h.term, l.1); born = h.born }
+    step_room up _ l z _ a h = record { term = omega arith; born = tt }
 
     branch_room : (o : Option Outcome) (f : Handle) (v : ℕ) (b : Tree) (w : ℕ) (c e : Tree) (up : List Mask) → Static (Join f v b w c e) →
         length up + masks (Join f v b w c e) ≤ B → Room up (branch o f v b w c e)
     branch_room None f v b w c e up l h = h
-    branch_room (Some (outcome.Succeeded z)) f v b w c e up l h =
-        put_room b (Put_value v z) up (static_put b (Put_value v z) (value_runtime v z) l.0) (omega arith)
-    branch_room (Some (outcome.Errored z)) f v b w c e up l h =
-        put_room c (Put_value w z) up (static_put c (Put_value w z) (value_runtime w z) l.1) (omega arith)
-    branch_room (Some outcome.Canceled) f v b w c e up l h = static_room e up l.2 (omega arith)
+    branch_room (Some (Outcome.Succeeded z)) f v b w c e up l h =
+        value_room up v b z l.0 (omega arith)
+    branch_room (Some (Outcome.Errored z)) f v b w c e up l h =
+        value_room up w c z l.1 (omega arith)
+    branch_room (Some Outcome.Canceled) f v b w c e up l h = static_room e up l.2 (omega arith)
 
     looped_room : (m : Turns) (e : Tree) (up : List Mask) → Static e → length up + masks e ≤ B → Room up (looped m e)
     looped_room Always e up s h = (static_room e up s h, h)
-    looped_room (Times v) e up s h =
-        elim (is_positive v) as (λ b. Room up (if b then Seq Last e (Loop (Times (one_less v)) e) else unit)) [
-          | true ↦
-              (static_room e up s h, h)
-          | false ↦ omega arith
-        ]
+    looped_room (Times v) e up s h = elim (is_positive v) as (λ b. Room up (if b then Seq Last e (Loop (Times (one_less v)) e) else unit)) [
+      | true ↦ (static_room e up s h, h)
+      | false ↦ omega arith
+    ]
 
     act_room : (c : Action) (up : List Mask) → length up ≤ B → Roomy up (action_row i n r c)
     act_room c up z =
@@ -205,44 +135,35 @@ module _ (i B : ℕ) where
         action_case i n r (Roomy up) roomy c
 
     pub row_room : (t : Tree) (up : List Mask) → Live t → Room up t → Roomy up (walk i n r up t)
-    row_room (Pure v) up l h = record { term = h; born = tt }
-    row_room (Raise v) up l h = record { term = h; born = tt }
     row_room (Act c) up l h = act_room c up (omega arith)
     row_room (Note e q) up l h = record { term = omega arith; born = tt }
     row_room (Cancel f) up l h = record { term = omega arith; born = tt }
-    row_room (Let e v b) up l h = let_room up v b l.1 h.1 (room_here e up h.0) (end_of e) (walk i n r up e) (row_room e up l.0 h.0)
-    row_room (Seq w e b) up l h = seq_room up w b l.1 h.1 (room_here e up h.0) (end_of e) (walk i n r up e) (row_room e up l.0 h.0)
-    row_room (Handled e v b) up l h = handle_room up v b l.1 h.1 (room_here e up h.0) (end_of e) (walk i n r up e) (row_room e up l.0 h.0)
-    row_room (If0 v b c) up l h =
-        record {
-          term = elim (is_zero v) as (λ y. Room up (if y then b else c)) [
-            | true ↦ static_room b up l.0 (omega arith)
-            | false ↦
-                static_room c up l.1 (omega arith)
-          ];
-          born = tt;
-        }
+    row_room (Let e v b) up l h = step_room up (In_let v b) (l.1, h.1) (room_here e up h.0) (end_of e) (walk i n r up e) (row_room e up l.0 h.0)
+    row_room (Seq w e b) up l h = step_room up (In_seq w b) (l.1, h.1) (room_here e up h.0) (end_of e) (walk i n r up e) (row_room e up l.0 h.0)
+    row_room (Handled e v b) up l h = step_room up (In_handle v b) (l.1, h.1) (room_here e up h.0) (end_of e) (walk i n r up e) (row_room e up l.0 h.0)
+    row_room (If0 v b c) up l h = record {
+      term = elim (is_zero v) as (λ y. Room up (if y then b else c)) [ true ↦ static_room b up l.0 (omega arith) | false ↦ static_room c up l.1 (omega arith) ];
+      born = tt;
+    }
     row_room (Join f v b w c e) up l h = record { term = branch_room (outcome_in r) f v b w c e up l h; born = none_born _ _ (wait_none (outcome_in r)) }
-    row_room (Make (New_ref w) v b) up l h =
-        record { term = (omega arith, omega (arith, masks_put b (Put_handle v (number_in r)))); born = tt }
+    row_room (Make (New_ref w) v b) up l h = record { term = (omega arith, omega (arith, masks_put b (Put_handle v (number_in r)))); born = tt }
     row_room (Make New_deferred v b) up l h =
         record { term = put_room b (Put_handle v (number_in r)) up (static_put b (Put_handle v (number_in r)) (handle_runtime v (number_in r)) l) h; born = tt }
-    row_room (Start v e b) up l h =
-        record {
-          term = put_room b (Put_handle v (number_in r)) up (static_put b (Put_handle v (number_in r)) (handle_runtime v (number_in r)) l.1)
-              (omega arith);
-          born = (l.0, omega arith);
-        }
+    row_room (Start v e b) up l h = record {
+      term = put_room b (Put_handle v (number_in r)) up (static_put b (Put_handle v (number_in r)) (handle_runtime v (number_in r)) l.1) (omega arith);
+      born = (l.0, omega arith);
+    }
     row_room (Loop m e) up l h = record { term = looped_room m e up l h; born = tt }
     row_room (Uncancelable v e) up l h =
         record { term = put_room e (Put_mask v i n) (Pair i n ∷ up) (static_put e (Put_mask v i n) (mask_runtime v i n) l.0) (omega arith); born = tt }
     row_room (Poll q e) up l h = record { term = (omega arith, static_room e (undone q up) l (omega (arith, undone_shorter q up))); born = tt }
     row_room (On_cancel e fin) up l h = record { term = (static_room e up l.0 (omega arith), omega arith); born = tt }
     row_room (Masked m e) up l h =
-        masked_room up m (let z : length (Pair i m ∷ up) ≤ B = room_here e (Pair i m ∷ up) h in omega arith) (end_of e)
+        step_room up (In_masked m) tt (let z : length (Pair i m ∷ up) ≤ B = room_here e (Pair i m ∷ up) h in omega arith) (end_of e)
         (walk i n r (Pair i m ∷ up) e) (row_room e (Pair i m ∷ up) l h)
-    row_room (Polled q e) up l h = polled_room up q h.0 (end_of e) (walk i n r (undone q up) e) (row_room e (undone q up) l h.1)
-    row_room (Guarded e fin) up l h = guarded_room up fin h.1 (room_here e up h.0) (end_of e) (walk i n r up e) (row_room e up l.0 h.0)
+    row_room (Polled q e) up l h = step_room up (In_polled q) tt h.0 (end_of e) (walk i n r (undone q up) e) (row_room e (undone q up) l h.1)
+    row_room (Guarded e fin) up l h = step_room up (In_guarded fin) h.1 (room_here e up h.0) (end_of e) (walk i n r up e) (row_room e up l.0 h.0)
+    row_room _ up l h = record { term = h; born = tt }
 
 -- ---- states
 abbrev pub AllRoom : ℕ → List Tree → Type 0
@@ -276,9 +197,6 @@ abbrev RoomyRow : Fiber → ℕ → Row Running → Type 0
 RoomyRow f B w = RoomRun f.number B w.becomes × If_born w.kind (Small B)
 
 rows_room : (f : Fiber) (r : Reply) (B : ℕ) (w : Running) → LiveRun w → RoomRun f.number B w → RoomyRow f B (row_at f.number f.next r (focus w) w)
-rows_room f r B (Over o) l h = (tt, tt)
-rows_room f r B Broken l h = (tt, tt)
-rows_room f r B (Final z []) l h = (tt, tt)
 rows_room f r B (Runs t) l h =
     let a = walk f.number f.next r [] t in
     let k = row_room f.number B f.next r t [] l h in
@@ -293,6 +211,7 @@ rows_room f r B (Final z (g ∷ gs)) l h =
       final_room f B z gs (end_of g) a l.1 h.1 k,
       born_root f.number f.next (At_final z gs) (end_of g) a (Small B) k.born,
     )
+rows_room f r B _ l h = (tt, tt)
 
 room-append : (B : ℕ) (a : List Tree) (g : Tree) → AllRoom B a → masks g + 1 ≤ B → AllRoom B (a ++ g ∷ [])
 room-append B [] g h k = (k, tt)
@@ -313,7 +232,7 @@ RoomOf B f = RoomRun f.number B f.running
 
 cut_room : (f : Fiber) (B : ℕ) (t : Tree) → f.running ≡ Runs t → Live t → Room f.number B [] t → RoomOf B (cut f)
 cut_room f B t e l m =
-    let after : RoomOf B (noted f (Final f.next (finalizers_below t)) (f.next + 1) (mark.Cut ∷ [])) =
+    let after : RoomOf B (noted f (Final f.next (finalizers_below t)) (f.next + 1) (Mark.Cut ∷ [])) =
     finals_room f.number B f.next (finalizers_below t) (pending_static t l) (pending_room f.number B t [] m) in
     subst (RoomOf B) (sym (cut_run f t e)) after
 
@@ -326,31 +245,24 @@ pub born_room : (f : Fiber) (r : Reply) (B : ℕ) → LiveRun f.running → Room
 born_room f r B l m = go (move_case f)
   where
     go : (c : Move_case) → If_born (kind_in f r c) (Small B)
-    go Looks = tt
-    go Cuts = tt
-    go Rests = tt
     go Reduces = (rows_room f r B f.running l m).1
+    go _ = tt
 
 pub small_room : (c B : ℕ) (e : Tree) → Small B e → RoomOf B (begins c e)
 small_room c B e s = static_room c B e [] s.0 (omega (arith, s.1))
 
 -- what is started, or the unit value where nothing is
 pub child_room : (f : Fiber) (n B : ℕ) → LiveRun f.running → RoomOf B f → RoomOf B (child f n)
-child_room f n B l m = go (kind_of f (reply.Number n)) (born_room f (reply.Number n) B l m)
+child_room f n B l m = go (kind_of f (Reply.Number n)) (born_room f (Reply.Number n) B l m)
   where
     idle : RoomOf B (begins n unit)
     idle = small_room n B unit (tt, omega arith)
 
     go : (k : RowKind) → If_born k (Small B) → RoomOf B (begins n (term_born k))
     go (Born e) b = small_room n B e b
-    go Plain b = idle
-    go Waited b = idle
-    go Ceded b = idle
-    go (Ended o) b = idle
+    go _ b = idle
 
 pub active_room : (i B : ℕ) (w : Running) → 1 ≤ B → RoomRun i B w → length (active_at i (focus w)) ≤ B
 active_room i B (Runs t) o h = omega (arith, ap (length {A = Mask}) (active_root i t), room_active i B t [] h)
-active_room i B (Final z []) o h = omega arith
 active_room i B (Final z (g ∷ gs)) o h = omega (arith, ap (length {A = Mask}) (active_path i (At_final z gs) [] g), room_active i B g (Pair i z ∷ []) h.0)
-active_room i B (Over x) o h = omega arith
-active_room i B Broken o h = omega arith
+active_room i B _ o h = omega arith

@@ -1,14 +1,11 @@
 -- A bracket is typed: it leaves open what was open.
-use Rattle.std.proofs.Common.{◌≡◌, ◌≢◌, ℕ, ◌+◌, ◌≤◌, ◌⊎◌, inl, inr, pos, if◌then◌else◌, List, [], ◌∷◌, Option, Some, None, refl, sym, ap, subst, arith}
-use Rattle.std.proofs.lemmas.Bool.{eq-eqb}
-use Rattle.derived_ops.specs.Expansion.{bracket_case, in_order}
-use Rattle.derived_ops.specs.Tree.{Handled, Last, Mask, More, Named, Note, Number, On_cancel, Pair, Poll, Pure}
-use Rattle.derived_ops.specs.Tree.{Raise, Released, Releasing, Rest, Seq, Slot, Tree, Operand}
+use Rattle.fiber_frames.proofs.Prelude.{◌≡◌, ◌≢◌, ℕ, ◌+◌, ◌≤◌, ◌⊎◌, inl, inr, pos, if◌then◌else◌, List, [], ◌∷◌, Option, Some, None, refl, sym, ap, subst}
+use Rattle.fiber_frames.proofs.Prelude.{arith, eq-eqb, bracket_case, in_order, Handled, Last, Mask, More, Named, Note, Number, On_cancel, Pair, Poll, Pure}
+use Rattle.fiber_frames.proofs.Prelude.{Raise, Released, Releasing, Rest, Seq, Slot, Tree, Operand, undone}
 use Rattle.fiber_frames.proofs.Marks.Cutting.{Active}
 use Rattle.fiber_frames.proofs.Marks.Opened.{Freeing, Held}
 use Rattle.fiber_frames.proofs.Marks.Typed.{Fine, If_ends, In, Leads, Masks, Stack, Typed, with_slot}
 use Rattle.fiber_frames.proofs.Marks.Weaken.{in_more}
-use Rattle.fiber_frames.specs.Path.{undone}
 
 -- an active mask that a term can't undo: it isn't in sight, nor bound inside
 pub record Bars (V : Masks) (d : ℕ) (up : List Mask) (b : Mask) : Type 0 where
@@ -35,11 +32,6 @@ pub safe_fine : (V : Masks) (d : ℕ) (up : List Mask) (k : Option Stack) (s : S
 safe_fine V d [] k s (inl e) = subst (λ y. Fine [] y s) (sym e) refl
 safe_fine V d [] k s (inr h) = absurd h.2.member
 safe_fine V d (a ∷ up) k s h = tt
-
--- the same below one more mask, and for higher slots
-pub safe_below : (V : Masks) (d c : ℕ) (a : Mask) (up : List Mask) (k : Option Stack) (s : Stack) → d ≤ c → Safe V d up k s → Safe V c (a ∷ up) k s
-safe_below V d c a up k s l (inl e) = inl e
-safe_below V d c a up k s l (inr h) = inr (h.0, h.1, record { member = inr h.2.member; hidden = h.2.hidden; outside = λ v g. h.2.outside v (omega arith) })
 
 pub safe_at : (V : Masks) (d c : ℕ) (up : List Mask) (k : Option Stack) (s : Stack) → d ≤ c → Safe V d up k s → Safe V c up k s
 safe_at V d c up k s l (inl e) = inl e
@@ -98,8 +90,7 @@ bracket_neutral V d acq body rs re rc below na nb ns ne nc i P up k s vp fresh k
         record {
           member = inr h.2.member;
           hidden = elim [ inl g ↦ h.2.hidden g | inr g ↦ h.2.outside d (omega arith) g ];
-          outside =
-              λ v l. h.2.outside v (omega arith);
+          outside = λ v l. h.2.outside v (omega arith);
         },
       )
     ] in
@@ -124,8 +115,7 @@ bracket_neutral V d acq body rs re rc below na nb ns ne nc i P up k s vp fresh k
     let polled2 : Typed i P2 (undone q up2) j H (Some H) (Some H) (Poll p body) =
     subst (λ u. Typed i P2 u j H (Some H) (Some H) (Poll p body)) (sym (undone_same (d + 2) (p ∷ up))) polled in
     (tt, j, kn, (tt, inr refl, tt, tt, polled2), l, tt, tt) in
-    let guarded : Typed i P2 up2 k H (Some H) (Some H) (On_cancel (Poll q (Poll p body)) fin) =
-    elim safe [
+    let guarded : Typed i P2 up2 k H (Some H) (Some H) (On_cancel (Poll q (Poll p body)) fin) = elim safe [
       | inl e ↦ guarded_at (Some H) (seen, known2) (inl refl)
           (subst (λ y. Leads (Some H) y (λ a b. (f m : ℕ) → (P2 (Pair f m) → ⊥) → Typed i P2 (Pair f m ∷ []) None a (Some b) (Some b) fin)) (sym e) on_cut)
       | inr h ↦ guarded_at None tt (inr (refl, h.1, record { member = h.2.member; hidden = h.2.hidden; outside = λ v g. h.2.outside v (omega arith) })) tt
@@ -153,13 +143,7 @@ bracket_neutral V d acq body rs re rc below na nb ns ne nc i P up k s vp fresh k
           Some H,
           (inr refl, known1),
           (tt, inr refl, H, (refl, refl), refl, tt),
-          (
-            tt,
-            fresh1 (d + 2) (omega arith),
-            tt,
-            tt,
-            (Some H, (seen, known2), (Some H, (seen, known2), k, inr refl, guarded, on_error), on_value),
-          ),
+          (tt, fresh1 (d + 2) (omega arith), tt, tt, (Some H, (seen, known2), (Some H, (seen, known2), k, inr refl, guarded, on_error), on_value)),
         ),
       ),
     )

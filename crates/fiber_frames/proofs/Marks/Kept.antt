@@ -1,20 +1,12 @@
 -- What each state of a fiber keeps: its marks are lawful, and few masks are active. One lemma for each way in which a
 -- state comes about.
-use Rattle.std.proofs.Common.{◌≡◌, ℕ, ◌<◌, ◌≤◌, List, [], ◌∷◌, length, refl, sym, subst, arith}
+use Rattle.fiber_frames.proofs.Prelude.{◌≡◌, ℕ, ◌<◌, ◌≤◌, List, [], ◌∷◌, length, refl, sym, subst, arith, IsCode, code_of, source_of, Mask, Tree, Reply, Cuts}
+use Rattle.fiber_frames.proofs.Prelude.{Fiber, active_of, begins, case_in, child, lost, move, move_case, outcome_of, AreLawful, Final, Running, Runs, Look}
 use Rattle.derived_ops.proofs.Counts.{masks_code}
-use Rattle.derived_ops.specs.Codes.{IsCode}
-use Rattle.derived_ops.specs.Expansion.{code_of}
-use Rattle.derived_ops.specs.Reading.{source_of}
-use Rattle.derived_ops.specs.Tree.{Mask, Tree}
-use Rattle.effect_term.specs.declared.reply.Reply.{Reply}
 use Rattle.fiber_frames.proofs.Marks.Depths.{RoomOf, active_room, child_room, move_room, small_room}
 use Rattle.fiber_frames.proofs.Marks.Lawful.{final_masked}
 use Rattle.fiber_frames.proofs.Marks.Programs.{code_part}
 use Rattle.fiber_frames.proofs.Marks.Runs.{Holds, child_holds, holds_lawful, live_run, lost_holds, move_holds, root_holds}
-use Rattle.fiber_frames.specs.Fiber.{Cuts, Fiber, active_of, begins, case_in, child, lost, move, move_case, outcome_of}
-use Rattle.fiber_frames.specs.Marks.{AreLawful}
-use Rattle.fiber_frames.specs.Path.{Broken, Final, Over, Running, Runs}
-use Rattle.fiber_frames.specs.declared.ask.Look.{Look}
 
 -- The state holds by the types of its terms, and at most 250 masks are active in it and later on.
 pub record Kept (f : Fiber) : Type 0 where
@@ -30,8 +22,7 @@ kept_root t (p, k, e) =
     subst (λ u. Kept (begins 0 u)) (sym e) kept
 
 pub kept_moved : (f : Fiber) (r : Reply) → Kept f → Kept (move f r)
-kept_moved f r k =
-    record { holds = move_holds f r k.holds; room = move_room f r 250 k.holds.lawful (live_run f k.holds) k.room }
+kept_moved f r k = record { holds = move_holds f r k.holds; room = move_room f r 250 k.holds.lawful (live_run f k.holds) k.room }
 
 -- the child of a start, whose number is above the fiber's
 pub kept_born : (f : Fiber) (n : ℕ) → Kept f → f.number < n → Kept (child f n)
@@ -52,7 +43,6 @@ cut_once f k c = go f.running refl (active_of f) refl f.look c
   where
     go : (w : Running) → f.running ≡ w → (up : List Mask) → active_of f ≡ up → (l : Look) → case_in w up l ≡ Cuts → (t : Tree) × (f.running ≡ Runs t)
     go (Runs t) e up a l x = (t, e)
-    go (Over o) e up a l x = cc
-    go Broken e up a l x = cc
     go (Final m gs) e (q ∷ up) a l x = cc
     go (Final m gs) e [] a l x = absurd (final_masked f m gs k.holds.lawful e a)
+    go _ e up a l x = cc

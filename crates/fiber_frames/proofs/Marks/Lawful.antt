@@ -1,7 +1,7 @@
 -- A lawful fiber: its term is typed by the brackets that its marks leave open. Each move keeps that.
-use Rattle.std.proofs.Common.{◌≡◌, ◌≢◌, ℕ, ◌+◌, ◌<◌, ◌≤◌, List, [], ◌∷◌, ◌++◌, Option, Some, None, refl, sym, ap, ◌∙◌, subst, arith}
-use Rattle.derived_ops.specs.Tree.{Mask, Named, Pair, Tree}
-use Rattle.effect_term.specs.declared.reply.Reply.{Reply}
+use Rattle.fiber_frames.proofs.Prelude.{◌≡◌, ◌≢◌, ℕ, ◌+◌, ◌<◌, ◌≤◌, List, [], ◌∷◌, ◌++◌, Option, Some, None, refl, sym, ap, ◌∙◌, subst, arith, Mask, Named}
+use Rattle.fiber_frames.proofs.Prelude.{Pair, Tree, Reply, Fiber, active_of, begins, cut, looked, lost, move, reduced, At_final, At_term, Broken, Final, Over}
+use Rattle.fiber_frames.proofs.Prelude.{Running, Runs, focus, Row, row_at, Mark}
 use Rattle.fiber_frames.proofs.Marks.Cuts.{Chain, chain_none, cut_chain}
 use Rattle.fiber_frames.proofs.Marks.Keeping.{EndsAs, Keeps, Own, typed_end, walk_keeps}
 use Rattle.fiber_frames.proofs.Marks.Moves.{active_run, cut_run, move_by, noted}
@@ -9,11 +9,6 @@ use Rattle.fiber_frames.proofs.Marks.Opened.{after_mark, after_marks, and_then}
 use Rattle.fiber_frames.proofs.Marks.Typed.{In, Masks, Stack, Typed}
 use Rattle.fiber_frames.proofs.Marks.Weaken.{Grows, in_more, typed_more}
 use Rattle.fiber_frames.proofs.Walk.{End, Gives, Throws, Works, active_path, end_of, finalizers_below, masks_below, root_row, row_root, walk}
-use Rattle.fiber_frames.specs.Fiber.{Fiber, active_of, begins, cut, looked, lost, move, reduced}
-use Rattle.fiber_frames.specs.Path.{At_final, At_term, Broken, Final, Over, Running, Runs, focus}
-use Rattle.fiber_frames.specs.Rows.{Row, row_at}
-use Rattle.fiber_frames.specs.declared.mark.Mark.{Mark}
-use Rattle.fiber_frames.specs.declared.mark.Mark.TheVariants as mark
 
 -- the masks that a fiber may name: its own below the next, and those of older fibers
 abbrev pub Known : ℕ → ℕ → Masks
@@ -69,9 +64,6 @@ module _ (i : ℕ) where
   final_new : (z n : ℕ) → z < n → Known_final i z (n + 1) (Pair i n)
   final_new z n l = (known_new n, (λ e. let same : n ≡ z = pair_injective i n i z e in omega arith))
 
-  all_known : (P : Masks) (s : Stack) → s ≡ [] → In P s
-  all_known P s e = subst (In P) (sym e) tt
-
   pub runs_keep : (n : ℕ) (r : Reply) (t : Tree) (s : Stack) → In (Known i n) s → In (Own i) s →
       Typed i (Known i n) [] (Some []) s (Some []) (Some []) t → Keeps i (Known i) n [] (Some []) s (Some []) (Some []) (walk i n r [] t)
   runs_keep n r t s k o h =
@@ -113,10 +105,9 @@ module _ (i : ℕ) where
 root_keeps : (f : Fiber) (s : Stack) → after_marks f.number f.marks [] ≡ Some s → In (Own f.number) s → (E : End) →
     EndsAs E [] (Some []) s (Some []) (Some []) → (a : Row Tree) → Keeps f.number (Known f.number) f.next [] (Some []) s (Some []) (Some []) a →
     Lawful (reduced f (root_row f.number f.next At_term E a))
-root_keeps f s m o (Gives v) e a k = lawful_end f.number f s [] _ refl m refl o (let none : Some [] ≡ Some s = e.1 in cc)
-root_keeps f s m o (Throws v) e a k = lawful_end f.number f s [] _ refl m refl o (let none : Some [] ≡ Some s = e.1 in cc)
 root_keeps f s m o Works e a k =
     record { now = k.now; marks = after_more f.number f.marks a.marks [] s k.now m k.marks; own = k.own; lives = (k.known, k.typed) }
+root_keeps f s m o _ e a k = lawful_end f.number f s [] _ refl m refl o (let none : Some [] ≡ Some s = e.1 in cc)
 
 -- a row of a finalizer
 final_keeps : (f : Fiber) (z : ℕ) (gs : List Tree) (s u : Stack) → z < f.next → In (Known_final f.number z f.next) s →
@@ -130,7 +121,7 @@ final_keeps f z gs s u l ks ku c m o (Gives v) e a k =
     (chain_lives f.number z f.next gs s l ks (subst (λ y. Chain f.number (Known_final f.number z f.next) gs y (Some [])) same c))
 final_keeps f z gs s u l ks ku c m o (Throws v) e a k =
     let same : u ≡ s = same_stack f.number u s e.1 in
-    lawful_end f.number f s (mark.Dropped _ ∷ []) _ refl m refl o
+    lawful_end f.number f s (Mark.Dropped _ ∷ []) _ refl m refl o
     (chain_lives f.number z f.next gs s l ks (subst (λ y. Chain f.number (Known_final f.number z f.next) gs y (Some [])) same c))
 final_keeps f z gs s u l ks ku c m o Works e a k =
     let w : Grows (Known_final f.number z f.next) (Known_final f.number z a.next) = record { more = k.grown; back = λ t h. absurd h.0 } in
@@ -149,8 +140,7 @@ final_keeps f z gs s u l ks ku c m o Works e a k =
     }
 
 rows_keep : (f : Fiber) (r : Reply) (w : Running) → f.running ≡ w → Lawful f → Lawful (reduced f (row_at f.number f.next r (focus w) w))
-rows_keep f r (Over o) e h =
-    lawful_end f.number f h.now [] _ refl h.marks refl h.own (subst (λ w. Lives f.number f.next w h.now) e h.lives)
+rows_keep f r (Over o) e h = lawful_end f.number f h.now [] _ refl h.marks refl h.own (subst (λ w. Lives f.number f.next w h.now) e h.lives)
 rows_keep f r Broken e h = lawful_end f.number f h.now [] _ refl h.marks refl h.own tt
 rows_keep f r (Final z []) e h =
     let l : Lives f.number f.next (Final z []) h.now = subst (λ w. Lives f.number f.next w h.now) e h.lives in
@@ -170,8 +160,7 @@ rows_keep f r (Final z (g ∷ gs)) e h =
 
 -- the known masks once the next one is the finalizers'
 more_final : (i n : ℕ) → Grows (Known i n) (Known_final i n (n + 1))
-more_final i n =
-    record { more = λ q h. (known_grows i n q h, (λ e. known_fresh i n (subst (Known i n) e h))); back = λ t h. absurd h.0 }
+more_final i n = record { more = λ q h. (known_grows i n q h, (λ e. known_fresh i n (subst (Known i n) e h))); back = λ t h. absurd h.0 }
 
 -- no cut comes while a finalizer runs
 pub final_masked : (f : Fiber) (z : ℕ) (gs : List Tree) → Lawful f → f.running ≡ Final z gs → active_of f ≡ [] → ⊥
@@ -190,9 +179,9 @@ cut_keeps f t e a h =
     let w = more_final f.number f.next in
     let P' = Known_final f.number f.next (f.next + 1) in
     let k : In P' h.now = in_more P P' w.more h.now l.0 in
-    let after : Lawful (noted f (Final f.next (finalizers_below t)) (f.next + 1) (mark.Cut ∷ [])) = record {
+    let after : Lawful (noted f (Final f.next (finalizers_below t)) (f.next + 1) (Mark.Cut ∷ [])) = record {
       now = h.now;
-      marks = after_more f.number f.marks (mark.Cut ∷ []) [] h.now h.now h.marks refl;
+      marks = after_more f.number f.marks (Mark.Cut ∷ []) [] h.now h.now h.marks refl;
       own = h.own;
       lives = chain_lives f.number f.next (f.next + 1) (finalizers_below t) h.now (omega arith) k
           (chain_later f.number P P' w (finalizers_below t) h.now (Some []) c);
@@ -218,11 +207,9 @@ known_born i n c l = record { more = go; back = λ t h. h }
     go (Pair f m) h = let older : f ≤ i = h.0 in (omega arith, (λ e. absurd (omega arith)))
 
 pub born_lawful : (i n c : ℕ) (e : Tree) → i < c → ((c : ℕ) → Typed c (Known i n) [] (Some []) [] (Some []) (Some []) e) → Lawful (begins c e)
-born_lawful i n c e l h =
-    record {
-      now = [];
-      marks = refl;
-      own = tt;
-      lives =
-          (tt, typed_more e c (Known i n) (Known c 0) [] (Some []) [] (Some []) (Some []) (known_born i n c l) (h c));
-    }
+born_lawful i n c e l h = record {
+  now = [];
+  marks = refl;
+  own = tt;
+  lives = (tt, typed_more e c (Known i n) (Known c 0) [] (Some []) [] (Some []) (Some []) (known_born i n c l) (h c));
+}

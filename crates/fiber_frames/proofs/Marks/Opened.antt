@@ -1,9 +1,6 @@
 -- Brackets, as a stack of those that are open.
-use Rattle.std.specs.Prelude.{ℕ, if◌then◌else◌, List, [], ◌∷◌, Option, Some, None}
-use Rattle.derived_ops.specs.Tree.{Acquired, Bracket_mark, Mask, Pair, Released, Releasing}
-use Rattle.fiber_frames.specs.Path.{same_mask}
-use Rattle.fiber_frames.specs.declared.mark.Mark.{Mark}
-use Rattle.fiber_frames.specs.declared.mark.Mark.TheVariants as mark
+use Rattle.fiber_frames.proofs.Prelude.{ℕ, if◌then◌else◌, List, [], ◌∷◌, Option, Some, None, Acquired, Bracket_mark, Mask, Pair, Released, Releasing, same_mask}
+use Rattle.fiber_frames.proofs.Prelude.{Mark}
 
 pub data Opened : Type 0 where
   Held : Mask → Opened
@@ -25,9 +22,9 @@ and_then (Some s) f = f s
 
 module _ (self : ℕ) where
   abbrev pub after_mark : Mark → List Opened → Option (List Opened)
-  after_mark (mark.Acquired m) s = opened Acquired (Pair self m) s
-  after_mark (mark.Releasing m) s = opened Releasing (Pair self m) s
-  after_mark (mark.Released m) s = opened Released (Pair self m) s
+  after_mark (Mark.Acquired m) s = opened Acquired (Pair self m) s
+  after_mark (Mark.Releasing m) s = opened Releasing (Pair self m) s
+  after_mark (Mark.Released m) s = opened Released (Pair self m) s
   after_mark _ s = Some s
 
   abbrev pub after_marks : List Mark → List Opened → Option (List Opened)

@@ -1,12 +1,10 @@
 -- A term stays typed where something is put in place of a slot.
-use Rattle.std.proofs.Common.{◌≡◌, ℕ, inl, inr, Bool, true, false, if◌then◌else◌, List, [], ◌∷◌, Option, Some, None, refl, sym, ap, ◌∙◌, subst}
-use Rattle.derived_ops.specs.Put.{Put, mask_at, put}
-use Rattle.derived_ops.specs.Tree.{Acquired, Act, Bracket_mark, Cancel, Guarded, Handled, If0, Join, Let, Loop}
-use Rattle.derived_ops.specs.Tree.{Make, Mask, Masked, Named, Note, On_cancel, Pair, Poll, Polled, Pure, Raise}
-use Rattle.derived_ops.specs.Tree.{Released, Releasing, Seq, Start, Tree, Uncancelable}
+use Rattle.fiber_frames.proofs.Prelude.{◌≡◌, ℕ, inl, inr, Bool, true, false, if◌then◌else◌, List, [], ◌∷◌, Option, Some, None, refl, sym, ap, ◌∙◌, subst, Put}
+use Rattle.fiber_frames.proofs.Prelude.{mask_at, put, Acquired, Act, Bracket_mark, Cancel, Guarded, Handled, If0, Join, Let, Loop, Make, Mask, Masked, Named}
+use Rattle.fiber_frames.proofs.Prelude.{Note, On_cancel, Pair, Poll, Polled, Pure, Raise, Released, Releasing, Seq, Start, Tree, Uncancelable, is_effective}
+use Rattle.fiber_frames.proofs.Prelude.{same_mask, undone, without_first}
 use Rattle.fiber_frames.proofs.Marks.Opened.{Freeing, Held, Opened}
 use Rattle.fiber_frames.proofs.Marks.Typed.{AllOf, Fine, If_ends, In, Leads, Leaves, Masks, Opens, Stack, Typed, Weaker, with_slot}
-use Rattle.fiber_frames.specs.Path.{is_effective, same_mask, undone, without_first}
 
 abbrev pub masks_at : Put → List Mask → List Mask
 masks_at p [] = []
@@ -100,9 +98,7 @@ module _ (R : Masks) (p : Put) (z : Same R p) where
   masks-cond false up = refl
 
   undone_at : (q : Mask) (up : List Mask) → R q → AllOf R up → undone (mask_at p q) (masks_at p up) ≡ masks_at p (undone q up)
-  undone_at q up r h =
-      ap (λ b. if b then without_first (masks_at p up) else masks_at p up) (effective_at q up r h)
-      ∙ masks-cond (is_effective q up) up
+  undone_at q up r h = ap (λ b. if b then without_first (masks_at p up) else masks_at p up) (effective_at q up r h) ∙ masks-cond (is_effective q up) up
 
   pub typed_put : (t : Tree) (i : ℕ) (P P' : Masks) (up : List Mask) (k : Option Stack) (s : Stack) (n x : Option Stack) → Puts P P' R p →
       AllOf R up → Typed i P up k s n x t → Typed i P' (masks_at p up) (end_at p k) (stack_at p s) (end_at p n) (end_at p x) (put p t)
@@ -116,15 +112,13 @@ module _ (R : Masks) (p : Put) (z : Same R p) where
     end_at p h.0,
     if_ends_at p h.0 _ (In P') (in_at p P P' w.known) h.1,
     typed_put e i P P' up k s h.0 x w a h.2,
-    if_ends_at p h.0 _ (λ t. Typed i P' (masks_at p up) (end_at p k) t (end_at p n) (end_at p x) (put p b))
-        (λ t g. typed_put b i P P' up k t n x w a g) h.3,
+    if_ends_at p h.0 _ (λ t. Typed i P' (masks_at p up) (end_at p k) t (end_at p n) (end_at p x) (put p b)) (λ t g. typed_put b i P P' up k t n x w a g) h.3,
   )
   typed_put (Seq o e b) i P P' up k s n x w a h = (
     end_at p h.0,
     if_ends_at p h.0 _ (In P') (in_at p P P' w.known) h.1,
     typed_put e i P P' up k s h.0 x w a h.2,
-    if_ends_at p h.0 _ (λ t. Typed i P' (masks_at p up) (end_at p k) t (end_at p n) (end_at p x) (put p b))
-        (λ t g. typed_put b i P P' up k t n x w a g) h.3,
+    if_ends_at p h.0 _ (λ t. Typed i P' (masks_at p up) (end_at p k) t (end_at p n) (end_at p x) (put p b)) (λ t g. typed_put b i P P' up k t n x w a g) h.3,
   )
   typed_put (Handled e v b) i P P' up k s n x w a h = (
     end_at p h.0,
@@ -132,19 +126,15 @@ module _ (R : Masks) (p : Put) (z : Same R p) where
     end_at p h.2,
     weaker_at p h.2 k h.3,
     typed_put e i P P' up h.2 s n h.0 w a h.4,
-    if_ends_at p h.0 _ (λ t. Typed i P' (masks_at p up) (end_at p k) t (end_at p n) (end_at p x) (put p b))
-        (λ t g. typed_put b i P P' up k t n x w a g) h.5,
+    if_ends_at p h.0 _ (λ t. Typed i P' (masks_at p up) (end_at p k) t (end_at p n) (end_at p x) (put p b)) (λ t g. typed_put b i P P' up k t n x w a g) h.5,
   )
-  typed_put (If0 v b c) i P P' up k s n x w a h =
-      (fine_at p up k s h.0, typed_put b i P P' up k s n x w a h.1, typed_put c i P P' up k s n x w a h.2)
+  typed_put (If0 v b c) i P P' up k s n x w a h = (fine_at p up k s h.0, typed_put b i P P' up k s n x w a h.1, typed_put c i P P' up k s n x w a h.2)
   typed_put (Join f u b v c e) i P P' up k s n x w a h =
       (fine_at p up k s h.0, typed_put b i P P' up k s n x w a h.1, typed_put c i P P' up k s n x w a h.2, typed_put e i P P' up k s n x w a h.3)
-  typed_put (Make m v b) i P P' up k s n x w a h =
-      (fine_at p up k s h.0, ap (end_at p) h.1, typed_put b i P P' up k s n x w a h.2)
+  typed_put (Make m v b) i P P' up k s n x w a h = (fine_at p up k s h.0, ap (end_at p) h.1, typed_put b i P P' up k s n x w a h.2)
   typed_put (Start v e b) i P P' up k s n x w a h =
       (fine_at p up k s h.0, (λ c. typed_put e c P P' [] (Some []) [] (Some []) (Some []) w tt (h.1 c)), typed_put b i P P' up k s n x w a h.2)
-  typed_put (Loop m e) i P P' up k s n x w a h =
-      (fine_at p up k s h.0, ap (end_at p) h.1, typed_put e i P P' up k s (Some s) x w a h.2)
+  typed_put (Loop m e) i P P' up k s n x w a h = (fine_at p up k s h.0, ap (end_at p) h.1, typed_put e i P P' up k s (Some s) x w a h.2)
   typed_put (Uncancelable v e) i P P' up k s n x w a h = (
     fine_at p up k s h.0,
     (λ g. h.1 (w.back v g)),

@@ -1,16 +1,12 @@
 -- What a row puts, a number or a new mask, keeps a term typed.
-use Rattle.std.proofs.Common.{◌≡◌, ◌≢◌, ℕ, ◌+◌, inl, inr, Bool, true, false, if◌then◌else◌, nat_eq, List, []}
-use Rattle.std.proofs.Common.{◌∷◌, Option, Some, None, refl, sym, ap, ◌∙◌, subst}
-use Rattle.std.proofs.lemmas.Bool.{eqb-true, eqb-false, eq-eqb, ne_eqb}
-use Rattle.std.specs.Prelude.{◌&&◌, ℤ}
-use Rattle.derived_ops.specs.Put.{Put, Put_handle, Put_mask, Put_value, mask_at, put}
-use Rattle.derived_ops.specs.Tree.{Mask, Named, Pair, Tree}
+use Rattle.fiber_frames.proofs.Prelude.{◌≡◌, ◌≢◌, ℕ, ◌+◌, inl, inr, Bool, true, false, if◌then◌else◌, nat_eq, List, [], ◌∷◌, Option, Some, None, refl, sym, ap}
+use Rattle.fiber_frames.proofs.Prelude.{◌∙◌, subst, eqb-true, eqb-false, eq-eqb, ne_eqb, ◌&&◌, ℤ, Put, Put_handle, Put_mask, Put_value, mask_at, put, Mask}
+use Rattle.fiber_frames.proofs.Prelude.{Named, Pair, Tree, same_mask}
 use Rattle.fiber_frames.proofs.Marks.Opened.{Freeing, Held}
 use Rattle.fiber_frames.proofs.Marks.Putting.{Puts, Same, end_at, masks_at, stack_at, typed_put}
 use Rattle.fiber_frames.proofs.Marks.Spending.{pairs_differ}
 use Rattle.fiber_frames.proofs.Marks.Typed.{AllOf, If_ends, In, Masks, Stack, Typed, with_slot}
 use Rattle.fiber_frames.proofs.Marks.Weaken.{all_more, if_ends_more, in_more}
-use Rattle.fiber_frames.specs.Path.{same_mask}
 
 -- ---- what a put leaves as it is
 abbrev pub Fixed : Put → Masks
@@ -52,14 +48,13 @@ fixed_put i p P t up k s n x f h =
 
 around_more : (P P' R R' : Masks) (up : List Mask) (k : Option Stack) (s : Stack) (n x : Option Stack) → ((q : Mask) → P q → P' q) →
     ((q : Mask) → R q → R' q) → Around P R up k s n x → Around P' R' up k s n x
-around_more P P' R R' up k s n x f g a =
-    record {
-      masks = all_more R R' g up a.masks;
-      expected = if_ends_more k (In P) (In P') (in_more P P' f) a.expected;
-      open_now = in_more P P' f s a.open_now;
-      given = if_ends_more n (In P) (In P') (in_more P P' f) a.given;
-      raised = if_ends_more x (In P) (In P') (in_more P P' f) a.raised;
-    }
+around_more P P' R R' up k s n x f g a = record {
+  masks = all_more R R' g up a.masks;
+  expected = if_ends_more k (In P) (In P') (in_more P P' f) a.expected;
+  open_now = in_more P P' f s a.open_now;
+  given = if_ends_more n (In P) (In P') (in_more P P' f) a.given;
+  raised = if_ends_more x (In P) (In P') (in_more P P' f) a.raised;
+}
 
 Any : Masks
 Any q = Unit {0}
@@ -98,12 +93,8 @@ pair_other t u i n v true true e f =
     let ue : v ≡ u = eqb-true v u f in
     let tu : t ≡ u = sym te ∙ ue in
     ap (λ b. b && nat_eq n n) (eq-eqb i i refl) ∙ eq-eqb n n refl ∙ sym (eq-eqb t u tu)
-pair_other t u i n v true false e f =
-    let te : v ≡ t = eqb-true v t e in
-    sym (ne_eqb t u (λ tu. eqb-false v u f (te ∙ tu)))
-pair_other t u i n v false true e f =
-    let ue : v ≡ u = eqb-true v u f in
-    sym (ne_eqb t u (λ tu. eqb-false v t e (ue ∙ sym tu)))
+pair_other t u i n v true false e f = let te : v ≡ t = eqb-true v t e in sym (ne_eqb t u (λ tu. eqb-false v u f (te ∙ tu)))
+pair_other t u i n v false true e f = let ue : v ≡ u = eqb-true v u f in sym (ne_eqb t u (λ tu. eqb-false v t e (ue ∙ sym tu)))
 pair_other t u i n v false false e f = refl
 
 pair_named : (t i n f m v : ℕ) → Pair f m ≢ Pair i n → (b : Bool) → same_mask (if b then Pair i n else Named t) (Pair f m) ≡ false
@@ -144,19 +135,16 @@ module _ (i : ℕ) (Q : ℕ → Masks) (closed : (n t : ℕ) → Q n (Named t) �
   regular_at v q (inr h) e = other_pair v i next (sym h ∙ e)
 
   above_at : (v t : ℕ) → (with_slot (Q next) v (Named t) → ⊥) → mask_at (new_put v) (Named t) ≡ Named t
-  above_at v t u =
-      let no_slot : nat_eq v t ≡ false = ne_eqb v t (λ e. u (inr (ap Named (sym e)))) in
-      ap (λ b. if b then Pair i next else Named t) no_slot
+  above_at v t u = let no_slot : nat_eq v t ≡ false = ne_eqb v t (λ e. u (inr (ap Named (sym e)))) in ap (λ b. if b then Pair i next else Named t) no_slot
 
   new_puts : (v : ℕ) → Puts (with_slot (Q next) v) (Q (next + 1)) Other (new_put v)
-  new_puts v =
-      record {
-        known = known_at v;
-        back = λ t h. absurd (closed (next + 1) t h);
-        regular = regular_at v;
-        unknown = λ f m u e. u (subst (Q (next + 1)) (sym e) (made_known));
-        above = above_at v;
-      }
+  new_puts v = record {
+    known = known_at v;
+    back = λ t h. absurd (closed (next + 1) t h);
+    regular = regular_at v;
+    unknown = λ f m u e. u (subst (Q (next + 1)) (sym e) (made_known));
+    above = above_at v;
+  }
 
   fixed_at : (v : ℕ) (q : Mask) → Q next q → mask_at (new_put v) q ≡ q
   fixed_at v (Named t) h = absurd (closed next t h)
@@ -175,8 +163,7 @@ module _ (i : ℕ) (Q : ℕ → Masks) (closed : (n t : ℕ) → Q n (Named t) �
   typed_new v t up k s n x a o h =
       let other_up : AllOf Other up = a.masks in
       let fixed_up : AllOf (Fixed (new_put v)) up = all_more (λ q. (m : ℕ) × (q ≡ Pair i m)) (Fixed (new_put v)) (own_fixed v) up o in
-      let f : Around (Fixed (new_put v)) (Fixed (new_put v)) up k s n x =
-      record {
+      let f : Around (Fixed (new_put v)) (Fixed (new_put v)) up k s n x = record {
         masks = fixed_up;
         expected = if_ends_more k (In (Q next)) (In (Fixed (new_put v))) (in_more (Q next) (Fixed (new_put v)) (fixed_at v)) a.expected;
         open_now = in_more (Q next) (Fixed (new_put v)) (fixed_at v) s a.open_now;

@@ -1,12 +1,10 @@
 -- What holds of every state of a fiber, whatever it is answered; and so its marks are lawful.
-use Rattle.std.proofs.Common.{◌≡◌, ◌≢◌, ◌⊎◌, inl, inr, ℕ, ◌+◌, ◌-◌, ◌≤◌, ◌<◌, Bool, true, false, if◌then◌else◌}
-use Rattle.std.proofs.Common.{nat_eq, List, [], ◌∷◌, ◌++◌, Some, None, refl, sym, ap, ◌∙◌, subst, arith}
-use Rattle.std.proofs.lemmas.Bool.{eqb-true}
-use Rattle.std.proofs.lemmas.List.{append-nil}
-use Rattle.std.specs.Prelude.{◌&&◌}
-use Rattle.derived_ops.specs.Tree.{Guarded, Handled, Let, Mask, Masked, Pair, Polled, Seq, Tree, Operand}
-use Rattle.effect_term.specs.declared.reply.Outcome.{Outcome}
-use Rattle.effect_term.specs.declared.reply.Reply.{Reply}
+use Rattle.fiber_frames.proofs.Prelude.{◌≡◌, ◌≢◌, ◌⊎◌, inl, inr, ℕ, ◌+◌, ◌-◌, ◌≤◌, ◌<◌, Bool, true, false, if◌then◌else◌, nat_eq, List, [], ◌∷◌, ◌++◌, Some}
+use Rattle.fiber_frames.proofs.Prelude.{None, refl, sym, ap, ◌∙◌, subst, arith, eqb-true, append-nil, ◌&&◌, Guarded, Handled, Let, Mask, Masked, Pair, Polled}
+use Rattle.fiber_frames.proofs.Prelude.{Seq, Tree, Operand, Outcome, Reply, Fiber, Move_case, Reduces, begins, child, cut, kind_in, looked, lost, move}
+use Rattle.fiber_frames.proofs.Prelude.{move_case, outcome_of, reduced, term_born, AreLawful, EndsLawfully, Has, IsCutOnce, NoCut, UncutRegions, bracket_steps}
+use Rattle.fiber_frames.proofs.Prelude.{times_acquired, At_final, At_term, Broken, Final, Over, Root, Running, Runs, focus, Born, RowKind, Row, number_of}
+use Rattle.fiber_frames.proofs.Prelude.{row_at, unit, Mark}
 use Rattle.fiber_frames.proofs.Marks.Actions.{If_born}
 use Rattle.fiber_frames.proofs.Marks.Balance.{empty_balanced, open_balanced, signs}
 use Rattle.fiber_frames.proofs.Marks.Cutting.{Active, Live, Static, is_on, only, spends}
@@ -17,19 +15,10 @@ use Rattle.fiber_frames.proofs.Marks.Plain.{Part}
 use Rattle.fiber_frames.proofs.Marks.Programs.{None_named}
 use Rattle.fiber_frames.proofs.Marks.Regions.{Agrees, row_agrees, static_live}
 use Rattle.fiber_frames.proofs.Marks.Saving.{Saves, Smaller, made_weight, row_saves, taken, typed_owned}
-use Rattle.fiber_frames.proofs.Marks.Typed.{Stack, Typed}
+use Rattle.fiber_frames.proofs.Marks.Typed.{Typed}
 use Rattle.fiber_frames.proofs.Marks.Weaken.{Grows, typed_more}
 use Rattle.fiber_frames.proofs.Walk.{End, Gives, Throws, Works, end_of, finalizers_below, masks_below, root_row, row_root, walk}
-use Rattle.fiber_frames.specs.Fiber.{Cuts, Fiber, Looks, Move_case, Reduces, Rests, begins, child, cut, kind_in}
-use Rattle.fiber_frames.specs.Fiber.{kind_of, looked, lost, move, move_case, outcome_in, outcome_of, reduced}
-use Rattle.fiber_frames.specs.Fiber.{term_born}
-use Rattle.fiber_frames.specs.Marks.{AreLawful, EndsLawfully, Has, IsCutOnce, NoCut, UncutRegions, bracket_steps, times_acquired}
-use Rattle.fiber_frames.specs.Path.{At_final, At_term, Broken, Final, Over, Root, Running, Runs, focus}
-use Rattle.fiber_frames.specs.Rows.{Born, Ceded, Ended, RowKind, Plain, Row, Waited, number_of, row_at, unit}
-use Rattle.fiber_frames.specs.declared.mark.Mark.{Mark}
-use Rattle.fiber_frames.specs.declared.mark.Mark.TheVariants as mark
-use Rattle.effect_term.specs.declared.reply.Outcome.TheVariants as outcome
-use Rattle.effect_term.specs.declared.reply.Reply.TheVariants as reply
+use Rattle.fiber_frames.specs.Fiber.{kind_of, outcome_in}
 
 abbrev pub AllStatic : List Tree → Type 0
 AllStatic [] = Unit {0}
@@ -56,7 +45,7 @@ spends_in w Broken = 0
 abbrev pub Cutness : ℕ → Running → List Mark → Type 0
 Cutness i (Runs t) ms = NoCut ms × ((m : ℕ) → is_on m false ms ≡ true → Active (Pair i m) (masks_below i [] t))
 Cutness i (Final z gs) ms = IsCutOnce ms
-Cutness i (Over o) ms = (NoCut ms × (o ≢ outcome.Canceled)) ⊎ (IsCutOnce ms × (o ≡ outcome.Canceled))
+Cutness i (Over o) ms = (NoCut ms × (o ≢ Outcome.Canceled)) ⊎ (IsCutOnce ms × (o ≡ Outcome.Canceled))
 Cutness i Broken ms = UncutRegions ms
 
 pub record Remains (i n : ℕ) (w : Running) (ms : List Mark) : Type 0 where
@@ -108,9 +97,7 @@ module _ (i n : ℕ) where
   row_unknown : (t : Tree) (a : Row Tree) (ms : List Mark) (x : (Mask → ℕ) → ℕ) → Saves i n t a → (g m : ℕ) → (Known i a.next (Pair g m) → ⊥) →
       taken i (only (Pair g m)) ms + (spends (only (Pair g m)) t + x (only (Pair g m))) ≡ 0 →
       taken i (only (Pair g m)) (ms ++ a.marks) + (spends (only (Pair g m)) a.becomes + x (only (Pair g m))) ≡ 0
-  row_unknown t a ms x h g m u z =
-      let w = only (Pair g m) in
-      omega (arith, taken-append i w ms a.marks, h.count g m (omega arith), made_none a.next g m u)
+  row_unknown t a ms x h g m u z = let w = only (Pair g m) in omega (arith, taken-append i w ms a.marks, h.count g m (omega arith), made_none a.next g m u)
 
 no_marks : NoCut []
 no_marks h = h
@@ -125,8 +112,8 @@ over_rest i n o w ms h c =
 
 root_rest : (f : Fiber) (t : Tree) (E : End) (a : Row Tree) → Remains f.number f.next (Runs t) f.marks → Saves f.number f.next t a →
     Agrees f.number (masks_below f.number [] t) [] a → RestOf (reduced f (root_row f.number f.next At_term E a))
-root_rest f t (Gives v) a h s g = over_rest f.number f.next (outcome.Succeeded (number_of v)) (Runs t) f.marks h (inl (h.cutness.0, (λ e. cc)))
-root_rest f t (Throws v) a h s g = over_rest f.number f.next (outcome.Errored (number_of v)) (Runs t) f.marks h (inl (h.cutness.0, (λ e. cc)))
+root_rest f t (Gives v) a h s g = over_rest f.number f.next (Outcome.Succeeded (number_of v)) (Runs t) f.marks h (inl (h.cutness.0, (λ e. cc)))
+root_rest f t (Throws v) a h s g = over_rest f.number f.next (Outcome.Errored (number_of v)) (Runs t) f.marks h (inl (h.cutness.0, (λ e. cc)))
 root_rest f t Works a h s g =
     let i = f.number in
     let n = f.next in
@@ -150,25 +137,23 @@ finals_live : (z : ℕ) (gs : List Tree) → AllStatic gs → LiveRun (Final z g
 finals_live z [] h = tt
 finals_live z (g ∷ gs) h = (static_live g h.0, h.1)
 
-one_dropped : (v : Operand) → NoCut (mark.Dropped (number_of v) ∷ [])
+one_dropped : (v : Operand) → NoCut (Mark.Dropped (number_of v) ∷ [])
 one_dropped v = elim [ inl e ↦ cc | inr e ↦ e ]
 
 final_rest : (f : Fiber) (z : ℕ) (t : Tree) (gs : List Tree) (E : End) (a : Row Tree) → Remains f.number f.next (Final z (t ∷ gs)) f.marks →
     Saves f.number f.next t a → Live a.becomes → RestOf (reduced f (root_row f.number f.next (At_final z gs) E a))
-final_rest f z t gs (Gives v) a h s l =
-    record {
-      live = finals_live z gs h.live.1;
-      once = λ m. omega (arith, h.once m, taken-append f.number (only (Pair f.number m)) f.marks []);
-      unknown = λ y m u. omega (arith, h.unknown y m u, taken-append f.number (only (Pair y m)) f.marks []);
-      cutness = cut_once_more f.marks [] h.cutness no_marks;
-    }
-final_rest f z t gs (Throws v) a h s l =
-    record {
-      live = finals_live z gs h.live.1;
-      once = λ m. omega (arith, h.once m, taken-append f.number (only (Pair f.number m)) f.marks (mark.Dropped (number_of v) ∷ []));
-      unknown = λ y m u. omega (arith, h.unknown y m u, taken-append f.number (only (Pair y m)) f.marks (mark.Dropped (number_of v) ∷ []));
-      cutness = cut_once_more f.marks (mark.Dropped (number_of v) ∷ []) h.cutness (one_dropped v);
-    }
+final_rest f z t gs (Gives v) a h s l = record {
+  live = finals_live z gs h.live.1;
+  once = λ m. omega (arith, h.once m, taken-append f.number (only (Pair f.number m)) f.marks []);
+  unknown = λ y m u. omega (arith, h.unknown y m u, taken-append f.number (only (Pair y m)) f.marks []);
+  cutness = cut_once_more f.marks [] h.cutness no_marks;
+}
+final_rest f z t gs (Throws v) a h s l = record {
+  live = finals_live z gs h.live.1;
+  once = λ m. omega (arith, h.once m, taken-append f.number (only (Pair f.number m)) f.marks (Mark.Dropped (number_of v) ∷ []));
+  unknown = λ y m u. omega (arith, h.unknown y m u, taken-append f.number (only (Pair y m)) f.marks (Mark.Dropped (number_of v) ∷ []));
+  cutness = cut_once_more f.marks (Mark.Dropped (number_of v) ∷ []) h.cutness (one_dropped v);
+}
 final_rest f z t gs Works a h s l =
     let i = f.number in
     let n = f.next in
@@ -179,10 +164,6 @@ final_rest f z t gs Works a h s l =
       unknown = λ y m u. row_unknown i n t a f.marks (λ w. spends_all w gs) s y m u (h.unknown y m (λ k. u (known_later i n a.next s.later y m k)));
       cutness = cut_once_more f.marks a.marks h.cutness s.no_cut;
     }
-
--- what a lawful fiber's row does
-abbrev runs_typed : (f : Fiber) (t : Tree) → Lawful f → f.running ≡ Runs t → Stack
-runs_typed f t h e = h.now
 
 saves_runs : (f : Fiber) (r : Reply) (t : Tree) → Lawful f → f.running ≡ Runs t → Live t → Saves f.number f.next t (walk f.number f.next r [] t)
 saves_runs f r t h e l =
@@ -199,10 +180,8 @@ saves_final f r z t gs h e l =
 rows_rest : (f : Fiber) (r : Reply) (w : Running) → f.running ≡ w → Lawful f → Remains f.number f.next w f.marks →
     RestOf (reduced f (row_at f.number f.next r (focus w) w))
 rows_rest f r (Over o) e h g = over_rest f.number f.next o (Over o) f.marks g g.cutness
-rows_rest f r Broken e h g =
-    subst (λ y. Remains f.number f.next Broken y) (sym (append-nil f.marks)) g
-rows_rest f r (Final z []) e h g =
-    over_rest f.number f.next outcome.Canceled (Final z []) f.marks g (inr (g.cutness, refl))
+rows_rest f r Broken e h g = subst (λ y. Remains f.number f.next Broken y) (sym (append-nil f.marks)) g
+rows_rest f r (Final z []) e h g = over_rest f.number f.next Outcome.Canceled (Final z []) f.marks g (inr (g.cutness, refl))
 rows_rest f r (Runs t) e h g =
     subst (λ y. RestOf (reduced f y)) (sym (row_root f.number f.next r At_term t))
     (root_rest f t (end_of t) (walk f.number f.next r [] t) g (saves_runs f r t h e g.live) (row_agrees f.number f.next r t [] tt g.live))
@@ -243,13 +222,13 @@ nothing_active i m up e h = subst (Active (Pair i m)) e h
 
 cut_rest : (f : Fiber) (t : Tree) → f.running ≡ Runs t → masks_below f.number [] t ≡ [] → Remains f.number f.next (Runs t) f.marks → RestOf (cut f)
 cut_rest f t e none h =
-    let after : RestOf (noted f (Final f.next (finalizers_below t)) (f.next + 1) (mark.Cut ∷ [])) = record {
+    let after : RestOf (noted f (Final f.next (finalizers_below t)) (f.next + 1) (Mark.Cut ∷ [])) = record {
       live = finals_live f.next (finalizers_below t) (pending_static t h.live);
-      once = λ m. omega (arith, h.once m, taken-append f.number (only (Pair f.number m)) f.marks (mark.Cut ∷ []), pending_spends (only (Pair f.number m)) t);
+      once = λ m. omega (arith, h.once m, taken-append f.number (only (Pair f.number m)) f.marks (Mark.Cut ∷ []), pending_spends (only (Pair f.number m)) t);
       unknown = λ y m u.
           let before : taken f.number (only (Pair y m)) f.marks + spends (only (Pair y m)) t ≡ 0 =
           h.unknown y m (λ k. u (known_later f.number f.next (f.next + 1) (omega arith) y m k)) in
-          omega (arith, taken-append f.number (only (Pair y m)) f.marks (mark.Cut ∷ []), pending_spends (only (Pair y m)) t);
+          omega (arith, taken-append f.number (only (Pair y m)) f.marks (Mark.Cut ∷ []), pending_spends (only (Pair y m)) t);
       cutness = (
         f.marks,
         [],
@@ -275,14 +254,12 @@ lost_cutness i (Over o) ms h = elim h [ inl c ↦ inl c.0 | inr c ↦ inr c.0 ]
 lost_cutness i Broken ms h = h
 
 lost_rest : (f : Fiber) → RestOf f → RestOf (lost f)
-lost_rest f g =
-    record {
-      live = tt;
-      once = λ m. omega (arith, g.once m);
-      unknown = λ y m u. omega (arith, g.unknown y m u);
-      cutness =
-          lost_cutness f.number f.running f.marks g.cutness;
-    }
+lost_rest f g = record {
+  live = tt;
+  once = λ m. omega (arith, g.once m);
+  unknown = λ y m u. omega (arith, g.unknown y m u);
+  cutness = lost_cutness f.number f.running f.marks g.cutness;
+}
 
 -- ---- births
 final_more : (i z n : ℕ) → Grows (Known_final i z n) (Known i n)
@@ -291,27 +268,18 @@ final_more i z n = record { more = λ q h. h.0; back = λ t h. absurd h }
 -- what is started is what a part of the row starts
 born_both : (k : RowKind) (F G H : Tree → Type 0) → ((e : Tree) → F e → G e → H e) → If_born k F → If_born k G → If_born k H
 born_both (Born e) F G H f x y = f e x y
-born_both Plain F G H f x y = tt
-born_both Waited F G H f x y = tt
-born_both Ceded F G H f x y = tt
-born_both (Ended o) F G H f x y = tt
+born_both _ F G H f x y = tt
 
 pub born_root : (i n : ℕ) (b : Root) (E : End) (a : Row Tree) (F : Tree → Type 0) → If_born a.kind F → If_born (root_row i n b E a).kind F
-born_root i n At_term (Gives v) a F h = tt
-born_root i n At_term (Throws v) a F h = tt
 born_root i n At_term Works a F h = h
-born_root i n (At_final m gs) (Gives v) a F h = tt
-born_root i n (At_final m gs) (Throws v) a F h = tt
 born_root i n (At_final m gs) Works a F h = h
+born_root i n _ _ a F h = tt
 
 abbrev Born_ok : Fiber → Running → Tree → Type 0
 Born_ok f w e = ((c : ℕ) → Typed c (Known f.number f.next) [] (Some []) [] (Some []) (Some []) e) × Static e ×
     ((g m : ℕ) → spends (only (Pair g m)) e ≤ spends_in (only (Pair g m)) w)
 
 born_row : (f : Fiber) (r : Reply) (w : Running) → f.running ≡ w → Lawful f → LiveRun w → If_born (row_at f.number f.next r (focus w) w).kind (Born_ok f w)
-born_row f r (Over o) x h l = tt
-born_row f r Broken x h l = tt
-born_row f r (Final z []) x h l = tt
 born_row f r (Runs t) x h l =
     let d : Lives f.number f.next (Runs t) h.now = subst (λ w. Lives f.number f.next w h.now) x h.lives in
     let k = runs_keep f.number f.next r t h.now d.0 h.own d.1 in
@@ -334,15 +302,14 @@ born_row f r (Final z (t ∷ gs)) x h l =
     subst (λ y. If_born y.kind (Born_ok f (Final z (t ∷ gs)))) (sym (row_root f.number f.next r (At_final z gs) t))
     (born_root f.number f.next (At_final z gs) (end_of t) a (Born_ok f (Final z (t ∷ gs)))
     (born_both a.kind _ (Smaller t) (Born_ok f (Final z (t ∷ gs))) all k.born s.born))
+born_row f r _ x h l = tt
 
 born_move : (f : Fiber) (r : Reply) → Lawful f → RestOf f → If_born (kind_of f r) (Born_ok f f.running)
 born_move f r h g = go (move_case f)
   where
     go : (c : Move_case) → If_born (kind_in f r c) (Born_ok f f.running)
-    go Looks = tt
-    go Cuts = tt
-    go Rests = tt
     go Reduces = born_row f r f.running refl h g.live
+    go _ = tt
 
 pub record Holds (f : Fiber) : Type 0 where
   pub lawful : Lawful f
@@ -350,48 +317,35 @@ pub record Holds (f : Fiber) : Type 0 where
 
 -- a term that is about to run, with no mask of its own in sight
 new_rest : (c : ℕ) (e : Tree) → Static e → ((g m : ℕ) → (Known c 0 (Pair g m) → ⊥) → spends (only (Pair g m)) e ≡ 0) → RestOf (begins c e)
-new_rest c e s u =
-    record {
-      live = static_live e s;
-      once = λ m. (let none : spends (only (Pair c m)) e ≡ 0 = u c m (λ h. (let l : m < 0 = h.1 refl in omega arith)) in omega arith);
-      unknown = λ g m h. omega (arith, u g m h);
-      cutness = (no_marks, (λ m x. cc));
-    }
+new_rest c e s u = record {
+  live = static_live e s;
+  once = λ m. (let none : spends (only (Pair c m)) e ≡ 0 = u c m (λ h. (let l : m < 0 = h.1 refl in omega arith)) in omega arith);
+  unknown = λ g m h. omega (arith, u g m h);
+  cutness = (no_marks, (λ m x. cc));
+}
 
 holds_from : (f : Fiber) (c : ℕ) (e : Tree) → Holds f → f.number < c → Born_ok f f.running e → Holds (begins c e)
 holds_from f c e h l k =
     let older : (g m : ℕ) → (Known c 0 (Pair g m) → ⊥) → Known f.number f.next (Pair g m) → ⊥ =
     λ g m u x. (let y : g ≤ f.number = x.0 in u (omega arith, (λ same. absurd (omega arith)))) in
-    record {
-      lawful = born_lawful f.number f.next c e l k.0;
-      rest = new_rest c e k.1 (λ g m u. omega (arith, k.2 g m, h.rest.unknown g m (older g m u)));
-    }
+    record { lawful = born_lawful f.number f.next c e l k.0; rest = new_rest c e k.1 (λ g m u. omega (arith, k.2 g m, h.rest.unknown g m (older g m u))) }
 
 -- what is started, or the unit value where nothing is
 pub child_holds : (f : Fiber) (n : ℕ) → Holds f → f.number < n → Holds (child f n)
-child_holds f n h l = go (kind_of f (reply.Number n)) (born_move f (reply.Number n) h.lawful h.rest)
+child_holds f n h l = go (kind_of f (Reply.Number n)) (born_move f (Reply.Number n) h.lawful h.rest)
   where
     idle : Holds (begins n unit)
     idle = holds_from f n unit h l ((λ c. (refl, refl)), tt, (λ g m. omega arith))
 
     go : (k : RowKind) → If_born k (Born_ok f f.running) → Holds (begins n (term_born k))
     go (Born e) b = holds_from f n e h l b
-    go Plain b = idle
-    go Waited b = idle
-    go Ceded b = idle
-    go (Ended o) b = idle
+    go _ b = idle
 
 pub root_holds : (code : Tree) → Part None_named 0 code → Holds (begins 0 code)
-root_holds code p =
-    record {
-      lawful = record {
-        now = [];
-        marks = refl;
-        own = tt;
-        lives = (tt, p.neutral 0 (Known 0 0) [] (Some []) [] (λ q h. absurd h) (λ v l h. h) tt (inl refl));
-      };
-      rest = new_rest 0 code p.static (λ g m u. p.unspent (Pair g m) tt);
-    }
+root_holds code p = record {
+  lawful = record { now = []; marks = refl; own = tt; lives = (tt, p.neutral 0 (Known 0 0) [] (Some []) [] (λ q h. absurd h) (λ v l h. h) tt (inl refl)) };
+  rest = new_rest 0 code p.static (λ g m u. p.unspent (Pair g m) tt);
+}
 
 pub lost_holds : (f : Fiber) → Holds f → Holds (lost f)
 lost_holds f h = record { lawful = lost_keeps f h.lawful; rest = lost_rest f h.rest }
@@ -400,31 +354,27 @@ lost_holds f h = record { lawful = lost_keeps f h.lawful; rest = lost_rest f h.r
 times_once : (f : Fiber) → RestOf f → (m : ℕ) → times_acquired m (bracket_steps f.marks) ≤ 1
 times_once f h m = omega (arith, times_taken f.number m f.marks, h.once m)
 
-cut_there : (ms : List Mark) → IsCutOnce ms → Has mark.Cut ms
-cut_there ms h = subst (Has mark.Cut) (sym h.2) (has_middle mark.Cut h.0 h.1)
+cut_there : (ms : List Mark) → IsCutOnce ms → Has Mark.Cut ms
+cut_there ms h = subst (Has Mark.Cut) (sym h.2) (has_middle Mark.Cut h.0 h.1)
 
 end_of_run : (f : Fiber) (w : Running) → f.running ≡ w → Lawful f → RestOf f → Cutness f.number w f.marks → EndsLawfully f.marks (outcome_in w)
-end_of_run f (Runs t) e h g c = tt
-end_of_run f (Final z gs) e h g c = tt
-end_of_run f Broken e h g c = tt
 end_of_run f (Over o) e h g c =
     let empty : h.now ≡ [] = subst (λ w. Lives f.number f.next w h.now) e h.lives in
     let closed : signs (bracket_steps f.marks) [] ≡ Some [] = on_numbers f.number f.marks [] h.now tt h.marks ∙ ap (λ s. Some (slots s)) empty in (
       (empty_balanced (bracket_steps f.marks) closed, times_once f g),
       elim c [ inl x ↦ ((λ y. absurd (x.1 y)), (λ y. absurd (x.0 y))) | inr x ↦ ((λ y. cut_there f.marks x.0), (λ y. x.1)) ],
     )
+end_of_run f _ e h g c = tt
 
 pub move_holds : (f : Fiber) (r : Reply) → Holds f → Holds (move f r)
 move_holds f r k = record { lawful = move_keeps f r k.lawful; rest = move_rest f r k.lawful k.rest }
 
 pub holds_lawful : (f : Fiber) → Holds f → AreLawful f.marks (outcome_of f)
-holds_lawful f h =
-    record {
-      brackets = open_balanced (bracket_steps f.marks) (slots h.lawful.now) (times_once f h.rest)
-          (on_numbers f.number f.marks [] h.lawful.now tt h.lawful.marks);
-      regions = lost_cutness f.number f.running f.marks h.rest.cutness;
-      end = end_of_run f f.running refl h.lawful h.rest h.rest.cutness;
-    }
+holds_lawful f h = record {
+  brackets = open_balanced (bracket_steps f.marks) (slots h.lawful.now) (times_once f h.rest) (on_numbers f.number f.marks [] h.lawful.now tt h.lawful.marks);
+  regions = lost_cutness f.number f.running f.marks h.rest.cutness;
+  end = end_of_run f f.running refl h.lawful h.rest h.rest.cutness;
+}
 
 pub live_run : (f : Fiber) → Holds f → LiveRun f.running
 live_run f h = h.rest.live

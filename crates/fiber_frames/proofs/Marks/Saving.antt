@@ -1,15 +1,11 @@
 -- A row makes no acquire mark that its term couldn't make before.
-use Rattle.std.proofs.Common.{◌≡◌, ◌≢◌, inl, inr, ℕ, ◌+◌, ◌-◌, ◌≤◌, Bool, true, false, if◌then◌else◌, nat_eq}
-use Rattle.std.proofs.Common.{List, [], ◌∷◌, Option, Some, None, refl, sym, ap, subst, arith}
-use Rattle.std.proofs.lemmas.Bool.{eqb-true, eq-eqb}
-use Rattle.std.specs.Prelude.{◌&&◌}
-use Rattle.derived_ops.specs.Put.{Put_mask, Put_value, put}
-use Rattle.derived_ops.specs.Tree.{Acquired, Act, Action, Always, Cancel, Guarded, Handle, Handled, If0, Join}
-use Rattle.derived_ops.specs.Tree.{Last, Let, Loop, Make, Mask, Masked, Named, New_deferred, New_ref, Note}
-use Rattle.derived_ops.specs.Tree.{On_cancel, Pair, Poll, Polled, Pure, Raise, Released, Releasing, Rest, Seq}
-use Rattle.derived_ops.specs.Tree.{Start, Times, Tree, Turns, Uncancelable}
-use Rattle.effect_term.specs.declared.reply.Outcome.{Outcome}
-use Rattle.effect_term.specs.declared.reply.Reply.{Reply}
+use Rattle.fiber_frames.proofs.Prelude.{◌≡◌, ◌≢◌, inl, inr, ℕ, ◌+◌, ◌-◌, ◌≤◌, Bool, true, false, if◌then◌else◌, nat_eq, List, [], ◌∷◌, Option, Some, refl, sym}
+use Rattle.fiber_frames.proofs.Prelude.{ap, subst, arith, eqb-true, eq-eqb, ◌&&◌, Put_mask, put, Acquired, Act, Action, Always, Cancel, Guarded, Handle}
+use Rattle.fiber_frames.proofs.Prelude.{Handled, If0, Join, Last, Let, Loop, Make, Mask, Masked, Named, New_deferred, New_ref, Note, On_cancel, Pair, Poll}
+use Rattle.fiber_frames.proofs.Prelude.{Polled, Pure, Raise, Released, Releasing, Seq, Start, Times, Tree, Turns, Uncancelable, Outcome, Reply, NoCut}
+use Rattle.fiber_frames.proofs.Prelude.{In_guarded, In_handle, In_let, In_masked, In_polled, In_seq, PathStep, around, is_effective, same_mask, undone, Born}
+use Rattle.fiber_frames.proofs.Prelude.{RowKind, Plain, Row, action_row, branch, calls, enters, is_positive, is_zero, looped, mask_number, number_in, number_of}
+use Rattle.fiber_frames.proofs.Prelude.{one_less, outcome_in, switches, unit, Ask, Mark}
 use Rattle.fiber_frames.proofs.Marks.Actions.{ActionRow, If_born, NoBirth, Says, action_case, none_born, said, silent, simple_case, wait_none}
 use Rattle.fiber_frames.proofs.Marks.Cutting.{Live, Static, only, spends}
 use Rattle.fiber_frames.proofs.Marks.Keeping.{Own, own_pair}
@@ -17,21 +13,11 @@ use Rattle.fiber_frames.proofs.Marks.Putting.{AllOf-undone}
 use Rattle.fiber_frames.proofs.Marks.Spending.{other_weight, spends_handle, spends_new, spends_put, spends_value}
 use Rattle.fiber_frames.proofs.Marks.Typed.{AllOf, Masks, Stack, Typed}
 use Rattle.fiber_frames.proofs.Walk.{End, Gives, Throws, Works, end_of, under, walk, within}
-use Rattle.fiber_frames.specs.Marks.{NoCut}
-use Rattle.fiber_frames.specs.Path.{In_guarded, In_handle, In_let, In_masked, In_polled, In_seq, PathStep, around, is_effective, same_mask, undone}
-use Rattle.fiber_frames.specs.Rows.{Born, Ceded, Ended, RowKind, Plain, Row, Waited, action_row, branch, calls}
-use Rattle.fiber_frames.specs.Rows.{enters, is_positive, is_zero, looped, mask_number, number_in, number_of}
-use Rattle.fiber_frames.specs.Rows.{one_less, outcome_in, switches, unit}
-use Rattle.fiber_frames.specs.declared.ask.Ask.{Ask}
-use Rattle.fiber_frames.specs.declared.mark.Mark.{Mark}
-use Rattle.fiber_frames.specs.declared.ask.Ask.TheVariants as ask
-use Rattle.fiber_frames.specs.declared.mark.Mark.TheVariants as mark
-use Rattle.effect_term.specs.declared.reply.Outcome.TheVariants as outcome
 
 -- what the acquire marks of a fiber weigh
 abbrev pub taken : ℕ → (Mask → ℕ) → List Mark → ℕ
 taken i w [] = 0
-taken i w (mark.Acquired n ∷ ms) = w (Pair i n) + taken i w ms
+taken i w (Mark.Acquired n ∷ ms) = w (Pair i n) + taken i w ms
 taken i w (_ ∷ ms) = taken i w ms
 
 -- the weight that a new mask may add
@@ -75,14 +61,13 @@ typed_owned _ i P up k s n x o h = tt
 module _ (i next : ℕ) (r : Reply) where
   quiet_saves : (c : Ask) (kd : RowKind) (t u : Tree) (ms : List Mark) → NoBirth kd → ((w : Mask → ℕ) → taken i w ms ≡ 0) → NoCut ms →
       ((w : Mask → ℕ) → spends w t ≤ 1 → spends w u ≤ spends w t) → Saves i next t (record { call = c; becomes = u; marks = ms; next = next; kind = kd })
-  quiet_saves c kd t u ms b q z h =
-      record {
-        count = λ f m l. omega (arith, q (only (Pair f m)), h (only (Pair f m)) l);
-        later = omega arith;
-        step = omega arith;
-        no_cut = z;
-        born = none_born kd _ b;
-      }
+  quiet_saves c kd t u ms b q z h = record {
+    count = λ f m l. omega (arith, q (only (Pair f m)), h (only (Pair f m)) l);
+    later = omega arith;
+    step = omega arith;
+    no_cut = z;
+    born = none_born kd _ b;
+  }
 
   plain_saves : (c : Ask) (t u : Tree) → ((w : Mask → ℕ) → spends w t ≤ 1 → spends w u ≤ spends w t) → Saves i next t (calls i next c u)
   plain_saves c t u h = quiet_saves c Plain t u [] tt (λ w. refl) (λ e. e) h
@@ -90,70 +75,46 @@ module _ (i next : ℕ) (r : Reply) where
   switch_saves : (b : Bool) (c : Ask) (m : Mark) (t u : Tree) → ((w : Mask → ℕ) → taken i w (m ∷ []) ≡ 0) → NoCut (m ∷ []) →
       ((w : Mask → ℕ) → spends w t ≤ 1 → spends w u ≤ spends w t) → Saves i next t (switches i next b c m u)
   switch_saves true c m t u q z h = quiet_saves c Plain t u (m ∷ []) tt q z h
-  switch_saves false c m t u q z h = plain_saves ask.Silent t u h
+  switch_saves false c m t u q z h = plain_saves Ask.Silent t u h
 
   smaller_more : (e t : Tree) (o : RowKind) → ((w : Mask → ℕ) → spends w e ≤ spends w t) → If_born o (Smaller e) → If_born o (Smaller t)
   smaller_more e t (Born b) l h = (h.0, λ f m. omega (arith, h.1 f m, l (only (Pair f m))))
-  smaller_more e t Plain l h = tt
-  smaller_more e t Waited l h = tt
-  smaller_more e t Ceded l h = tt
-  smaller_more e t (Ended o) l h = tt
+  smaller_more e t _ l h = tt
 
   frame_saves : (e t : Tree) (s : PathStep) (x : (Mask → ℕ) → ℕ) (a : Row Tree) →
       ((w : Mask → ℕ) (u : Tree) → spends w (around s u) ≡ spends w u + x w) → ((w : Mask → ℕ) → spends w t ≡ spends w e + x w) → Saves i next e a →
       Saves i next t (within i next s a)
-  frame_saves e t s x a y z h =
-      record {
-        count = λ f m l.
-            let whole : spends (only (Pair f m)) t ≡ spends (only (Pair f m)) e + x (only (Pair f m)) = z (only (Pair f m)) in
-            omega (arith, h.count f m (omega arith), y (only (Pair f m)) a.becomes);
-        later = h.later;
-        step = h.step;
-        no_cut = h.no_cut;
-        born = smaller_more e t a.kind (λ w. omega (arith, z w)) h.born;
-      }
+  frame_saves e t s x a y z h = record {
+    count = λ f m l.
+        let whole : spends (only (Pair f m)) t ≡ spends (only (Pair f m)) e + x (only (Pair f m)) = z (only (Pair f m)) in
+        omega (arith, h.count f m (omega arith), y (only (Pair f m)) a.becomes);
+    later = h.later;
+    step = h.step;
+    no_cut = h.no_cut;
+    born = smaller_more e t a.kind (λ w. omega (arith, z w)) h.born;
+  }
 
-  let_saves : (up : List Mask) (e : Tree) (v : ℕ) (b : Tree) (E : End) (a : Row Tree) → Saves i next e a →
-      Saves i next (Let e v b) (under i next up (In_let v b) E a)
-  let_saves up e v b (Gives w) a h = plain_saves _ (Let e v b) (put (Put_value v (number_of w)) b) (λ u l. omega (arith, spends_value v (number_of w) u b))
-  let_saves up e v b (Throws c) a h = plain_saves _ (Let e v b) (Raise c) (λ u l. omega arith)
-  let_saves up e v b Works a h = frame_saves e (Let e v b) (In_let v b) (λ w. spends w b) a (λ w u. refl) (λ w. refl) h
-
-  seq_saves : (up : List Mask) (o : Rest) (e b : Tree) (E : End) (a : Row Tree) → Saves i next e a → Saves i next (Seq o e b) (under i next up (In_seq o b) E a)
-  seq_saves up o e b (Gives w) a h = plain_saves _ (Seq o e b) b (λ u l. omega arith)
-  seq_saves up o e b (Throws c) a h = plain_saves _ (Seq o e b) (Raise c) (λ u l. omega arith)
-  seq_saves up o e b Works a h = frame_saves e (Seq o e b) (In_seq o b) (λ w. spends w b) a (λ w u. refl) (λ w. refl) h
-
-  handle_saves : (up : List Mask) (e : Tree) (v : ℕ) (b : Tree) (E : End) (a : Row Tree) → Saves i next e a →
-      Saves i next (Handled e v b) (under i next up (In_handle v b) E a)
-  handle_saves up e v b (Gives w) a h = plain_saves _ (Handled e v b) (Pure w) (λ u l. omega arith)
-  handle_saves up e v b (Throws c) a h =
-      plain_saves _ (Handled e v b) (put (Put_value v (number_of c)) b) (λ u l. omega (arith, spends_value v (number_of c) u b))
-  handle_saves up e v b Works a h = frame_saves e (Handled e v b) (In_handle v b) (λ w. spends w b) a (λ w u. refl) (λ w. refl) h
-
-  guarded_saves : (up : List Mask) (e fin : Tree) (E : End) (a : Row Tree) → Saves i next e a →
-      Saves i next (Guarded e fin) (under i next up (In_guarded fin) E a)
-  guarded_saves up e fin (Gives w) a h = plain_saves _ (Guarded e fin) (Pure w) (λ u l. omega arith)
-  guarded_saves up e fin (Throws c) a h = plain_saves _ (Guarded e fin) (Raise c) (λ u l. omega arith)
-  guarded_saves up e fin Works a h = frame_saves e (Guarded e fin) (In_guarded fin) (λ w. spends w fin) a (λ w u. refl) (λ w. refl) h
-
-  no_left : (m : ℕ) → NoCut (mark.Leave m ∷ [])
+  no_left : (m : ℕ) → NoCut (Mark.Leave m ∷ [])
   no_left m = elim [ inl e ↦ cc | inr e ↦ e ]
 
-  masked_saves : (up : List Mask) (m : ℕ) (e : Tree) (E : End) (a : Row Tree) → Saves i next e a → Saves i next (Masked m e) (under i next up (In_masked m) E a)
-  masked_saves up m e (Gives w) a h = quiet_saves _ _ (Masked m e) (Pure w) (mark.Leave m ∷ []) tt (λ w. refl) (no_left m) (λ u l. omega arith)
-  masked_saves up m e (Throws c) a h = quiet_saves _ _ (Masked m e) (Raise c) (mark.Leave m ∷ []) tt (λ w. refl) (no_left m) (λ u l. omega arith)
-  masked_saves up m e Works a h = frame_saves e (Masked m e) (In_masked m) (λ w. 0) a (λ w u. omega arith) (λ w. omega arith) h
+  polled_out : (up : List Mask) (q : Mask) (e t : Tree) → ((w : Mask → ℕ) → spends w (Polled q e) ≤ 1 → spends w t ≤ spends w (Polled q e)) →
+      Saves i next (Polled q e) (switches i next (is_effective q up) Ask.Mask (Mark.PollOut (mask_number q)) t)
+  polled_out up q e t h =
+      switch_saves (is_effective q up) Ask.Mask (Mark.PollOut (mask_number q)) (Polled q e) t (λ w. refl) (elim [ inl e ↦ cc | inr e ↦ e ]) h
 
-  polled_saves : (up : List Mask) (q : Mask) (e : Tree) (E : End) (a : Row Tree) → Saves i next e a →
-      Saves i next (Polled q e) (under i next up (In_polled q) E a)
-  polled_saves up q e (Gives w) a h =
-      switch_saves (is_effective q up) ask.Mask (mark.PollOut (mask_number q)) (Polled q e) (Pure w) (λ w. refl) (elim [ inl e ↦ cc | inr e ↦ e ])
-      (λ u l. omega arith)
-  polled_saves up q e (Throws c) a h =
-      switch_saves (is_effective q up) ask.Mask (mark.PollOut (mask_number q)) (Polled q e) (Raise c) (λ w. refl) (elim [ inl e ↦ cc | inr e ↦ e ])
-      (λ u l. omega arith)
-  polled_saves up q e Works a h = frame_saves e (Polled q e) (In_polled q) (λ w. 0) a (λ w u. omega arith) (λ w. omega arith) h
+  step_saves : (up : List Mask) (s : PathStep) (e : Tree) (E : End) (a : Row Tree) → Saves i next e a → Saves i next (around s e) (under i next up s E a)
+  step_saves up (In_let v b) e (Gives w) a h = plain_saves _ (Let e v b) _ (λ u l. omega (arith, spends_value v (number_of w) u b))
+  step_saves up (In_handle v b) e (Throws c) a h = plain_saves _ (Handled e v b) _ (λ u l. omega (arith, spends_value v (number_of c) u b))
+  step_saves up (In_masked m) e (Gives w) a h = quiet_saves _ _ (Masked m e) _ (Mark.Leave m ∷ []) tt (λ w. refl) (no_left m) (λ u l. omega arith)
+  step_saves up (In_masked m) e (Throws c) a h = quiet_saves _ _ (Masked m e) _ (Mark.Leave m ∷ []) tt (λ w. refl) (no_left m) (λ u l. omega arith)
+  step_saves up (In_polled q) e (Gives w) a h = polled_out up q e (Pure w) (λ u l. omega arith)
+  step_saves up (In_polled q) e (Throws c) a h = polled_out up q e (Raise c) (λ u l. omega arith)
+  step_saves up (In_let v b) e Works a h = frame_saves e _ (In_let v b) (λ w. spends w b) a (λ w u. refl) (λ w. refl) h
+  step_saves up (In_seq o b) e Works a h = frame_saves e _ (In_seq o b) (λ w. spends w b) a (λ w u. refl) (λ w. refl) h
+  step_saves up (In_handle v b) e Works a h = frame_saves e _ (In_handle v b) (λ w. spends w b) a (λ w u. refl) (λ w. refl) h
+  step_saves up (In_guarded fin) e Works a h = frame_saves e _ (In_guarded fin) (λ w. spends w fin) a (λ w u. refl) (λ w. refl) h
+  step_saves up s e Works a h = frame_saves e (around s e) s (λ w. 0) a (λ w u. omega arith) (λ w. omega arith) h
+  step_saves up s e _ a h = plain_saves _ (around s e) _ (λ u l. omega arith)
 
   entered_saves : (t u : Tree) → ((f m : ℕ) → spends (only (Pair f m)) u ≤ spends (only (Pair f m)) t + made_weight i next (next + 1) (Pair f m)) →
       Saves i next t (enters i next u)
@@ -189,17 +150,15 @@ module _ (i next : ℕ) (r : Reply) where
 
   branch_saves : (o : Option Outcome) (f : Handle) (v : ℕ) (b : Tree) (w : ℕ) (c e : Tree) (u : Mask → ℕ) →
       spends u (branch o f v b w c e) ≤ spends u (Join f v b w c e)
-  branch_saves None f v b w c e u = omega arith
-  branch_saves (Some (outcome.Succeeded z)) f v b w c e u = omega (arith, spends_value v z u b)
-  branch_saves (Some (outcome.Errored z)) f v b w c e u = omega (arith, spends_value w z u c)
-  branch_saves (Some outcome.Canceled) f v b w c e u = omega arith
+  branch_saves (Some (Outcome.Succeeded z)) f v b w c e u = omega (arith, spends_value v z u b)
+  branch_saves (Some (Outcome.Errored z)) f v b w c e u = omega (arith, spends_value w z u c)
+  branch_saves _ f v b w c e u = omega arith
 
   looped_saves : (m : Turns) (e : Tree) (u : Mask → ℕ) → spends u (Loop m e) ≤ 1 → spends u (looped m e) ≤ spends u (Loop m e)
   looped_saves Always e u l = omega arith
   looped_saves (Times v) e u l =
       elim (is_positive v) as (λ b. spends u (if b then Seq Last e (Loop (Times (one_less v)) e) else unit) ≤ spends u e + spends u e) [
-        | true ↦
-            omega arith
+        | true ↦ omega arith
         | false ↦ omega arith
       ]
 
@@ -219,23 +178,20 @@ module _ (i next : ℕ) (r : Reply) where
       action_case i next r (Saves i next (Act c)) saved c
 
   pub row_saves : (t : Tree) (up : List Mask) → Live t → Owned i t → Saves i next t (walk i next r up t)
-  row_saves (Pure v) up l o = plain_saves _ _ _ (λ w l. omega arith)
-  row_saves (Raise v) up l o = plain_saves _ _ _ (λ w l. omega arith)
   row_saves (Act c) up l o = act_saves c
-  row_saves (Note Acquired q) up l o =
-      record {
-        count = λ f m l. omega (arith, ap (only (Pair f m)) (own_pair i q o));
-        later = omega arith;
-        step = omega arith;
-        no_cut = elim [ inl e ↦ cc | inr e ↦ e ];
-        born = tt;
-      }
+  row_saves (Note Acquired q) up l o = record {
+    count = λ f m l. omega (arith, ap (only (Pair f m)) (own_pair i q o));
+    later = omega arith;
+    step = omega arith;
+    no_cut = elim [ inl e ↦ cc | inr e ↦ e ];
+    born = tt;
+  }
   row_saves (Note Releasing q) up l o = quiet_saves _ _ (Note Releasing q) unit _ tt (λ w. refl) (elim [ inl e ↦ cc | inr e ↦ e ]) (λ w l. omega arith)
   row_saves (Note Released q) up l o = quiet_saves _ _ (Note Released q) unit _ tt (λ w. refl) (elim [ inl e ↦ cc | inr e ↦ e ]) (λ w l. omega arith)
   row_saves (Cancel f) up l o = entered_saves (Cancel f) _ (λ g m. omega arith)
-  row_saves (Let e v b) up l o = let_saves up e v b (end_of e) (walk i next r up e) (row_saves e up l.0 o)
-  row_saves (Seq w e b) up l o = seq_saves up w e b (end_of e) (walk i next r up e) (row_saves e up l.0 o)
-  row_saves (Handled e v b) up l o = handle_saves up e v b (end_of e) (walk i next r up e) (row_saves e up l.0 o)
+  row_saves (Let e v b) up l o = step_saves up (In_let v b) e (end_of e) (walk i next r up e) (row_saves e up l.0 o)
+  row_saves (Seq w e b) up l o = step_saves up (In_seq w b) e (end_of e) (walk i next r up e) (row_saves e up l.0 o)
+  row_saves (Handled e v b) up l o = step_saves up (In_handle v b) e (end_of e) (walk i next r up e) (row_saves e up l.0 o)
   row_saves (If0 v b c) up l o =
       plain_saves _ (If0 v b c) _
       (λ w l. elim (is_zero v) as (λ y. spends w (if y then b else c) ≤ spends w b + spends w c) [ true ↦ omega arith | false ↦ omega arith ])
@@ -243,20 +199,20 @@ module _ (i next : ℕ) (r : Reply) where
       quiet_saves _ _ (Join f v b w c e) _ _ (wait_none (outcome_in r)) (λ w. refl) (λ e. e) (λ u l. branch_saves (outcome_in r) f v b w c e u)
   row_saves (Make (New_ref w) v b) up l o = plain_saves _ (Make (New_ref w) v b) _ (λ u l. omega (arith, spends_handle v (number_in r) u b))
   row_saves (Make New_deferred v b) up l o = plain_saves _ (Make New_deferred v b) _ (λ u l. spends_handle v (number_in r) u b)
-  row_saves (Start v e b) up l o =
-      record {
-        count = λ f m l. omega (arith, spends_handle v (number_in r) (only (Pair f m)) b);
-        later = omega arith;
-        step = omega arith;
-        no_cut = λ e. e;
-        born = (l.0, λ f m. omega arith);
-      }
+  row_saves (Start v e b) up l o = record {
+    count = λ f m l. omega (arith, spends_handle v (number_in r) (only (Pair f m)) b);
+    later = omega arith;
+    step = omega arith;
+    no_cut = λ e. e;
+    born = (l.0, λ f m. omega arith);
+  }
   row_saves (Loop m e) up l o = plain_saves _ (Loop m e) _ (looped_saves m e)
   row_saves (Uncancelable v e) up l o = entered_saves (Uncancelable v e) _ (masking v e l.1)
   row_saves (Poll q e) up l o =
-      switch_saves (is_effective q up) ask.Unmask (mark.PollIn (mask_number q)) (Poll q e) (Polled q e) (λ w. refl) (elim [ inl e ↦ cc | inr e ↦ e ])
+      switch_saves (is_effective q up) Ask.Unmask (Mark.PollIn (mask_number q)) (Poll q e) (Polled q e) (λ w. refl) (elim [ inl e ↦ cc | inr e ↦ e ])
       (λ w l. omega arith)
   row_saves (On_cancel e fin) up l o = plain_saves _ (On_cancel e fin) (Guarded e fin) (λ w l. omega arith)
-  row_saves (Masked m e) up l o = masked_saves up m e (end_of e) (walk i next r (Pair i m ∷ up) e) (row_saves e (Pair i m ∷ up) l o)
-  row_saves (Polled q e) up l o = polled_saves up q e (end_of e) (walk i next r (undone q up) e) (row_saves e (undone q up) l o)
-  row_saves (Guarded e fin) up l o = guarded_saves up e fin (end_of e) (walk i next r up e) (row_saves e up l.0 o)
+  row_saves (Masked m e) up l o = step_saves up (In_masked m) e (end_of e) (walk i next r (Pair i m ∷ up) e) (row_saves e (Pair i m ∷ up) l o)
+  row_saves (Polled q e) up l o = step_saves up (In_polled q) e (end_of e) (walk i next r (undone q up) e) (row_saves e (undone q up) l o)
+  row_saves (Guarded e fin) up l o = step_saves up (In_guarded fin) e (end_of e) (walk i next r up e) (row_saves e up l.0 o)
+  row_saves _ up l o = plain_saves _ _ _ (λ w l. omega arith)

@@ -1,18 +1,11 @@
 -- The acquire marks that a term may still make.
-use Rattle.std.proofs.Common.{◌≡◌, ◌≢◌, ℕ, ◌+◌, ◌≤◌, Bool, true, false, if◌then◌else◌, nat_eq, refl, sym, subst, arith}
-use Rattle.std.proofs.lemmas.Bool.{eqb-true, eq-eqb}
-use Rattle.std.specs.Prelude.{◌&&◌, ℤ}
-use Rattle.derived_ops.specs.Put.{Put, Put_handle, Put_mask, Put_value, mask_at, put}
-use Rattle.derived_ops.specs.Tree.{Acquired, Act, Cancel, Guarded, Handled, If0, Join, Let, Loop, Make, Mask}
-use Rattle.derived_ops.specs.Tree.{Masked, Named, Note, On_cancel, Pair, Poll, Polled, Pure, Raise, Released}
-use Rattle.derived_ops.specs.Tree.{Releasing, Seq, Start, Tree, Uncancelable}
+use Rattle.fiber_frames.proofs.Prelude.{◌≡◌, ◌≢◌, ℕ, ◌+◌, ◌≤◌, Bool, true, false, if◌then◌else◌, nat_eq, refl, sym, subst, arith, eqb-true, eq-eqb, ◌&&◌, ℤ}
+use Rattle.fiber_frames.proofs.Prelude.{Put, Put_handle, Put_mask, Put_value, mask_at, put, Acquired, Guarded, Handled, If0, Join, Let, Loop, Make, Mask}
+use Rattle.fiber_frames.proofs.Prelude.{Masked, Named, Note, On_cancel, Pair, Poll, Polled, Seq, Start, Tree, Uncancelable, same_mask}
 use Rattle.fiber_frames.proofs.Marks.Cutting.{only, spends}
-use Rattle.fiber_frames.specs.Path.{same_mask}
 
 pub spends_put : (t : Tree) (p : Put) (w u : Mask → ℕ) → ((x : Mask) → w (mask_at p x) ≤ u x) → spends w (put p t) ≤ spends u t
 spends_put (Note Acquired q) p w u h = h q
-spends_put (Note Releasing q) p w u h = omega arith
-spends_put (Note Released q) p w u h = omega arith
 spends_put (Let e v b) p w u h = omega (arith, spends_put e p w u h, spends_put b p w u h)
 spends_put (Seq o e b) p w u h = omega (arith, spends_put e p w u h, spends_put b p w u h)
 spends_put (Handled e v b) p w u h = omega (arith, spends_put e p w u h, spends_put b p w u h)
@@ -27,15 +20,10 @@ spends_put (On_cancel e b) p w u h = omega (arith, spends_put e p w u h, spends_
 spends_put (Masked m e) p w u h = spends_put e p w u h
 spends_put (Polled q e) p w u h = spends_put e p w u h
 spends_put (Guarded e b) p w u h = omega (arith, spends_put e p w u h, spends_put b p w u h)
-spends_put (Pure v) p w u h = omega arith
-spends_put (Raise v) p w u h = omega arith
-spends_put (Act c) p w u h = omega arith
-spends_put (Cancel f) p w u h = omega arith
+spends_put _ p w u h = omega arith
 
 pub spends_add : (t : Tree) (w u : Mask → ℕ) → spends (λ x. w x + u x) t ≡ spends w t + spends u t
 spends_add (Note Acquired q) w u = refl
-spends_add (Note Releasing q) w u = refl
-spends_add (Note Released q) w u = refl
 spends_add (Let e v b) w u = omega (arith, spends_add e w u, spends_add b w u)
 spends_add (Seq o e b) w u = omega (arith, spends_add e w u, spends_add b w u)
 spends_add (Handled e v b) w u = omega (arith, spends_add e w u, spends_add b w u)
@@ -50,10 +38,7 @@ spends_add (On_cancel e b) w u = omega (arith, spends_add e w u, spends_add b w 
 spends_add (Masked m e) w u = spends_add e w u
 spends_add (Polled q e) w u = spends_add e w u
 spends_add (Guarded e b) w u = omega (arith, spends_add e w u, spends_add b w u)
-spends_add (Pure v) w u = refl
-spends_add (Raise v) w u = refl
-spends_add (Act c) w u = refl
-spends_add (Cancel f) w u = refl
+spends_add _ w u = refl
 
 -- a put that gives no slot a new use
 abbrev pub Runtime : Put → Type 0
@@ -104,12 +89,11 @@ new_weight v f m (Named u) = go (nat_eq v u) refl
     go false e = omega arith
 
 pub spends_new : (v f m : ℕ) (t : Tree) → spends (only (Pair f m)) (put (Put_mask v f m) t) ≤ spends (only (Named v)) t + spends (only (Pair f m)) t
-spends_new v f m t =
-    omega (
-      arith,
-      spends_put t (Put_mask v f m) (only (Pair f m)) (λ x. only (Named v) x + only (Pair f m) x) (new_weight v f m),
-      spends_add t (only (Named v)) (only (Pair f m)),
-    )
+spends_new v f m t = omega (
+  arith,
+  spends_put t (Put_mask v f m) (only (Pair f m)) (λ x. only (Named v) x + only (Pair f m) x) (new_weight v f m),
+  spends_add t (only (Named v)) (only (Pair f m)),
+)
 
 -- puts of values and of handles
 pub spends_value : (s : ℕ) (z : ℤ) (w : Mask → ℕ) (t : Tree) → spends w (put (Put_value s z) t) ≤ spends w t

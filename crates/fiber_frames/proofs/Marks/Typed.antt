@@ -1,10 +1,8 @@
 -- Which marks a term makes: the brackets that are open before it, and after each of its ends.
-use Rattle.std.specs.Prelude.{◌≡◌, ℕ, ◌⊎◌, List, [], ◌∷◌, Option, Some, None}
-use Rattle.derived_ops.specs.Tree.{Acquired, Act, Bracket_mark, Cancel, Guarded, Handled, If0, Join, Let, Loop}
-use Rattle.derived_ops.specs.Tree.{Make, Mask, Masked, Named, Note, On_cancel, Pair, Poll, Polled, Pure, Raise}
-use Rattle.derived_ops.specs.Tree.{Released, Releasing, Seq, Start, Tree, Uncancelable}
+use Rattle.fiber_frames.proofs.Prelude.{◌≡◌, ℕ, ◌⊎◌, List, [], ◌∷◌, Option, Some, None, Acquired, Act, Bracket_mark, Cancel, Guarded, Handled, If0, Join, Let}
+use Rattle.fiber_frames.proofs.Prelude.{Loop, Make, Mask, Masked, Named, Note, On_cancel, Pair, Poll, Polled, Pure, Raise, Released, Releasing, Seq, Start}
+use Rattle.fiber_frames.proofs.Prelude.{Tree, Uncancelable, undone}
 use Rattle.fiber_frames.proofs.Marks.Opened.{Freeing, Held, Opened}
-use Rattle.fiber_frames.specs.Path.{undone}
 
 abbrev pub Stack : Type 0
 Stack = List Opened
@@ -77,8 +75,7 @@ Typed i P up k s n x (Join f _ a _ b c) = Fine up k s × Typed i P up k s n x a 
 Typed i P up k s n x (Make m _ b) = Fine up k s × (x ≡ Some s) × Typed i P up k s n x b
 Typed i P up k s n x (Start _ e b) = Fine up k s × ((c : ℕ) → Typed c P [] (Some []) [] (Some []) (Some []) e) × Typed i P up k s n x b
 Typed i P up k s n x (Loop _ e) = Fine up k s × (n ≡ Some s) × Typed i P up k s (Some s) x e
-Typed i P up k s n x (Uncancelable p e) =
-    Fine up k s × (P (Named p) → ⊥) × Leaves up k n × Leaves up k x × Typed i (with_slot P p) (Named p ∷ up) k s n x e
+Typed i P up k s n x (Uncancelable p e) = Fine up k s × (P (Named p) → ⊥) × Leaves up k n × Leaves up k x × Typed i (with_slot P p) (Named p ∷ up) k s n x e
 Typed i P up k s n x (Poll q e) = Fine up k s × P q × Leaves up k n × Leaves up k x × Typed i P (undone q up) k s n x e
 Typed i P up k s n x (On_cancel e fin) =
     Fine up k s × (j : Option Stack) × If_ends j (In P) × Typed i P up j s n x e ×

@@ -1,11 +1,8 @@
 -- A term stays typed where more masks may be named.
-use Rattle.std.proofs.Common.{ℕ, inl, inr, List, [], ◌∷◌, Option, Some, None, sym, subst}
-use Rattle.derived_ops.specs.Tree.{Act, Cancel, Guarded, Handled, If0, Join, Let, Loop, Make, Mask, Masked}
-use Rattle.derived_ops.specs.Tree.{Named, Note, On_cancel, Pair, Poll, Polled, Pure, Raise, Seq, Start, Tree}
-use Rattle.derived_ops.specs.Tree.{Uncancelable}
+use Rattle.fiber_frames.proofs.Prelude.{ℕ, inl, inr, List, [], ◌∷◌, Option, Some, None, sym, subst, Guarded, Handled, If0, Join, Let, Loop, Make, Mask, Masked}
+use Rattle.fiber_frames.proofs.Prelude.{Named, Note, On_cancel, Pair, Poll, Polled, Seq, Start, Tree, Uncancelable, undone}
 use Rattle.fiber_frames.proofs.Marks.Opened.{Freeing, Held}
 use Rattle.fiber_frames.proofs.Marks.Typed.{AllOf, If_ends, In, Leads, Masks, Stack, Typed, Weaker, with_slot}
-use Rattle.fiber_frames.specs.Path.{undone}
 
 -- more may be named, but no other slot
 pub record Grows (P P' : Masks) : Type 0 where
@@ -38,11 +35,7 @@ leads_more (Some j) (Some k) F G f h = f j k h
 
 pub typed_more : (t : Tree) (i : ℕ) (P P' : Masks) (up : List Mask) (k : Option Stack) (s : Stack) (n x : Option Stack) → Grows P P' →
     Typed i P up k s n x t → Typed i P' up k s n x t
-typed_more (Pure v) i P P' up k s n x w h = h
-typed_more (Raise v) i P P' up k s n x w h = h
-typed_more (Act c) i P P' up k s n x w h = h
 typed_more (Note e q) i P P' up k s n x w h = (h.0, w.more q h.1, h.2, h.3, h.4, h.5)
-typed_more (Cancel f) i P P' up k s n x w h = h
 typed_more (Let e v b) i P P' up k s n x w h = (
   h.0,
   if_ends_more h.0 (In P) (In P') (in_more P P' w.more) h.1,
@@ -72,8 +65,7 @@ typed_more (Start v e b) i P P' up k s n x w h =
 typed_more (Loop m e) i P P' up k s n x w h = (h.0, h.1, typed_more e i P P' up k s (Some s) x w h.2)
 typed_more (Uncancelable v e) i P P' up k s n x w h =
     (h.0, (λ g. h.1 (w.back v g)), h.2, h.3, typed_more e i (with_slot P v) (with_slot P' v) (Named v ∷ up) k s n x (more_below P P' v w) h.4)
-typed_more (Poll q e) i P P' up k s n x w h =
-    (h.0, w.more q h.1, h.2, h.3, typed_more e i P P' (undone q up) k s n x w h.4)
+typed_more (Poll q e) i P P' up k s n x w h = (h.0, w.more q h.1, h.2, h.3, typed_more e i P P' (undone q up) k s n x w h.4)
 typed_more (On_cancel e fin) i P P' up k s n x w h = (
   h.0,
   h.1,
@@ -84,8 +76,7 @@ typed_more (On_cancel e fin) i P P' up k s n x w h = (
   h.5,
   h.6,
 )
-typed_more (Masked m e) i P P' up k s n x w h =
-    (w.more (Pair i m) h.0, h.1, h.2, typed_more e i P P' (Pair i m ∷ up) k s n x w h.3)
+typed_more (Masked m e) i P P' up k s n x w h = (w.more (Pair i m) h.0, h.1, h.2, typed_more e i P P' (Pair i m ∷ up) k s n x w h.3)
 typed_more (Polled q e) i P P' up k s n x w h = (w.more q h.0, h.1, h.2, typed_more e i P P' (undone q up) k s n x w h.3)
 typed_more (Guarded e fin) i P P' up k s n x w h = (
   h.0,
@@ -96,6 +87,7 @@ typed_more (Guarded e fin) i P P' up k s n x w h = (
   h.4,
   h.5,
 )
+typed_more _ i P P' up k s n x w h = h
 
 -- what a weaker expectation expects is known
 pub weaker_in : (P : Masks) (j k : Option Stack) → Weaker j k → If_ends k (In P) → If_ends j (In P)

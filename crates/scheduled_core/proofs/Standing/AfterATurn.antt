@@ -1,20 +1,13 @@
 -- Where a fiber stands after a turn.
-use Rattle.std.proofs.Common.{◌≡◌, ℕ, zero, suc, ◌+◌, arith, Bool, List, [], ◌∷◌, ◌++◌, refl, sym, ap, ◌∙◌, subst, append_assoc, append-nil, eqb, eq-eqb, ne_eqb}
-use Rattle.std.specs.Prelude.{cond}
-use Rattle.std.proofs.lemmas.List.{append_cancel_left}
-use Rattle.std.proofs.lemmas.List.Elements.{filter-append}
-use mathlib.Core.List.{IsPrefix}
-use mathlib.Core.Logic.{dite}
+use Rattle.std.proofs.Common.{◌≡◌, ℕ, zero, suc, ◌+◌, arith, Bool, List, [], ◌∷◌, ◌++◌, refl, sym, ap, ◌∙◌, subst, append_assoc, append-nil, eqb, eq-eqb}
+use Rattle.std.{proofs.{Common.ne_eqb, lemmas.List.{append_cancel_left, Elements.filter-append}}, specs.Prelude.cond}
+use mathlib.Core.{List.IsPrefix, Logic.dite}
 use native.Mathlib.Decide.{ℕ_discrete}
-use Rattle.cell_registry.specs.declared.call.Entry.{Entry}
-use Rattle.cell_registry.specs.declared.call.Call.TheVariants.{Start}
+use Rattle.cell_registry.specs.{declared.call.{Entry.Entry, Call.TheVariants.Start}, Histories.calls_by}
 use Rattle.effect_term.specs.declared.reply.Reply.TheVariants.{Done, Number}
-use Rattle.cell_registry.specs.Histories.{calls_by}
 use Rattle.derived_ops.specs.Tree.{Tree}
 use Rattle.fiber_frames.specs.Fiber.{Fiber, move}
-use Rattle.scheduled_core.specs.Stands.{Alone_on, Begins, Calls, Rests, Stands}
-use Rattle.scheduled_core.proofs.Standing.Led.{Bore, Later, Led, Reaches}
-use Rattle.scheduled_core.proofs.Standing.Places.{later-join}
+use Rattle.scheduled_core.{specs.Stands.{Alone_on, Begins, Calls, Rests, Stands}, proofs.Standing.{Led.{Bore, Later, Led, Reaches}, Places.later-join}}
 
 module _ (code : Tree) where
   pub later-reaches : (n p : ℕ) (a m b : Fiber) (es : List Entry) → Later n a m → Reaches p m es b → Reaches (n + p) a es b

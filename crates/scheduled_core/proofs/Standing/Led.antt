@@ -3,11 +3,8 @@ use Rattle.std.specs.Prelude.{◌≡◌, ℕ, zero, suc, ◌+◌, List, [], ◌�
 use mathlib.Core.List.{IsPrefix}
 use Rattle.effect_term.specs.declared.reply.Reply.TheVariants.{Done, Number}
 use Rattle.fiber_frames.specs.Fiber.{Fiber, child, move}
-use Rattle.cell_registry.specs.declared.call.Entry.{Entry}
-use Rattle.cell_registry.specs.declared.call.Call.TheVariants.{Start}
-use Rattle.cell_registry.specs.Histories.{calls_by}
-use Rattle.scheduled_core.specs.declared.wish.Wish.TheVariants.{Alone, Shared}
-use Rattle.scheduled_core.specs.Stands.{wish}
+use Rattle.cell_registry.specs.{declared.call.{Entry.Entry, Call.TheVariants.Start}, Histories.calls_by}
+use Rattle.scheduled_core.specs.{declared.wish.Wish.TheVariants.{Alone, Shared}, Stands.wish}
 
 -- n moves without a shared call lead from one state to the other
 abbrev pub Later : ℕ → Fiber → Fiber → Type 0

@@ -1,6 +1,5 @@
 -- Lists, one element longer or changed.
-use Rattle.std.proofs.Common.{◌≡◌, ℕ, zero, suc, List, [], ◌∷◌, ◌++◌, length, set, refl, sym, ap, subst, arith, append_assoc, append-nil}
-use Rattle.std.specs.Prelude.{Some}
+use Rattle.std.{proofs.Common.{◌≡◌, ℕ, zero, suc, List, [], ◌∷◌, ◌++◌, length, set, refl, sym, ap, subst, arith, append_assoc, append-nil}, specs.Prelude.Some}
 use Rattle.std.specs.List.{slice_get}
 
 pub put_back : {A : Type 0} (xs : List A) (f : ℕ) (a : A) → slice_get xs f ≡ Some a → set xs f a ≡ xs
@@ -59,6 +58,3 @@ from_here P step done (e ∷ rest) p = subst P (append_assoc done (e ∷ []) res
 
 pub by_ends : {A : Type 0} (P : List A → Type 0) → P [] → ((h : List A) (e : A) → P h → P (h ++ e ∷ [])) → (h : List A) → P h
 by_ends P start step h = from_here P step [] h start
-
-pub by_ends_from : {A : Type 0} (P : List A → Type 0) → (g : List A) → P g → ((h : List A) (e : A) → P h → P (h ++ e ∷ [])) → (rest : List A) → P (g ++ rest)
-by_ends_from P g start step rest = from_here P step g rest start

@@ -1,20 +1,12 @@
 -- Where fibers can stand.
 use Rattle.std.proofs.Common.{◌≡◌, ◌≢◌, ℕ, zero, suc, ◌+◌, ◌<◌, List, [], ◌∷◌, ◌++◌, refl, sym, ap, ◌∙◌, subst, arith}
-use Rattle.cell_registry.specs.declared.limits.Limits.{Limits}
-use Rattle.cell_registry.specs.declared.call.Entry.{Entry}
-use Rattle.cell_registry.specs.declared.call.Call.{Call}
-use Rattle.cell_registry.specs.declared.call.Call.TheVariants.{Start}
+use Rattle.cell_registry.specs.{declared.{limits.Limits.Limits, call.{Entry.Entry, Call.{Call, TheVariants.Start}}}, Cells.{Cells, reply_of}}
+use Rattle.cell_registry.{specs.Histories.{MayFollow, left}, proofs.Legal.left-push}
 use Rattle.effect_term.specs.declared.reply.Reply.TheVariants.{Done, Number}
-use Rattle.cell_registry.specs.Cells.{Cells, reply_of}
-use Rattle.cell_registry.specs.Histories.{MayFollow, left}
 use Rattle.derived_ops.specs.Tree.{Tree}
 use Rattle.fiber_frames.specs.Fiber.{Fiber, begins, child, move}
-use Rattle.scheduled_core.specs.declared.wish.Wish.TheVariants.{Shared, Alone}
-use Rattle.scheduled_core.specs.Stands.{Alone_on, Begins, Calls, Opens, Rests, Stands, wish}
-use Rattle.scheduled_core.proofs.Standing.Led.{Later}
-use Rattle.scheduled_core.proofs.Standing.Lists.{end_left, end_right, end_none}
-use Rattle.scheduled_core.proofs.Standing.Histories.{next-after, number_start}
-use Rattle.cell_registry.proofs.Legal.{left-push}
+use Rattle.scheduled_core.specs.{declared.wish.Wish.TheVariants.{Shared, Alone}, Stands.{Alone_on, Begins, Calls, Opens, Rests, Stands, wish}}
+use Rattle.scheduled_core.proofs.Standing.{Led.Later, Lists.{end_left, end_right, end_none}, Histories.{next-after, number_start}}
 
 module _ (code : Tree) where
   pub later-push : (n : ℕ) (a m g : Fiber) → Later n a m → wish m ≡ Alone → g ≡ move m Done → Later (suc n) a g

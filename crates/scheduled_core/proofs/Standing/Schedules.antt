@@ -1,34 +1,18 @@
 -- Every report is some schedule's.
-use Rattle.std.proofs.Common.{◌≡◌, ◌≢◌, ℕ, zero, suc, ◌+◌, ◌-◌, ◌<◌, List, [], ◌∷◌, ◌++◌, length, set, get_or, replicate}
-use Rattle.std.proofs.Common.{refl, sym, ap, ◌∙◌, subst, arith, length-set, append_assoc}
-use Rattle.std.proofs.lemmas.List.{set-set, length-append, length-replicate}
-use Rattle.std.proofs.lemmas.Option.{same_Some, slice_get-get_or}
-use Rattle.std.specs.Prelude.{Some, None, Result, Ok}
-use Rattle.std.specs.List.{fold, slice_get}
-use Rattle.cell_registry.specs.declared.limits.Limits.{Limits}
-use Rattle.cell_registry.specs.declared.limits.RunError.{RunError}
-use Rattle.cell_registry.specs.declared.call.Entry.{Entry}
-use Rattle.cell_registry.specs.declared.call.Call.{Call}
-use Rattle.cell_registry.specs.declared.call.Call.TheVariants.{Start, Cancel, Join, Look, Mask, Unmask, Cut, Finish}
-use Rattle.cell_registry.specs.declared.call.Call.TheVariants.{NewRef, NewDeferred, Get, Set, Modify, Complete, Read}
-use Rattle.effect_term.specs.declared.reply.Reply.{Reply}
-use Rattle.effect_term.specs.declared.reply.Reply.TheVariants.{Done, Number}
-use Rattle.cell_registry.specs.Cells.{Cells, after, reply_of, refusal}
-use Rattle.cell_registry.specs.Histories.{MayFollow, left, IsLegal}
+use Rattle.std.proofs.Common.{◌≡◌, ◌≢◌, ℕ, zero, suc, ◌+◌, ◌-◌, ◌<◌, List, [], ◌∷◌, ◌++◌, length, set, get_or, replicate, refl, sym, ap, ◌∙◌, subst, arith}
+use Rattle.std.proofs.{Common.{length-set, append_assoc}, lemmas.{List.{set-set, length-append, length-replicate}, Option.{same_Some, slice_get-get_or}}}
+use Rattle.std.specs.{Prelude.{Some, None, Result, Ok}, List.{fold, slice_get}}
+use Rattle.cell_registry.specs.declared.{limits.{Limits.Limits, RunError.RunError}, call.{Entry.Entry, Call.{Call, TheVariants.Start}}}
+use Rattle.cell_registry.specs.Cells.{Cells}
+use Rattle.cell_registry.{specs.{Cells.{after, reply_of, refusal}, Histories.{MayFollow, left, IsLegal}}, proofs.Legal.left-push}
+use Rattle.effect_term.specs.declared.reply.Reply.{Reply, TheVariants.{Done, Number}}
 use Rattle.derived_ops.specs.Tree.{Tree}
-use Rattle.fiber_frames.specs.Fiber.{Fiber, begins, child, move}
-use Rattle.fiber_frames.specs.Rows.{number_in}
-use Rattle.scheduled_core.specs.declared.wish.Wish.TheVariants.{Shared, Alone, Nothing}
-use Rattle.scheduled_core.specs.Core.{World, answered, born, entered, first_world, turned, wished}
-use Rattle.scheduled_core.specs.Stands.{Stands, wish}
-use Rattle.scheduled_core.specs.Spending.{Spends, SpendsSome, spent}
-use Rattle.scheduled_core.proofs.Spending.{going, no_birth, spends_join}
-use Rattle.scheduled_core.proofs.Standing.Led.{Later}
-use Rattle.scheduled_core.proofs.Lists.{slice_get-set_same, slice_get-set_other}
-use Rattle.scheduled_core.proofs.Standing.Lists.{put_back, get_early, get_last, put_seam, get_seam, by_ends}
-use Rattle.scheduled_core.proofs.Standing.Histories.{legal-pop, next-after}
-use Rattle.cell_registry.proofs.Legal.{left-push}
+use Rattle.fiber_frames.specs.{Fiber.{Fiber, begins, child, move}, Rows.number_in}
+use Rattle.scheduled_core.specs.{declared.wish.Wish.TheVariants.{Shared, Alone, Nothing}, Core.{World, answered, born, entered, first_world, turned, wished}}
+use Rattle.scheduled_core.{specs.{Stands.{Stands, wish}, Spending.{Spends, SpendsSome, spent}}, proofs.Spending.{going, no_birth, spends_join}}
+use Rattle.scheduled_core.proofs.Standing.{Led.Later, Lists.{put_back, get_early, get_last, put_seam, get_seam, by_ends}, Histories.{legal-pop, next-after}}
 use Rattle.scheduled_core.proofs.Standing.Places.{later-same, later-join, just_after, at_first, AllStand, stood, is_next, Made, Stayed, Came}
+use Rattle.scheduled_core.proofs.Lists.{slice_get-set_same, slice_get-set_other}
 
 -- how a schedule goes: on to a world, or to a fault
 abbrev pub Course : Type 0
@@ -46,20 +30,7 @@ module _ (code : Tree) where
   pub grows : (s : Cells) (by : ℕ) (c : Call) (g : Fiber) (r : Reply) → (after s by c).next_fiber ≡ s.next_fiber + length (born g c r)
   unfolding after
   grows s by Start g r = refl
-  grows s by (Cancel f) g r = omega arith
-  grows s by (Join f) g r = omega arith
-  grows s by Look g r = omega arith
-  grows s by Mask g r = omega arith
-  grows s by Unmask g r = omega arith
-  grows s by Cut g r = omega arith
-  grows s by (Finish o) g r = omega arith
-  grows s by NewRef g r = omega arith
-  grows s by NewDeferred g r = omega arith
-  grows s by (Get x) g r = omega arith
-  grows s by (Set x v) g r = omega arith
-  grows s by (Modify x v) g r = omega arith
-  grows s by (Complete d v) g r = omega arith
-  grows s by (Read d) g r = omega arith
+  grows s by _ g r = omega arith
 
   alone_step : (k : Limits) (w : World) (f : ℕ) (a : Fiber) → slice_get w.fibers f ≡ Some a → wish a ≡ Alone →
       entered k (Ok w) f ≡ Ok (at_world w f (move a Done))

@@ -1,16 +1,10 @@
-use Rattle.std.proofs.Common.{◌≡◌, ℕ, ◌<◌, ◌∙◌, arith}
-use Rattle.cell_registry.specs.declared.limits.Band.{Band}
-use Rattle.cell_registry.specs.declared.limits.Band.TheVariants.{Fibers, Refs, Deferreds}
-use Rattle.cell_registry.specs.Histories.{left}
-use Rattle.cell_registry.specs.Bands.{next_of}
-use Rattle.cell_registry.specs.Steps.{band_word}
+use Rattle.cell_registry.proofs.Prelude.{◌≡◌, ℕ, ◌<◌, ◌∙◌, arith, Band, Fibers, left, next_of, band_word}
 use Rattle.cell_registry.proofs.Claiming.{sees_next, tries, failed, won, rises, all_given, looked_twice, same_twice, looked_then_claimed, still_has, still_may}
 use Rattle.cell_registry.proofs.claims.claim.Goals as goal
 
 place_lt : (b : Band) (i words : ℕ) → i ≡ band_word b → 2 < words → i < words
 place_lt Fibers i words e h = omega arith
-place_lt Refs i words e h = omega arith
-place_lt Deferreds i words e h = omega arith
+place_lt _ i words e h = omega arith
 
 pub load-next-requires : goal.load-next-requires
 load-next-requires c =
@@ -45,8 +39,7 @@ loop-next-init c =
       none_out = e.2.0;
       looked = saw.0;
       same = saw.1;
-      next =
-          (λ j. next_of c.args.band (left (saw.1.limits j) c.load-next.new.seat.me.0.seen)) ∙ saw.2;
+      next = (λ j. next_of c.args.band (left (saw.1.limits j) c.load-next.new.seat.me.0.seen)) ∙ saw.2;
     }
 
 pub loop-next-smaller : goal.loop-next-smaller

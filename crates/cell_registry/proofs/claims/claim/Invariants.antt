@@ -1,7 +1,4 @@
-use Rattle.std.proofs.Common.{◌≡◌, ◌-◌, []}
-use Rattle.cell_registry.specs.Histories.{left}
-use Rattle.cell_registry.specs.Bands.{next_of}
-use Rattle.cell_registry.specs.Steps.{Looked, IsSame}
+use Rattle.cell_registry.proofs.Prelude.{◌≡◌, ◌-◌, [], left, next_of, Looked, IsSame}
 use Rattle.cell_registry.proofs.claims.claim.Given as goal
 
 abbrev pub invariant-loop-next : goal.invariant-loop-next

@@ -1,6 +1,4 @@
-use Rattle.std.proofs.Common.{◌≡◌, ◌+◌, ◌++◌, suc, List, ap, arith, drop, get_or, map, set, take, ◌∙◌}
-use Rattle.cell_registry.specs.declared.cell.Cell.{Cell}
-use Rattle.cell_registry.specs.Cells.{unawaited}
+use Rattle.cell_registry.proofs.Prelude.{◌≡◌, ◌+◌, ◌++◌, suc, List, ap, arith, drop, get_or, map, set, take, ◌∙◌, Cell, unawaited}
 use Rattle.cell_registry.proofs.Forgetting.{forget_next}
 use Rattle.cell_registry.proofs.kept_cell.forget_each.Goals as goal
 

@@ -1,5 +1,4 @@
-use Rattle.std.proofs.Common.{◌≡◌, ◌++◌, map, take, drop}
-use Rattle.cell_registry.specs.Cells.{unawaited}
+use Rattle.cell_registry.proofs.Prelude.{◌≡◌, ◌++◌, map, take, drop, unawaited}
 use Rattle.cell_registry.proofs.kept_cell.forget_each.Given as goal
 
 -- those so far are without the note, and the others as they were

@@ -1,6 +1,4 @@
-use Rattle.std.proofs.Common.{◌≡◌, ◌+◌, ◌++◌, suc, List, ap, arith, drop, get_or, map, set, take, ◌∙◌}
-use Rattle.cell_registry.specs.declared.cell.Cell.{Cell}
-use Rattle.cell_registry.specs.Cells.{uncounted}
+use Rattle.cell_registry.proofs.Prelude.{◌≡◌, ◌+◌, ◌++◌, suc, List, ap, arith, drop, get_or, map, set, take, ◌∙◌, Cell, uncounted}
 use Rattle.cell_registry.proofs.Uncounting.{uncount_next}
 use Rattle.cell_registry.proofs.kept_cell.forget_each_count.Goals as goal
 

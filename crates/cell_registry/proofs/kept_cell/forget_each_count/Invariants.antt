@@ -1,5 +1,4 @@
-use Rattle.std.proofs.Common.{◌≡◌, ◌++◌, map, take, drop}
-use Rattle.cell_registry.specs.Cells.{uncounted}
+use Rattle.cell_registry.proofs.Prelude.{◌≡◌, ◌++◌, map, take, drop, uncounted}
 use Rattle.cell_registry.proofs.kept_cell.forget_each_count.Given as goal
 
 -- those so far are without counts, and the others as they were

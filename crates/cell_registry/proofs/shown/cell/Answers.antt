@@ -1,6 +1,4 @@
-use Rattle.std.proofs.Common.{sym, ap, ◌∙◌}
-use Rattle.cell_registry.specs.declared.cell.Stage.TheVariants.{Ended, Finalizing}
-use Rattle.cell_registry.specs.declared.cell.Cell.{Cell}
+use Rattle.cell_registry.proofs.Prelude.{sym, ap, ◌∙◌, Ended, Finalizing, Cell}
 use Rattle.cell_registry.proofs.Replies.{control-phase}
 use Rattle.cell_registry.proofs.Showing.{cell_is, stage_running, stage_finalizing, stage_ended}
 use Rattle.cell_registry.proofs.shown.cell.Goals as goal

@@ -1,5 +1,4 @@
-use Rattle.std.proofs.Common.{◌∙◌, arith}
-use Rattle.cell_registry.specs.Cells.{cell_of, fresh}
+use Rattle.cell_registry.proofs.Prelude.{◌∙◌, arith, cell_of, fresh}
 use Rattle.cell_registry.proofs.Showing.{cell_shown, one_more}
 use Rattle.cell_registry.proofs.shown.cells.Goals as goal
 

@@ -1,6 +1,4 @@
-use Rattle.std.proofs.Common.{◌∙◌, arith, subst}
-use Rattle.std.specs.Prelude.{None, slice_index_or}
-use Rattle.cell_registry.specs.Words.{TellsRead}
+use Rattle.cell_registry.proofs.Prelude.{◌∙◌, arith, subst, None, slice_index_or, TellsRead}
 use Rattle.cell_registry.proofs.Showing.{deferred_shown, one_more}
 use Rattle.cell_registry.proofs.shown.deferreds.Goals as goal
 

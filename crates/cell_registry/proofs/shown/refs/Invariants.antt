@@ -1,6 +1,4 @@
-use Rattle.std.proofs.Common.{◌≡◌, take}
-use Rattle.cell_registry.specs.Cells.{Cells}
-use Rattle.cell_registry.specs.Private.Shown.{Shows}
+use Rattle.cell_registry.proofs.Prelude.{◌≡◌, take, Cells, Shows}
 use Rattle.cell_registry.proofs.shown.refs.Given as goal
 
 abbrev pub invariant-loop-number : goal.invariant-loop-number

@@ -1,5 +1,4 @@
-use Rattle.std.proofs.Common.{sym, ap, ◌∙◌}
-use Rattle.cell_registry.specs.Words.{kind_at}
+use Rattle.cell_registry.proofs.Prelude.{sym, ap, ◌∙◌, kind_at}
 use Rattle.cell_registry.proofs.Replies.{control-kind, value_is, succeeded_of, errored_of, canceled_of}
 use Rattle.cell_registry.proofs.words.outcome_answer.Goals as goal
 

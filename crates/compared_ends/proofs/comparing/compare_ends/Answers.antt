@@ -1,8 +1,6 @@
 use Rattle.std.proofs.Common.{subst}
-use Rattle.derived_ops.specs.Expansion.{code_of}
-use Rattle.derived_ops.specs.Reading.{source_of}
-use Rattle.compared_ends.specs.Comparisons.{IsExtra}
-use Rattle.compared_ends.proofs.BothWays.{extra_told, same_ends}
+use Rattle.derived_ops.specs.{Expansion.code_of, Reading.source_of}
+use Rattle.compared_ends.{specs.Comparisons.IsExtra, proofs.BothWays.{extra_told, same_ends}}
 use Rattle.compared_ends.proofs.comparing.compare_ends.Goals as goal
 
 pub returns-clause-first : goal.returns-clause-first

@@ -1,6 +1,4 @@
-use Rattle.std.proofs.Common.{◌≡◌, ◌≢◌, ◌<◌, ℕ}
-use Rattle.std.specs.Prelude.{Some}
-use Rattle.std.specs.List.{slice_get}
+use Rattle.std.{proofs.Common.{◌≡◌, ◌≢◌, ◌<◌, ℕ}, specs.{Prelude.Some, List.slice_get}}
 use Rattle.every_schedule.specs.declared.exploration.Answer.{Answer}
 use Rattle.compared_ends.specs.Views.{viewed}
 use Rattle.compared_ends.proofs.extras.is_seen.Given as goal

@@ -1,9 +1,5 @@
-use Rattle.std.proofs.Common.{◌≡◌, ◌∙◌, refl, sym, arith}
-use Rattle.std.specs.Prelude.{None, Some}
-use Rattle.std.specs.List.{slice_get}
-use Rattle.std.proofs.lemmas.Option.{slice_get_read}
-use Rattle.compared_ends.specs.Views.{value_said}
-use Rattle.compared_ends.proofs.ValuesSaid.{none_of, silent_next, stops_here, stops_past}
+use Rattle.std.{proofs.{Common.{◌≡◌, ◌∙◌, refl, sym, arith}, lemmas.Option.slice_get_read}, specs.{Prelude.{None, Some}, List.slice_get}}
+use Rattle.compared_ends.{specs.Views.value_said, proofs.ValuesSaid.{none_of, silent_next, stops_here, stops_past}}
 use Rattle.compared_ends.proofs.views.next_said.Goals as goal
 
 pub loop-index-preserved : goal.loop-index-preserved

@@ -1,5 +1,4 @@
-use Rattle.std.proofs.Common.{◌≡◌, ◌≤◌, length, take}
-use Rattle.std.specs.Prelude.{◌-◌}
+use Rattle.std.{proofs.Common.{◌≡◌, ◌≤◌, length, take}, specs.Prelude.◌-◌}
 use Rattle.compared_ends.specs.Views.{said}
 use Rattle.compared_ends.proofs.views.next_said.Given as goal
 

@@ -1,10 +1,7 @@
-use Rattle.std.proofs.Common.{◌≡◌, ◌∙◌, ◌<◌, ◌+◌, length, refl, sym, ap, arith, rules, take}
-use Rattle.std.specs.Prelude.{None, Some}
-use Rattle.std.specs.List.{slice_get}
-use Rattle.std.proofs.lemmas.Option.{slice_get-get_or, slice_get_read}
+use Rattle.std.proofs.{Common.{◌≡◌, ◌∙◌, ◌<◌, ◌+◌, length, refl, sym, ap, arith, rules, take}, lemmas.Option.{slice_get-get_or, slice_get_read}}
+use Rattle.std.specs.{Prelude.Some, List.slice_get}
 use Rattle.fiber_frames.specs.declared.mark.Mark.TheVariants.{Cut}
-use Rattle.compared_ends.specs.Views.{said, value_said}
-use Rattle.compared_ends.proofs.ValuesSaid.{both_say, one_says_more, other_says_else, other_says_more, silent_next}
+use Rattle.compared_ends.{specs.Views.{said, value_said}, proofs.ValuesSaid.{both_say, one_says_more, other_says_else, other_says_more, silent_next}}
 use Rattle.compared_ends.proofs.views.same_said.Goals.{then-next-other-via-then-next-other, then-next-other-via-else-next-other+then-not-says}
 use Rattle.compared_ends.proofs.views.same_said.Goals.{in-Some+else-next-other+else-not-says, in_default}
 use Rattle.compared_ends.proofs.views.same_said.Goals as goal

@@ -1,6 +1,5 @@
 use Rattle.serde_json.specs.View.{view}
-use Rattle.derived_ops.specs.Expansion.{code_of}
-use Rattle.derived_ops.specs.Reading.{source_of}
+use Rattle.derived_ops.specs.{Expansion.code_of, Reading.source_of}
 use Rattle.comparison_answers.proofs.PairLemmas.{comparison_plain, within}
 use Rattle.comparison_answers.proofs.pairs.compared_answer.Goals as goal
 

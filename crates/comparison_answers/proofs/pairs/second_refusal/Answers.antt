@@ -1,7 +1,6 @@
 use Rattle.std.proofs.Common.{Bool, Ok, IfOk, codes, subst, sym}
 use Rattle.outcome_trace.proofs.AnswerLemmas.{refusal_answers}
-use Rattle.comparison_answers.specs.PairAnswers.{Refuses}
-use Rattle.comparison_answers.proofs.PairLemmas.{line_refused}
+use Rattle.comparison_answers.{specs.PairAnswers.Refuses, proofs.PairLemmas.line_refused}
 use Rattle.comparison_answers.proofs.pairs.second_refusal.Goals as goal
 
 pub returns-in_ok-refusal-2 : goal.returns-in_ok-refusal-2

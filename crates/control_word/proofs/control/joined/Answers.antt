@@ -1,5 +1,4 @@
-use Rattle.std.proofs.Common.{◌≡◌, ◌*◌, ◌%◌, ◌^◌, arith}
-use Rattle.std.proofs.lemmas.Nat.{or_shifted}
+use Rattle.std.proofs.{Common.{◌≡◌, ◌*◌, ◌%◌, ◌^◌, arith}, lemmas.Nat.or_shifted}
 use Rattle.control_word.proofs.control.joined.Goals as goal
 
 pub returns : goal.returns

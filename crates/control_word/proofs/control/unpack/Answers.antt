@@ -1,6 +1,5 @@
 use Rattle.std.proofs.Common.{sym, ap, ◌∙◌, eqb}
-use Rattle.control_word.specs.Word.{control_of}
-use Rattle.control_word.proofs.Fields.{unpacked}
+use Rattle.control_word.{specs.Word.control_of, proofs.Fields.unpacked}
 use Rattle.control_word.proofs.control.unpack.Goals as goal
 
 pub returns-clause-fields : goal.returns-clause-fields

@@ -1,8 +1,5 @@
-use Rattle.std.proofs.Common.{◌≡◌, ◌-◌, ◌%◌, ◌^◌, sym, ap, ◌∙◌, arith, pos, negsuc, bit_and}
-use Rattle.std.proofs.lemmas.Int.{ints}
-use Rattle.std.proofs.lemmas.Nat.{and_mask}
-use Rattle.effect_term.specs.Values.{bits_value, value_bits}
-use Rattle.effect_term.proofs.ValueLaws.{low_value, high_value, back, bits_lt}
+use Rattle.std.proofs.{Common.{◌≡◌, ◌-◌, ◌%◌, ◌^◌, sym, ap, ◌∙◌, arith, pos, negsuc, bit_and}, lemmas.{Int.ints, Nat.and_mask}}
+use Rattle.effect_term.{specs.Values.{bits_value, value_bits}, proofs.ValueLaws.{low_value, high_value, back, bits_lt}}
 use Rattle.control_word.proofs.value_words.word_value.Goals.{then-bits, else-bits}
 use Rattle.control_word.proofs.value_words.word_value.Goals as goal
 

@@ -1,7 +1,6 @@
 use Rattle.std.proofs.Common.{arith, rules}
-use Rattle.effect_term.specs.declared.term.Term.TheViews.{the_lemmas}
-use Rattle.effect_term.proofs.Faults.{faults, uses_of_all-at}
-use Rattle.effect_term.proofs.Rows.{sizes_of-row, total_size-at, uses_of_row-row}
+use Rattle.effect_term.{specs.declared.term.Term.TheViews.the_lemmas, proofs.{Faults.{faults, uses_of_all-at}, Rows.{sizes_of-row, total_size-at}}}
+use Rattle.effect_term.proofs.Rows.{uses_of_row-row}
 use Rattle.effect_term.proofs.names.+names.Goals as goal
 
 pub check_parts-check_in_order-requires : goal.check_parts-check_in_order-requires

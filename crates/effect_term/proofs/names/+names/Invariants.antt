@@ -1,6 +1,5 @@
 use Rattle.std.proofs.Common.{◌≡◌, ◌+◌, ◌*◌, drop}
-use Rattle.effect_term.specs.Names.{uses_of_all, first_fault}
-use Rattle.effect_term.specs.Sizes.{size_of, total_size}
+use Rattle.effect_term.specs.{Names.{uses_of_all, first_fault}, Sizes.{size_of, total_size}}
 use Rattle.effect_term.proofs.names.+names.Given as goal
 
 abbrev pub decreases-check_parts : goal.decreases-check_parts

@@ -1,5 +1,4 @@
-use Rattle.derived_ops.specs.Expansion.{code_of}
-use Rattle.derived_ops.specs.Reading.{source_of}
+use Rattle.derived_ops.specs.{Expansion.code_of, Reading.source_of}
 use Rattle.ending_answers.proofs.Endings.{ending_is, ending_short}
 use Rattle.ending_answers.proofs.decided.ending_of.Goals as goal
 

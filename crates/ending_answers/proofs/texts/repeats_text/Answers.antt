@@ -1,5 +1,4 @@
-use Rattle.std.proofs.Common.{◌≡◌, ◌++◌, ◌∷◌, [], ◌∙◌, ℕ, List, ap, append_assoc, string_bytes}
-use Rattle.std.specs.Prelude.{codes}
+use Rattle.std.{proofs.Common.{◌≡◌, ◌++◌, ◌∷◌, [], ◌∙◌, ℕ, List, ap, append_assoc}, specs.Prelude.codes}
 use Rattle.ending_answers.proofs.texts.repeats_text.Goals as goal
 
 joined : (f s m g e a b c d t : List ℕ) → a ≡ f → b ≡ a ++ s → c ≡ b ++ m → d ≡ c ++ g → t ≡ d ++ e →

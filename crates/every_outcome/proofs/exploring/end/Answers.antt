@@ -1,7 +1,6 @@
 use Rattle.std.proofs.Common.{◌<◌, length, Ok, sym, ap, subst}
 use Rattle.world_search.specs.declared.landings.Landing.{Landing}
-use Rattle.every_outcome.specs.Private.Telling.{IsEnd, IsWithin}
-use Rattle.every_outcome.proofs.Told.{at_within}
+use Rattle.every_outcome.{specs.Private.Telling.{IsEnd, IsWithin}, proofs.Told.at_within}
 use Rattle.every_outcome.proofs.exploring.end.Goals as goal
 
 pub returns-in_ok-outcomes-in-World : goal.returns-in_ok-outcomes-in-World

@@ -1,13 +1,9 @@
-use Rattle.std.proofs.Common.{◌≡◌, List, length, ap, arith}
-use Rattle.std.specs.Prelude.{Some}
-use Rattle.std.specs.List.{slice_get}
-use Rattle.derived_ops.specs.Expansion.{code_of}
-use Rattle.derived_ops.specs.Reading.{source_of}
+use Rattle.std.{proofs.Common.{◌≡◌, List, length, ap, arith}, specs.{Prelude.Some, List.slice_get}}
+use Rattle.derived_ops.specs.{Expansion.code_of, Reading.source_of}
 use Rattle.cell_registry.specs.declared.limits.Limits.{Limits}
 use Rattle.scheduled_core.specs.Core.{core}
-use Rattle.every_outcome.specs.Outcomes.{counted}
-use Rattle.every_outcome.specs.Places.{Place, first_place}
-use Rattle.every_outcome.proofs.Told.{all_under, all_within, covered, covered_under, numbered, once, reached, settled}
+use Rattle.every_outcome.{specs.{Outcomes.counted, Places.{Place, first_place}}, proofs.Told.{all_under, all_within, covered, covered_under, numbered, once}}
+use Rattle.every_outcome.proofs.Told.{reached, settled}
 use Rattle.every_outcome.proofs.exploring.explore_outcomes.Goals as goal
 
 pub told-requires-clause-within : goal.told-requires-clause-within

@@ -1,9 +1,6 @@
-use Rattle.std.proofs.Common.{◌≡◌, ◌++◌, List, [], ◌∷◌, length, sym, ap, ◌∙◌, subst, arith}
-use Rattle.std.specs.Vec.Iter.{into_iter_items}
-use Rattle.derived_ops.specs.Expansion.{code_of}
-use Rattle.derived_ops.specs.Reading.{source_of}
-use Rattle.every_outcome.specs.Places.{first_place}
-use Rattle.every_outcome.proofs.Listing.{SoFar, all_told, next_within, told_next}
+use Rattle.std.{proofs.Common.{◌≡◌, ◌++◌, List, [], ◌∷◌, length, sym, ap, ◌∙◌, subst, arith}, specs.Vec.Iter.into_iter_items}
+use Rattle.derived_ops.specs.{Expansion.code_of, Reading.source_of}
+use Rattle.every_outcome.{specs.Places.first_place, proofs.Listing.{SoFar, all_told, next_within, told_next}}
 use Rattle.every_outcome.proofs.exploring.told.Goals as goal
 
 nothing_left : {X : Type 0} (l : List X) → length l ≡ 0 → l ≡ []

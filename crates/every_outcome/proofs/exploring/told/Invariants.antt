@@ -1,9 +1,6 @@
-use Rattle.std.proofs.Common.{◌≡◌, length}
-use Rattle.std.specs.Vec.Iter.{into_iter_items, into_iter_len}
-use Rattle.derived_ops.specs.Expansion.{code_of}
-use Rattle.derived_ops.specs.Reading.{source_of}
-use Rattle.every_outcome.specs.Places.{first_place}
-use Rattle.every_outcome.proofs.Listing.{SoFar}
+use Rattle.std.{proofs.Common.{◌≡◌, length}, specs.Vec.Iter.{into_iter_items, into_iter_len}}
+use Rattle.derived_ops.specs.{Expansion.code_of, Reading.source_of}
+use Rattle.every_outcome.{specs.Places.first_place, proofs.Listing.SoFar}
 use Rattle.every_outcome.proofs.exploring.told.Given as goal
 
 -- the answers so far are listed, and the others are left

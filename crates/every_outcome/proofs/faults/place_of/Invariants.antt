@@ -1,6 +1,4 @@
-use Rattle.std.proofs.Common.{◌≡◌, ◌≢◌, ℕ, ◌<◌}
-use Rattle.std.specs.Prelude.{Some}
-use Rattle.std.specs.List.{slice_get}
+use Rattle.std.{proofs.Common.{◌≡◌, ◌≢◌, ℕ, ◌<◌}, specs.{Prelude.Some, List.slice_get}}
 use Rattle.cell_registry.specs.declared.limits.RunError.{RunError}
 use Rattle.every_outcome.proofs.faults.place_of.Given as goal
 

@@ -1,9 +1,7 @@
 use Rattle.std.proofs.Common.{◌<◌, ◌≤◌, ℕ, List, length, Ok, sym, ap, ◌∙◌, subst, arith}
 use Rattle.world_search.proofs.Lists.{get_low}
-use Rattle.every_outcome.specs.Places.{unmarked_place}
-use Rattle.every_outcome.specs.Private.Reduced.{IsTrail, behind}
-use Rattle.every_outcome.proofs.Leaps.{leapt_born, leapt_rests}
-use Rattle.every_outcome.proofs.Trails.{trail_more, trail_none, trail_one}
+use Rattle.every_outcome.{specs.{Places.unmarked_place, Private.Reduced.{IsTrail, behind}}, proofs.{Leaps.{leapt_born, leapt_rests}, Trails.trail_more}}
+use Rattle.every_outcome.proofs.Trails.{trail_none, trail_one}
 use Rattle.every_outcome.proofs.leaping.leap.Goals as goal
 
 pub returns-then-from-few_born-clause-goes : goal.returns-then-from-few_born-clause-goes
@@ -11,7 +9,7 @@ returns-then-from-few_born-clause-goes c =
     let w = c.args.world.now in
     let born = c.few_born.ensures.born in
     let past : length w.world.fibers ≤ c.args.fiber = omega arith in
-    leapt_rests w.limits w.world c.args.fiber past
+    leapt_rests c.args.stores w.limits w.world c.args.fiber past
 
 pub returns-then-from-few_born-clause-trail : goal.returns-then-from-few_born-clause-trail
 returns-then-from-few_born-clause-trail c = trail_none c.args.trail.now.items (unmarked_place c.args.world.now)
@@ -22,7 +20,8 @@ returns-clause-goes c =
     let born = c.few_born.ensures.born in
     let low : c.args.fiber < length w.world.fibers = omega arith in
     let g = get_low w.world.fibers c.args.fiber low in
-    leapt_born w.limits w.world c.args.fiber g.0 g.1 ∙ ap behind c.in_ok-enter.ensures.goes ∙ ap Ok (sym c.in_ok-push.ensures.goes)
+    leapt_born c.args.stores w.limits w.world c.args.fiber g.0 g.1 ∙ ap (behind c.args.stores) c.in_ok-enter.ensures.goes ∙
+    ap Ok (sym c.in_ok-push.ensures.goes)
 
 pub returns-clause-trail : goal.returns-clause-trail
 returns-clause-trail c =

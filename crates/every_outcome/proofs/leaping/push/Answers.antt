@@ -1,13 +1,11 @@
 use Rattle.std.proofs.Common.{◌≡◌, ℕ, suc, ◌+◌, ◌-◌, Ok, sym, ap, ◌∙◌, arith}
-use Rattle.every_outcome.specs.Places.{unmarked_place}
-use Rattle.every_outcome.specs.Private.Reduced.{pushed}
-use Rattle.every_outcome.proofs.Leaps.{pushed_next, pushed_none, pushed_stays}
-use Rattle.every_outcome.proofs.Trails.{trail_more, trail_none}
+use Rattle.every_outcome.{specs.{Places.unmarked_place, Private.Reduced.pushed}, proofs.{Leaps.{pushed_next, pushed_none, pushed_stays}, Trails.trail_more}}
+use Rattle.every_outcome.proofs.Trails.{trail_none}
 use Rattle.every_outcome.proofs.leaping.push.Goals as goal
 
 pub loop-move-init : goal.loop-move-init
 loop-move-init c = record {
-  goes = ap (λ i. pushed i (unmarked_place c.args.world.now)) (let e : 100 ≡ 100 - 0 = omega arith in e);
+  goes = ap (λ i. pushed c.args.stores i (unmarked_place c.args.world.now)) (let e : 100 ≡ 100 - 0 = omega arith in e);
   fits = c.requires;
   trail = trail_none c.args.trail.now.items (unmarked_place c.args.world.now);
 }
@@ -19,8 +17,8 @@ returns-then-not-moved-clause-goes c =
     let next = unmarked_place c.push_once.new.world in
     let m : ℕ = 100 - (c.loop-move._move + 1) in
     let left : 100 - c.loop-move._move ≡ suc m = omega arith in
-    sym (known.goes ∙ pushed_next (100 - c.loop-move._move) m (unmarked_place c.loop-move.world) next left told.goes ∙
-    pushed_stays m next (told.stays c.if-not-moved.true))
+    sym (known.goes ∙ pushed_next c.args.stores (100 - c.loop-move._move) m (unmarked_place c.loop-move.world) next left told.goes ∙
+    pushed_stays c.args.stores m next (told.stays c.if-not-moved.true))
 
 pub returns-then-not-moved-clause-trail : goal.returns-then-not-moved-clause-trail
 returns-then-not-moved-clause-trail c =
@@ -35,7 +33,7 @@ loop-move-preserved c =
     let m : ℕ = 100 - (c.loop-move._move + 1) in
     let left : 100 - c.loop-move._move ≡ suc m = omega arith in
     record {
-      goes = known.goes ∙ pushed_next (100 - c.loop-move._move) m (unmarked_place c.loop-move.world) next left told.goes;
+      goes = known.goes ∙ pushed_next c.args.stores (100 - c.loop-move._move) m (unmarked_place c.loop-move.world) next left told.goes;
       fits = told.fits;
       trail = trail_more c.args.trail.now.items c.loop-move.trail.items c.push_once.new.trail.items (unmarked_place c.args.world.now)
           (unmarked_place c.loop-move.world) (Ok next) known.trail told.trail;
@@ -46,4 +44,4 @@ returns-clause-goes c =
     let known = c.loop-move.invariant in
     let now = unmarked_place c.loop-move.world in
     let none : 100 - c.loop-move._move ≡ 0 = omega arith in
-    sym (known.goes ∙ ap (λ i. pushed i now) none ∙ pushed_none now)
+    sym (known.goes ∙ ap (λ i. pushed c.args.stores i now) none ∙ pushed_none c.args.stores now)

@@ -1,21 +1,18 @@
 use Rattle.std.proofs.Common.{ℕ, List, Ok, sym, ◌∙◌, subst}
-use Rattle.every_outcome.specs.Places.{unmarked_place}
-use Rattle.every_outcome.specs.Private.Reduced.{IsTrail}
-use Rattle.every_outcome.proofs.Leaps.{fiber_made, fiber_none}
-use Rattle.every_outcome.proofs.Trails.{trail_none, trail_one}
+use Rattle.every_outcome.{specs.{Places.unmarked_place, Private.Reduced.IsTrail}, proofs.{Leaps.{fiber_made, fiber_none}, Trails.{trail_none, trail_one}}}
 use Rattle.every_outcome.proofs.leaping.push_fiber.Goals as goal
 
-pub returns-then-not-has_own_move-clause-goes : goal.returns-then-not-has_own_move-clause-goes
-returns-then-not-has_own_move-clause-goes c =
-    sym (fiber_none (unmarked_place c.args.world.now) c.args.fiber (sym c.has_own_move.ensures ∙ c.if-not-has_own_move.true))
+pub returns-then-not-may_move-clause-goes : goal.returns-then-not-may_move-clause-goes
+returns-then-not-may_move-clause-goes c =
+    sym (fiber_none c.args.stores (unmarked_place c.args.world.now) c.args.fiber (sym c.may_move.ensures ∙ c.if-not-may_move.true))
 
-pub returns-then-not-has_own_move-clause-trail : goal.returns-then-not-has_own_move-clause-trail
-returns-then-not-has_own_move-clause-trail c = trail_none c.args.trail.now.items (unmarked_place c.args.world.now)
+pub returns-then-not-may_move-clause-trail : goal.returns-then-not-may_move-clause-trail
+returns-then-not-may_move-clause-trail c = trail_none c.args.trail.now.items (unmarked_place c.args.world.now)
 
 pub returns-clause-goes : goal.returns-clause-goes
 returns-clause-goes c =
-    sym (fiber_made (unmarked_place c.args.world.now) c.args.fiber (unmarked_place c.enter.new.self)
-    (sym c.has_own_move.ensures ∙ c.if-not-has_own_move.false) c.in-Ok.ensures.goes)
+    sym (fiber_made c.args.stores (unmarked_place c.args.world.now) c.args.fiber (unmarked_place c.enter.new.self)
+    (sym c.may_move.ensures ∙ c.if-not-may_move.false) c.in-Ok.ensures.goes)
 
 pub returns-clause-trail : goal.returns-clause-trail
 returns-clause-trail c =

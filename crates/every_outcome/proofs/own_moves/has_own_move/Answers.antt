@@ -1,8 +1,4 @@
-use Rattle.std.proofs.Common.{◌≡◌, sym, ◌∙◌, arith}
-use Rattle.std.specs.Prelude.{Some, None}
-use Rattle.std.specs.List.{slice_get}
-use Rattle.std.proofs.lemmas.Grind.{common_steps}
-use Rattle.std.proofs.lemmas.Option.{gets}
+use Rattle.std.{proofs.{Common.{◌≡◌, sym, ◌∙◌, arith}, lemmas.{Grind.common_steps, Option.gets}}, specs.{Prelude.{Some, None}, List.slice_get}}
 use Rattle.every_outcome.proofs.Own.{none_own, own_unmarked}
 use Rattle.every_outcome.proofs.own_moves.has_own_move.Goals as goal
 

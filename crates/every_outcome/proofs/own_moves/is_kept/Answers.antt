@@ -1,10 +1,7 @@
-use Rattle.std.proofs.Common.{◌≡◌, ◌≢◌, true, false, not, ◌||◌, nat_eq, sym, ap, ◌∙◌, subst}
-use Rattle.std.specs.Prelude.{Some}
+use Rattle.std.{proofs.{Common.{◌≡◌, ◌≢◌, true, false, not, ◌||◌, nat_eq, sym, ap, ◌∙◌, subst}, lemmas.Option.slice_get-get_or}, specs.Prelude.Some}
 use Rattle.std.specs.List.{slice_get}
-use Rattle.std.proofs.lemmas.Option.{slice_get-get_or}
 use Rattle.scheduled_core.specs.Fitting.{given_by}
-use Rattle.every_schedule.specs.Reduced.{keeps}
-use Rattle.every_schedule.proofs.Alone.{given_kept, itself, keeps_told, one_passes, one_stops}
+use Rattle.every_schedule.{specs.Reduced.keeps, proofs.Alone.{given_kept, itself, keeps_told, one_passes, one_stops}}
 use Rattle.every_outcome.proofs.own_moves.is_kept.Goals.{else-place-from-via-else-place-from, else-place-from-via-then-place-from+else-uses}
 use Rattle.every_outcome.proofs.own_moves.is_kept.Goals as goal
 

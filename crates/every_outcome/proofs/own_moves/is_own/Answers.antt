@@ -1,12 +1,7 @@
-use Rattle.std.proofs.Common.{◌≡◌, not, sym, ap, ◌∙◌}
-use Rattle.std.proofs.lemmas.Option.{slice_get_within}
-use Rattle.fiber_frames.specs.Fiber.{ask_of}
-use Rattle.fiber_frames.proofs.NamedMoves.{ask_named}
-use Rattle.scheduled_core.specs.declared.wish.Wish.TheVariants.{Shared, Alone, Nothing}
-use Rattle.scheduled_core.specs.Core.{wish_of}
-use Rattle.scheduled_core.specs.Fitting.{given_by}
-use Rattle.every_schedule.specs.Reduced.{is_own}
-use Rattle.every_schedule.proofs.Alone.{born_given, wanted_named}
+use Rattle.std.proofs.{Common.{◌≡◌, not, sym, ap, ◌∙◌}, lemmas.Option.slice_get_within}
+use Rattle.fiber_frames.{specs.Fiber.ask_of, proofs.NamedMoves.ask_named}
+use Rattle.scheduled_core.specs.{declared.wish.Wish.TheVariants.{Shared, Alone, Nothing}, Core.wish_of, Fitting.given_by}
+use Rattle.every_schedule.{specs.Reduced.is_own, proofs.Alone.{born_given, wanted_named}}
 use Rattle.every_outcome.proofs.own_moves.is_own.Goals as goal
 
 pub is_own_call-requires-clause-born : goal.is_own_call-requires-clause-born

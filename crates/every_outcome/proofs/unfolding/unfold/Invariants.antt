@@ -1,16 +1,14 @@
 use Rattle.std.proofs.Common.{◌≡◌, [], Ok, take}
-use Rattle.derived_ops.specs.Expansion.{code_of}
-use Rattle.derived_ops.specs.Reading.{source_of}
+use Rattle.derived_ops.specs.{Expansion.code_of, Reading.source_of}
 use Rattle.scheduled_core.specs.Fitting.{AllFit}
 use Rattle.world_search.specs.Systems.{run}
-use Rattle.every_outcome.specs.Places.{first_place, unmarked_place}
-use Rattle.every_outcome.specs.Private.Reduced.{IsTrail, leapt}
+use Rattle.every_outcome.specs.{Places.{first_place, unmarked_place}, Private.Reduced.{IsTrail, leapt}}
 use Rattle.every_outcome.proofs.unfolding.unfold.Given as goal
 
 -- the entries so far have led here, and so has the trail
 abbrev pub invariant-loop-fiber : goal.invariant-loop-fiber
 invariant-loop-fiber l = record {
   fits : AllFit l.world.world;
-  goes : run leapt (Ok (first_place (code_of (source_of l.program)) l.fn.limits)) (take l.fiber-index l.schedule) ≡ Ok (unmarked_place l.world);
+  goes : run (leapt l.stores) (Ok (first_place (code_of (source_of l.program)) l.fn.limits)) (take l.fiber-index l.schedule) ≡ Ok (unmarked_place l.world);
   trail : IsTrail [] l.trail.items (first_place (code_of (source_of l.program)) l.fn.limits) (Ok (unmarked_place l.world));
 }

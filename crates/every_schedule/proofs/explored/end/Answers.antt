@@ -1,7 +1,6 @@
 use Rattle.std.proofs.Common.{◌<◌, length, Ok, sym, ap, subst}
 use Rattle.world_search.specs.declared.landings.Landing.{Landing}
-use Rattle.every_schedule.specs.Private.Telling.{IsEnd, IsWithin}
-use Rattle.every_schedule.proofs.Told.{at_within}
+use Rattle.every_schedule.{specs.Private.Telling.{IsEnd, IsWithin}, proofs.Told.at_within}
 use Rattle.every_schedule.proofs.explored.end.Goals as goal
 
 pub returns-in_ok-report-in-World-clause-told : goal.returns-in_ok-report-in-World-clause-told

@@ -1,19 +1,10 @@
-use Rattle.std.proofs.Common.{◌≡◌, ◌<◌, ◌≤◌, ◌++◌, List, length, sym, ap, subst}
-use Rattle.std.specs.Prelude.{Some}
-use Rattle.std.specs.List.{All, slice_get}
-use Rattle.derived_ops.specs.Expansion.{code_of}
-use Rattle.derived_ops.specs.Reading.{source_of}
+use Rattle.std.{proofs.Common.{◌≡◌, ◌<◌, ◌≤◌, ◌++◌, List, length, sym, ap, subst}, specs.{Prelude.Some, List.{All, slice_get}}}
+use Rattle.derived_ops.specs.{Expansion.code_of, Reading.source_of}
 use Rattle.scheduled_core.specs.Core.{core}
+use Rattle.every_schedule.specs.{declared.exploration.Answer.Answer, Explored.{IsAnswered, IsCovered, IsReached, ListOnce}, Places.{Place, first_place}}
+use Rattle.every_schedule.{specs.Places.{report_at, stepped}, proofs.{Placed.core_run, Deadlocks.none_waits, Bare.reports_grow, Growing.size, Laws.alike}}
+use Rattle.every_schedule.proofs.{Laws.{ended, faultless}, Told.{all_within, answered, covered, numbered, reached, short, once}}
 use Rattle.world_search.specs.Answers as search
-use Rattle.every_schedule.specs.declared.exploration.Answer.{Answer}
-use Rattle.every_schedule.specs.Explored.{IsAnswered, IsCovered, IsReached, ListOnce}
-use Rattle.every_schedule.specs.Places.{Place, first_place, report_at, stepped}
-use Rattle.every_schedule.proofs.Placed.{core_run}
-use Rattle.every_schedule.proofs.Deadlocks.{none_waits}
-use Rattle.every_schedule.proofs.Bare.{reports_grow}
-use Rattle.every_schedule.proofs.Growing.{size}
-use Rattle.every_schedule.proofs.Laws.{alike, ended, faultless}
-use Rattle.every_schedule.proofs.Told.{all_within, answered, covered, numbered, reached, short, once}
 use Rattle.every_schedule.proofs.explored.explore_full.Goals as goal
 
 pub told-requires : goal.told-requires

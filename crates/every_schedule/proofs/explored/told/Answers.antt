@@ -1,8 +1,6 @@
-use Rattle.std.proofs.Common.{◌≡◌, ◌++◌, List, [], ◌∷◌, length, sym, ap, ◌∙◌, subst, arith, rules}
+use Rattle.std.proofs.{Common.{◌≡◌, ◌++◌, List, [], ◌∷◌, length, sym, ap, ◌∙◌, subst, arith, rules}, lemmas.List.Elements.{All-push, All-same}}
 use Rattle.std.specs.Vec.Iter.{into_iter_items}
-use Rattle.std.proofs.lemmas.List.Elements.{All-push, All-same}
-use Rattle.every_schedule.specs.Explored.{HasLawfulMarks}
-use Rattle.every_schedule.proofs.Listing.{SoFar, all_told, next_within, told_next}
+use Rattle.every_schedule.{specs.Explored.HasLawfulMarks, proofs.Listing.{SoFar, all_told, next_within, told_next}}
 use Rattle.every_schedule.proofs.explored.told.Goals as goal
 
 nothing_left : {X : Type 0} (l : List X) → length l ≡ 0 → l ≡ []

@@ -1,8 +1,5 @@
-use Rattle.std.proofs.Common.{◌≡◌, length}
-use Rattle.std.specs.List.{All}
-use Rattle.std.specs.Vec.Iter.{into_iter_items, into_iter_len}
-use Rattle.every_schedule.specs.Explored.{HasLawfulMarks}
-use Rattle.every_schedule.proofs.Listing.{SoFar}
+use Rattle.std.{proofs.Common.{◌≡◌, length}, specs.{List.All, Vec.Iter.{into_iter_items, into_iter_len}}}
+use Rattle.every_schedule.{specs.Explored.HasLawfulMarks, proofs.Listing.SoFar}
 use Rattle.every_schedule.proofs.explored.told.Given as goal
 
 -- the answers so far have their ends, and the others are left

@@ -1,10 +1,6 @@
-use Rattle.std.proofs.Common.{◌≡◌, List, ap}
-use Rattle.std.specs.Prelude.{Some}
-use Rattle.std.specs.List.{slice_get}
-use Rattle.derived_ops.specs.Expansion.{code_of}
-use Rattle.derived_ops.specs.Reading.{source_of}
-use Rattle.every_schedule.specs.Places.{Place, first_place}
-use Rattle.every_schedule.proofs.FairRuns.{are_right, ends, forever}
+use Rattle.std.{proofs.Common.{◌≡◌, List, ap}, specs.{Prelude.Some, List.slice_get}}
+use Rattle.derived_ops.specs.{Expansion.code_of, Reading.source_of}
+use Rattle.every_schedule.{specs.Places.{Place, first_place}, proofs.FairRuns.{are_right, ends, forever}}
 use Rattle.every_schedule.proofs.fair_endings.explore_ends.Goals as goal
 
 pub returns-clause-ends : goal.returns-clause-ends

@@ -1,8 +1,6 @@
-use Rattle.std.proofs.Common.{ap, ◌∙◌, subst}
-use Rattle.std.specs.Prelude.{Bool}
+use Rattle.std.{proofs.Common.{ap, ◌∙◌, subst}, specs.Prelude.Bool}
 use Rattle.fiber_frames.specs.Fiber.{waits_alone}
-use Rattle.scheduled_core.specs.declared.wish.Wish.{Wish}
-use Rattle.scheduled_core.specs.Core.{wish_of}
+use Rattle.scheduled_core.specs.{declared.wish.Wish.Wish, Core.wish_of}
 use Rattle.every_schedule.specs.Private.Knowing.{IsOwned}
 use Rattle.every_schedule.proofs.known.owned_of.Goals as goal
 

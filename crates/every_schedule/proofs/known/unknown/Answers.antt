@@ -1,6 +1,4 @@
-use Rattle.std.proofs.Common.{◌≡◌, [], inl, inr, sym, subst}
-use Rattle.std.specs.Prelude.{List, Option, Bool, Some, None}
-use Rattle.std.specs.List.{slice_get}
+use Rattle.std.{proofs.Common.{◌≡◌, [], inl, inr, sym, subst}, specs.{Prelude.{List, Option, Bool, Some, None}, List.slice_get}}
 use Rattle.world_search.proofs.Lists.{get_end}
 use Rattle.every_schedule.proofs.Knowing.{tell_none}
 use Rattle.every_schedule.proofs.known.unknown.Goals as goal

@@ -1,6 +1,4 @@
-use Rattle.std.proofs.Common.{◌≡◌, ℕ, Bool}
-use Rattle.std.specs.Prelude.{Option, Some, None}
-use Rattle.std.specs.List.{slice_get}
+use Rattle.std.{proofs.Common.{◌≡◌, ℕ, Bool}, specs.{Prelude.{Option, Some, None}, List.slice_get}}
 use Rattle.every_schedule.proofs.known.unknown.Given as goal
 
 -- no use so far was looked up

@@ -1,7 +1,5 @@
-use Rattle.std.proofs.Common.{rules, slice_index_or, ◌≡◌, sym, ◌∙◌, subst, arith}
-use Rattle.std.specs.Prelude.{Some}
-use Rattle.std.specs.List.{slice_get}
-use Rattle.std.proofs.lemmas.Option.{slice_get-get_or, same_Some, slice_get_within}
+use Rattle.std.proofs.{Common.{rules, slice_index_or, ◌≡◌, sym, ◌∙◌, subst, arith}, lemmas.Option.{slice_get-get_or, same_Some, slice_get_within}}
+use Rattle.std.specs.{Prelude.Some, List.slice_get}
 use mathlib.Core.Logic.{dite}
 use native.Mathlib.Decide.{ℕ_discrete}
 use Rattle.every_schedule.specs.Private.Reporting.{Alike}

@@ -1,6 +1,4 @@
-use Rattle.std.proofs.Common.{◌≡◌, ℕ, ◌<◌}
-use Rattle.std.specs.Prelude.{Some}
-use Rattle.std.specs.List.{slice_get}
+use Rattle.std.{proofs.Common.{◌≡◌, ℕ, ◌<◌}, specs.{Prelude.Some, List.slice_get}}
 use Rattle.every_schedule.specs.Private.Reporting.{Alike}
 use Rattle.every_schedule.proofs.reports.same_reports.Given as goal
 

@@ -1,10 +1,8 @@
 use Rattle.std.proofs.Common.{◌≡◌, ◌∙◌, None, sym, arith, rules, subst}
-use Rattle.fiber_frames.specs.declared.ask.Ask.TheVariants as ask
-use Rattle.fiber_frames.specs.Fiber.{outcome_of}
-use Rattle.fiber_frames.specs.Naming.{AskNamed}
-use Rattle.scheduled_core.specs.Fitting.{given_by}
-use Rattle.scheduled_core.proofs.Settling.{not_true, word_named}
+use Rattle.fiber_frames.specs.{Fiber.outcome_of, Naming.AskNamed}
+use Rattle.scheduled_core.{specs.Fitting.given_by, proofs.Settling.{not_true, word_named}}
 use Rattle.every_schedule.proofs.Unrest.{goes_on}
+use Rattle.fiber_frames.specs.declared.ask.Ask.TheVariants as ask
 use Rattle.every_schedule.proofs.resting.goes_on.Goals as goal
 
 pub has_ended-requires : goal.has_ended-requires

@@ -1,9 +1,5 @@
-use Rattle.std.proofs.Common.{◌≡◌, ◌⊎◌, ℕ, Some, sym, arith, subst}
-use Rattle.std.specs.List.{slice_get}
-use Rattle.std.proofs.lemmas.Grind.{common_steps}
-use Rattle.std.proofs.lemmas.Option.{gets}
-use Rattle.scheduled_core.specs.Finals.{HasEnded, IsAtRest}
-use Rattle.scheduled_core.specs.Fitting.{Fits, cell_registered}
+use Rattle.std.{proofs.{Common.{◌≡◌, ◌⊎◌, ℕ, Some, sym, arith, subst}, lemmas.{Grind.common_steps, Option.gets}}, specs.List.slice_get}
+use Rattle.scheduled_core.specs.{Finals.{HasEnded, IsAtRest}, Fitting.{Fits, cell_registered}}
 use Rattle.every_schedule.proofs.resting.some_goes_on.Goals as goal
 
 pub goes_on-requires : goal.goes_on-requires

@@ -1,8 +1,6 @@
-use Rattle.std.proofs.Common.{length, rules}
-use Rattle.std.proofs.lemmas.List.Sorted.{IsNonDecreasingBy-from_sort_by_key, IsPermutation-trans, answers_always, ties_still_rise}
+use Rattle.std.proofs.{Common.{length, rules}, lemmas.List.Sorted.{IsNonDecreasingBy-from_sort_by_key, IsPermutation-trans, answers_always, ties_still_rise}}
 use Rattle.world_search.specs.declared.answers.Answer.{Answer}
-use Rattle.every_schedule.specs.Private.Trails.{rank_of}
-use Rattle.every_schedule.proofs.Trails.{stands}
+use Rattle.every_schedule.{specs.Private.Trails.rank_of, proofs.Trails.stands}
 use Rattle.every_schedule.proofs.unfolding.sort.Goals as goal
 
 pub returns-clause-order : goal.returns-clause-order

@@ -1,17 +1,10 @@
-use Rattle.std.proofs.Common.{◌≡◌, ℕ, ◌≤◌, [], get_or, List, length, Ok, Err, refl, sym, ap, ◌∙◌, subst, arith}
-use Rattle.std.proofs.lemmas.List.{take_all}
-use Rattle.std.proofs.lemmas.List.Folds.{fold_stuck}
+use Rattle.std.proofs.{Common.{◌≡◌, ℕ, ◌≤◌, [], get_or, List, length, Ok, Err, refl, sym, ap, ◌∙◌, subst, arith}, lemmas.List.{take_all, Folds.fold_stuck}}
 use Rattle.std.proofs.lemmas.List.Sums.{fold_more}
-use Rattle.derived_ops.specs.Expansion.{code_of}
-use Rattle.derived_ops.specs.Reading.{source_of}
+use Rattle.derived_ops.specs.{Expansion.code_of, Reading.source_of}
 use Rattle.world_search.specs.Systems.{entered, run}
-use Rattle.every_schedule.specs.Places.{Place, first_place}
-use Rattle.every_schedule.specs.Reduced.{leapt}
+use Rattle.every_schedule.specs.{Places.{Place, first_place}, Reduced.leapt, Private.{Standing.here, Trails.{IsLeapTrail, IsTrail}}}
+use Rattle.every_schedule.proofs.{Leaps.refused_with, Trails.{leap_trail, trail_more, trail_none, trail_whole}}
 use Rattle.scheduled_core.specs.Fitting.{AllFit}
-use Rattle.every_schedule.specs.Private.Standing.{here}
-use Rattle.every_schedule.specs.Private.Trails.{IsLeapTrail, IsTrail}
-use Rattle.every_schedule.proofs.Leaps.{refused_with}
-use Rattle.every_schedule.proofs.Trails.{leap_trail, trail_more, trail_none, trail_whole}
 use Rattle.every_schedule.proofs.unfolding.unfold.Goals as goal
 
 pub loop-fiber-init : goal.loop-fiber-init

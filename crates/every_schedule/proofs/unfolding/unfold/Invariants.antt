@@ -1,12 +1,8 @@
 use Rattle.std.proofs.Common.{◌≡◌, [], Ok, take}
-use Rattle.derived_ops.specs.Expansion.{code_of}
-use Rattle.derived_ops.specs.Reading.{source_of}
+use Rattle.derived_ops.specs.{Expansion.code_of, Reading.source_of}
 use Rattle.scheduled_core.specs.Fitting.{AllFit}
 use Rattle.world_search.specs.Systems.{run}
-use Rattle.every_schedule.specs.Places.{first_place}
-use Rattle.every_schedule.specs.Reduced.{leapt}
-use Rattle.every_schedule.specs.Private.Standing.{here}
-use Rattle.every_schedule.specs.Private.Trails.{IsTrail}
+use Rattle.every_schedule.specs.{Places.first_place, Reduced.leapt, Private.{Standing.here, Trails.IsTrail}}
 use Rattle.every_schedule.proofs.unfolding.unfold.Given as goal
 
 -- the entries so far lead here, and so does the trail

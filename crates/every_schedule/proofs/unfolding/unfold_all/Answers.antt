@@ -1,17 +1,11 @@
-use Rattle.std.proofs.Common.{◌≡◌, ◌+◌, ℕ, List, sym, ◌∙◌, subst, refl, arith}
-use Rattle.std.specs.Prelude.{Some}
-use Rattle.std.specs.List.{slice_get}
-use Rattle.std.proofs.lemmas.Grind.{common_steps}
-use Rattle.std.proofs.lemmas.Option.{gets, slice_get_within}
-use Rattle.derived_ops.specs.Expansion.{code_of}
-use Rattle.derived_ops.specs.Reading.{source_of}
+use Rattle.std.proofs.{Common.{◌≡◌, ◌+◌, ℕ, List, sym, ◌∙◌, subst, refl, arith}, lemmas.{Grind.common_steps, Option.{gets, slice_get_within}}}
+use Rattle.std.specs.{Prelude.Some, List.slice_get}
+use Rattle.derived_ops.specs.{Expansion.code_of, Reading.source_of}
 use Rattle.world_search.specs.declared.answers.Answer.{Answer as Found}
-use Rattle.every_schedule.specs.Places.{first_place}
-use Rattle.every_schedule.specs.Private.Trails.{AreUnfolded, EndApart, EndsAlone, IsKeptIn, IsUnfolded}
-use Rattle.every_schedule.proofs.Trails.{EndsBefore, alone_here, alone_next, alone_sorted, apart_next, apart_sorted}
-use Rattle.every_schedule.proofs.Trails.{before_more, before_next, kept_next, kept_sorted, unfolded_next, unfolded_sorted}
+use Rattle.every_schedule.{specs.{Places.first_place, Private.Trails.{AreUnfolded, EndApart, EndsAlone, IsKeptIn, IsUnfolded}}, proofs.Trails.EndsBefore}
+use Rattle.every_schedule.proofs.Trails.{alone_here, alone_next, alone_sorted, apart_next, apart_sorted, before_more, before_next, kept_next, kept_sorted}
+use Rattle.every_schedule.proofs.{Trails.{unfolded_next, unfolded_sorted}, unfolding.unfold_all.Goals.{then-not-branch, else-not-branch}}
 use Rattle.every_schedule.proofs.unfolding.unfold_all.Goals as goal
-use Rattle.every_schedule.proofs.unfolding.unfold_all.Goals.{then-not-branch, else-not-branch}
 
 pub loop-i-preserved : goal.loop-i-preserved
 loop-i-preserved c =

@@ -1,12 +1,7 @@
-use Rattle.std.proofs.Common.{◌≡◌, ℕ, ◌<◌, true, false}
-use Rattle.std.specs.Prelude.{Some}
-use Rattle.std.specs.List.{slice_get}
-use Rattle.derived_ops.specs.Expansion.{code_of}
-use Rattle.derived_ops.specs.Reading.{source_of}
+use Rattle.std.{proofs.Common.{◌≡◌, ℕ, ◌<◌, true, false}, specs.{Prelude.Some, List.slice_get}}
+use Rattle.derived_ops.specs.{Expansion.code_of, Reading.source_of}
 use Rattle.world_search.specs.declared.answers.Answer.{Answer as Found}
-use Rattle.every_schedule.specs.Places.{first_place}
-use Rattle.every_schedule.specs.Private.Trails.{AreUnfolded, EndApart, EndsAlone, IsKeptIn, IsLeftOut}
-use Rattle.every_schedule.proofs.Trails.{EndsBefore}
+use Rattle.every_schedule.{specs.{Places.first_place, Private.Trails.{AreUnfolded, EndApart, EndsAlone, IsKeptIn, IsLeftOut}}, proofs.Trails.EndsBefore}
 use Rattle.every_schedule.proofs.unfolding.unfold_all.Given as goal
 
 -- the answers so far are unfolded; none was left out if the flag is true, and one was if it is false

@@ -1,12 +1,7 @@
-use Rattle.std.proofs.Common.{◌≡◌, ◌∙◌, ap, arith, sym, subst}
-use Rattle.std.proofs.Common.{Some as There}
-use Rattle.std.specs.List.{slice_get}
-use Rattle.derived_ops.specs.Expansion.{code_of}
-use Rattle.derived_ops.specs.Reading.{source_of}
+use Rattle.std.{proofs.Common.{◌≡◌, ◌∙◌, ap, arith, sym, subst, Some as There}, specs.List.slice_get}
+use Rattle.derived_ops.specs.{Expansion.code_of, Reading.source_of}
 use Rattle.scheduled_core.specs.Core.{core, reported}
-use Rattle.exploration_text.specs.Findings.{Shows}
-use Rattle.exploration_text.proofs.FirstFindings.{drawn_found}
-use Rattle.exploration_text.proofs.Sampled.{spellable}
+use Rattle.exploration_text.{specs.Findings.Shows, proofs.{FirstFindings.drawn_found, Sampled.spellable}}
 use Rattle.exploration_text.proofs.findings.finding_of_sample.Goals as goal
 
 pub returns : goal.returns

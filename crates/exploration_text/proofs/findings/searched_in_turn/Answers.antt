@@ -1,9 +1,7 @@
 use Rattle.std.proofs.Common.{Bool, ◌∙◌, refl, subst}
-use Rattle.derived_ops.specs.Expansion.{code_of}
-use Rattle.derived_ops.specs.Reading.{source_of}
+use Rattle.derived_ops.specs.{Expansion.code_of, Reading.source_of}
 use Rattle.world_search.specs.declared.answers.Bounds.{Bounds}
-use Rattle.exploration_text.specs.Findings.{IsFirst, bounds_within}
-use Rattle.exploration_text.proofs.FirstFindings.{fewer_worlds, last_first, min_low, more_first}
+use Rattle.exploration_text.{specs.Findings.{IsFirst, bounds_within}, proofs.FirstFindings.{fewer_worlds, last_first, min_low, more_first}}
 use Rattle.exploration_text.proofs.findings.searched_in_turn.Goals as goal
 
 pub returns-then-is_last : goal.returns-then-is_last

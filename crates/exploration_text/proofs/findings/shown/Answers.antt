@@ -1,6 +1,5 @@
 use Rattle.std.proofs.Common.{◌≡◌, true, inl, inr, length, ap, arith, sym, ◌∙◌, subst}
-use Rattle.exploration_text.specs.Findings.{HasEndedFirst, ended, final}
-use Rattle.exploration_text.specs.Wants.{is_failure}
+use Rattle.exploration_text.specs.{Findings.{HasEndedFirst, ended, final}, Wants.is_failure}
 use Rattle.exploration_text.proofs.findings.shown.Goals as goal
 
 pub returns-then-as_slice-entries : goal.returns-then-as_slice-entries

@@ -1,5 +1,4 @@
-use Rattle.std.proofs.Common.{◌≡◌, drop}
-use Rattle.std.specs.List.{list_any}
+use Rattle.std.{proofs.Common.{◌≡◌, drop}, specs.List.list_any}
 use Rattle.exploration_text.specs.Missing.{has_outcome}
 use Rattle.exploration_text.proofs.missing.answer_has.Given as goal
 

@@ -1,7 +1,5 @@
-use Rattle.std.proofs.Common.{false}
 use Rattle.std.specs.List.{list_any}
-use Rattle.exploration_text.specs.Missing.{has_outcome}
-use Rattle.exploration_text.proofs.MissingLines.{IsFront}
+use Rattle.exploration_text.{specs.Missing.has_outcome, proofs.MissingLines.IsFront}
 use Rattle.exploration_text.proofs.missing.missing_of_exploration.Given as goal
 
 abbrev pub invariant-loop-want : goal.invariant-loop-want

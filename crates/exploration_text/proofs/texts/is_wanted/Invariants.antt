@@ -1,5 +1,4 @@
-use Rattle.std.proofs.Common.{◌≡◌, drop}
-use Rattle.std.specs.List.{list_any}
+use Rattle.std.{proofs.Common.{◌≡◌, drop}, specs.List.list_any}
 use Rattle.exploration_text.specs.Wants.{first_outcome, is_met}
 use Rattle.exploration_text.proofs.texts.is_wanted.Given as goal
 

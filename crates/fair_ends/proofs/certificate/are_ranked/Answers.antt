@@ -1,9 +1,5 @@
-use Rattle.std.proofs.Common.{◌≡◌, ℕ, subst, arith}
-use Rattle.std.specs.Prelude.{Some}
+use Rattle.std.{proofs.{Common.{◌≡◌, ℕ, subst, arith}, lemmas.{Bool.cases_order, Grind.common_steps, Option.{gets, slice_get_within}}}, specs.Prelude.Some}
 use Rattle.std.specs.List.{slice_get}
-use Rattle.std.proofs.lemmas.Bool.{cases_order}
-use Rattle.std.proofs.lemmas.Grind.{common_steps}
-use Rattle.std.proofs.lemmas.Option.{gets, slice_get_within}
 use mathlib.Core.Logic.{inl, inr}
 use Rattle.fair_ends.proofs.certificate.are_ranked.Goals as goal
 

@@ -1,7 +1,5 @@
-use Rattle.std.proofs.Common.{◌≡◌, ℕ, ◌<◌, Some}
-use Rattle.std.specs.List.{slice_get}
-use Rattle.fair_ends.specs.declared.rank.Rank.{Rank}
-use Rattle.fair_ends.specs.Private.Ranks.{IsRanked}
+use Rattle.std.{proofs.Common.{◌≡◌, ℕ, ◌<◌, Some}, specs.List.slice_get}
+use Rattle.fair_ends.specs.{declared.rank.Rank.Rank, Private.Ranks.IsRanked}
 use Rattle.fair_ends.proofs.certificate.are_ranked.Given as goal
 
 abbrev pub invariant-loop-index : goal.invariant-loop-index

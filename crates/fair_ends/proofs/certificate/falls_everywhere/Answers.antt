@@ -1,12 +1,7 @@
-use Rattle.std.proofs.Common.{◌≡◌, length, subst, sym, arith}
-use Rattle.std.specs.Prelude.{Some}
+use Rattle.std.{proofs.{Common.{◌≡◌, length, subst, sym, arith}, lemmas.{Bool.cases_order, Grind.common_steps, Option.gets}}, specs.Prelude.Some}
 use Rattle.std.specs.List.{slice_get}
-use Rattle.std.proofs.lemmas.Bool.{cases_order}
-use Rattle.std.proofs.lemmas.Grind.{common_steps}
-use Rattle.std.proofs.lemmas.Option.{gets}
 use mathlib.Core.Logic.{inl, inr}
-use Rattle.fair_ends.specs.Private.Ranks.{LeadsOn}
-use Rattle.fair_ends.proofs.Ranked.{leads_row}
+use Rattle.fair_ends.{specs.Private.Ranks.LeadsOn, proofs.Ranked.leads_row}
 use Rattle.fair_ends.proofs.certificate.falls_everywhere.Goals as goal
 
 pub loop-fiber-preserved : goal.loop-fiber-preserved

@@ -1,7 +1,5 @@
-use Rattle.std.proofs.Common.{◌≡◌, ℕ, ◌<◌, Some}
-use Rattle.std.specs.List.{slice_get}
-use Rattle.fair_ends.specs.declared.rank.Rank.{Rank}
-use Rattle.fair_ends.specs.Private.Ranks.{LeadsOn}
+use Rattle.std.{proofs.Common.{◌≡◌, ℕ, ◌<◌, Some}, specs.List.slice_get}
+use Rattle.fair_ends.specs.{declared.rank.Rank.Rank, Private.Ranks.LeadsOn}
 use Rattle.fair_ends.proofs.certificate.falls_everywhere.Given as goal
 
 abbrev pub invariant-loop-fiber : goal.invariant-loop-fiber

@@ -1,6 +1,5 @@
 use Rattle.std.proofs.Common.{◌≡◌, subst}
-use Rattle.fair_ends.specs.declared.ending.Cycle.{Cycle}
-use Rattle.fair_ends.specs.Fair.{IsFairCycle}
+use Rattle.fair_ends.specs.{declared.ending.Cycle.Cycle, Fair.IsFairCycle}
 use Rattle.fair_ends.proofs.deciding.with_short_cycle.Goals as goal
 
 pub returns-in_ok-short-in-Repeats-clause-repeats : goal.returns-in_ok-short-in-Repeats-clause-repeats

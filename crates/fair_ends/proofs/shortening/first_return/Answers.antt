@@ -1,9 +1,6 @@
-use Rattle.std.proofs.Common.{get_or, refl, length, arith, ◌≡◌, ◌<◌, sym, ap, ◌∙◌, subst, Some, Ok}
-use Rattle.std.specs.List.{slice_get}
-use Rattle.std.proofs.lemmas.Option.{same_Some}
+use Rattle.std.{proofs.{Common.{get_or, refl, length, arith, ◌≡◌, ◌<◌, sym, ap, ◌∙◌, subst, Some, Ok}, lemmas.Option.same_Some}, specs.List.slice_get}
 use Rattle.world_search.proofs.Lists.{more_get, more_more, more_same}
-use Rattle.fair_ends.proofs.Found.{if_some}
-use Rattle.fair_ends.proofs.Landed.{alone_next}
+use Rattle.fair_ends.proofs.{Found.if_some, Landed.alone_next}
 use Rattle.fair_ends.proofs.shortening.first_return.Goals as goal
 
 pub loop-index-init : goal.loop-index-init

@@ -1,5 +1,4 @@
-use Rattle.std.proofs.Common.{◌≡◌, ◌<◌, Some, length, take}
-use Rattle.std.specs.List.{slice_get}
+use Rattle.std.{proofs.Common.{◌≡◌, ◌<◌, Some, length, take}, specs.List.slice_get}
 use Rattle.world_search.specs.Lists.{IsMore}
 use Rattle.fair_ends.specs.Private.Tables.{LeadsToWorld}
 use Rattle.fair_ends.proofs.shortening.first_return.Given as goal

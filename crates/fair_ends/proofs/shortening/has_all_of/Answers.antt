@@ -1,5 +1,4 @@
-use Rattle.std.proofs.Common.{arith}
-use Rattle.std.proofs.lemmas.Option.{slice_get_within}
+use Rattle.std.proofs.{Common.arith, lemmas.Option.slice_get_within}
 use Rattle.fair_ends.proofs.shortening.has_all_of.Goals as goal
 
 pub returns : goal.returns

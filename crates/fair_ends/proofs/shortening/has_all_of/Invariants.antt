@@ -1,5 +1,4 @@
-use Rattle.std.proofs.Common.{◌≡◌, ℕ, ◌<◌, Some, take}
-use Rattle.std.specs.List.{slice_get}
+use Rattle.std.{proofs.Common.{◌≡◌, ℕ, ◌<◌, Some, take}, specs.List.slice_get}
 use Rattle.world_search.specs.Lists.{IsIn}
 use Rattle.fair_ends.proofs.shortening.has_all_of.Given as goal
 

@@ -1,10 +1,6 @@
-use Rattle.std.proofs.Common.{◌≡◌, List, ℕ, sym, ap, ◌∙◌, subst, take, Some, Ok, inl, inr}
-use Rattle.std.specs.List.{slice_get}
-use Rattle.world_search.specs.Lists.{IsIn}
-use Rattle.world_search.specs.Systems.{run}
-use Rattle.fair_ends.specs.Fair.{IsFairCycle}
-use Rattle.fair_ends.specs.Private.Tables.{LeadsToWorld}
-use Rattle.fair_ends.proofs.Found.{if_some}
+use Rattle.std.{proofs.Common.{◌≡◌, List, ℕ, sym, ap, ◌∙◌, subst, take, Some, Ok, inl, inr}, specs.List.slice_get}
+use Rattle.world_search.specs.{Lists.IsIn, Systems.run}
+use Rattle.fair_ends.{specs.{Fair.IsFairCycle, Private.Tables.LeadsToWorld}, proofs.Found.if_some}
 use Rattle.fair_ends.proofs.shortening.shortened.Goals as goal
 
 pub returns-clause-cycle : goal.returns-clause-cycle

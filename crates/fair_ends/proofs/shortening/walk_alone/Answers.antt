@@ -1,10 +1,6 @@
-use Rattle.std.proofs.Common.{get_or, refl, length, arith, ◌≡◌, ◌<◌, ◌≤◌, Some, Ok, subst}
-use Rattle.std.specs.List.{slice_get}
-use Rattle.std.proofs.lemmas.List.{take_all}
+use Rattle.std.{proofs.{Common.{get_or, refl, length, arith, ◌≡◌, ◌<◌, ◌≤◌, Some, Ok, subst}, lemmas.List.take_all}, specs.List.slice_get}
 use Rattle.world_search.proofs.Lists.{more_more, more_same}
-use Rattle.fair_ends.specs.Private.Tables.{LeadsToWorld}
-use Rattle.fair_ends.proofs.Found.{if_some}
-use Rattle.fair_ends.proofs.Landed.{alone_next}
+use Rattle.fair_ends.{specs.Private.Tables.LeadsToWorld, proofs.{Found.if_some, Landed.alone_next}}
 use Rattle.fair_ends.proofs.shortening.walk_alone.Goals as goal
 
 pub loop-fiber-init : goal.loop-fiber-init

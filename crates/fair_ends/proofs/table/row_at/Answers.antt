@@ -1,7 +1,6 @@
 use Rattle.std.proofs.Common.{◌+◌, sym, subst, arith}
 use Rattle.world_search.proofs.Lists.{more_back, more_long, more_more}
-use Rattle.fair_ends.specs.Private.Tables.{AreEdges}
-use Rattle.fair_ends.proofs.Rows.{edges_more, edges_next, lands_on, row_of}
+use Rattle.fair_ends.{specs.Private.Tables.AreEdges, proofs.Rows.{edges_more, edges_next, lands_on, row_of}}
 use Rattle.fair_ends.proofs.table.row_at.Goals as goal
 
 pub loop-fiber-preserved : goal.loop-fiber-preserved

@@ -1,5 +1,4 @@
-use Rattle.std.proofs.Common.{◌≡◌, ◌<◌, Some, length}
-use Rattle.std.specs.List.{slice_get}
+use Rattle.std.{proofs.Common.{◌≡◌, ◌<◌, Some, length}, specs.List.slice_get}
 use Rattle.world_search.specs.Lists.{IsMore}
 use Rattle.fair_ends.specs.Private.Tables.{AreEdges}
 use Rattle.fair_ends.proofs.table.row_at.Given as goal

@@ -1,10 +1,7 @@
-use Rattle.std.proofs.Common.{◌≡◌, ℕ, List, [], ◌∷◌, sym, ap, ◌∙◌, subst, arith, length, length-append}
-use Rattle.std.specs.Prelude.{Some, Option, IfSome}
+use Rattle.std.{proofs.Common.{◌≡◌, ℕ, List, [], ◌∷◌, sym, ap, ◌∙◌, subst, arith, length, length-append}, specs.Prelude.{Some, Option, IfSome}}
 use Rattle.std.specs.List.{slice_get}
 use Rattle.world_search.proofs.Lists.{more_long, more_more}
-use Rattle.fair_ends.specs.declared.table.Row.{Row}
-use Rattle.fair_ends.specs.Private.Tables.{AreRows, IsRow}
-use Rattle.fair_ends.proofs.Rows.{rows_next}
+use Rattle.fair_ends.{specs.{declared.table.Row.Row, Private.Tables.{AreRows, IsRow}}, proofs.Rows.rows_next}
 use Rattle.fair_ends.proofs.table.table_of.Goals as goal
 
 pub loop-index-preserved : goal.loop-index-preserved

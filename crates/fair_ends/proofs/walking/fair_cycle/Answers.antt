@@ -1,14 +1,7 @@
-use Rattle.std.proofs.Common.{◌≡◌, ◌≢◌, ℕ, List, subst, arith, Ok}
+use Rattle.std.{proofs.{Common.{◌≡◌, ◌≢◌, ℕ, List, subst, arith, Ok}, lemmas.{Grind.common_steps, Option.gets}}, specs.{Prelude.Some, List.slice_get}}
 use mathlib.Core.Logic.{◌⊎◌}
-use Rattle.std.specs.Prelude.{Some}
-use Rattle.std.specs.List.{slice_get}
-use Rattle.std.proofs.lemmas.Grind.{common_steps}
-use Rattle.std.proofs.lemmas.Option.{gets}
-use Rattle.world_search.specs.Systems.{run}
-use Rattle.world_search.specs.Lists.{IsIn}
-use Rattle.fair_ends.specs.declared.table.Edge.{Edge}
-use Rattle.fair_ends.specs.Private.Tables.{IsStill, LandsOn, fault}
-use Rattle.fair_ends.proofs.Landed.{fair_at, lands_at, world_at}
+use Rattle.world_search.specs.{Systems.run, Lists.IsIn}
+use Rattle.fair_ends.{specs.{declared.table.Edge.Edge, Private.Tables.{IsStill, LandsOn, fault}}, proofs.Landed.{fair_at, lands_at, world_at}}
 use Rattle.fair_ends.proofs.walking.fair_cycle.Goals as goal
 
 pub returns : goal.returns

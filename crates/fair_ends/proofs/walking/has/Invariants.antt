@@ -1,5 +1,4 @@
-use Rattle.std.proofs.Common.{◌≢◌, ℕ, ◌<◌, Some}
-use Rattle.std.specs.List.{slice_get}
+use Rattle.std.{proofs.Common.{◌≢◌, ℕ, ◌<◌, Some}, specs.List.slice_get}
 use Rattle.fair_ends.proofs.walking.has.Given as goal
 
 -- none of the entries so far is the fiber's

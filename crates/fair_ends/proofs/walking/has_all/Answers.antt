@@ -1,13 +1,8 @@
-use Rattle.std.proofs.Common.{◌≡◌, length, subst, sym, ◌∙◌, arith}
-use Rattle.std.specs.Prelude.{Some}
-use Rattle.std.specs.List.{slice_get}
-use Rattle.std.proofs.lemmas.Bool.{cases_order}
-use Rattle.std.proofs.lemmas.Grind.{common_steps}
-use Rattle.std.proofs.lemmas.Option.{gets, same_Some, slice_get_within}
+use Rattle.std.proofs.{Common.{◌≡◌, length, subst, sym, ◌∙◌, arith}, lemmas.{Bool.cases_order, Grind.common_steps, Option.{gets, same_Some, slice_get_within}}}
+use Rattle.std.specs.{Prelude.Some, List.slice_get}
 use mathlib.Core.Logic.{◌⊎◌, inl, inr}
 use Rattle.world_search.specs.Lists.{IsIn}
-use Rattle.fair_ends.specs.declared.table.Edge.{Edge}
-use Rattle.fair_ends.specs.Private.Tables.{IsStill}
+use Rattle.fair_ends.specs.{declared.table.Edge.Edge, Private.Tables.IsStill}
 use Rattle.fair_ends.proofs.walking.has_all.Goals as goal
 
 pub loop-fiber-preserved : goal.loop-fiber-preserved

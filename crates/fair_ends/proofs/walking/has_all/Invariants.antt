@@ -1,9 +1,7 @@
-use Rattle.std.proofs.Common.{◌≡◌, ℕ, ◌<◌, Some}
-use Rattle.std.specs.List.{slice_get}
+use Rattle.std.{proofs.Common.{◌≡◌, ℕ, ◌<◌, Some}, specs.List.slice_get}
 use mathlib.Core.Logic.{◌⊎◌}
 use Rattle.world_search.specs.Lists.{IsIn}
-use Rattle.fair_ends.specs.declared.table.Edge.{Edge}
-use Rattle.fair_ends.specs.Private.Tables.{IsStill}
+use Rattle.fair_ends.specs.{declared.table.Edge.Edge, Private.Tables.IsStill}
 use Rattle.fair_ends.proofs.walking.has_all.Given as goal
 
 abbrev pub invariant-loop-fiber : goal.invariant-loop-fiber

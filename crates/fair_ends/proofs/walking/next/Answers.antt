@@ -1,11 +1,7 @@
-use Rattle.std.proofs.Common.{◌≡◌, ◌++◌, List, ℕ, sym, ap, ◌∙◌, subst, arith, Ok}
-use Rattle.std.specs.Prelude.{Some}
+use Rattle.std.{proofs.{Common.{◌≡◌, ◌++◌, List, ℕ, sym, ap, ◌∙◌, subst, arith, Ok}, lemmas.{Grind.common_steps, Option.gets}}, specs.Prelude.Some}
 use Rattle.std.specs.List.{slice_get}
-use Rattle.std.proofs.lemmas.Grind.{common_steps}
-use Rattle.std.proofs.lemmas.Option.{gets}
 use Rattle.world_search.specs.Systems.{run}
-use Rattle.fair_ends.specs.Private.Tables.{LandsOn}
-use Rattle.fair_ends.proofs.Landed.{walk_next}
+use Rattle.fair_ends.{specs.Private.Tables.LandsOn, proofs.Landed.walk_next}
 use Rattle.fair_ends.proofs.walking.next.Goals as goal
 
 pub returns-in_ok-extend_from_slice-in-Some : goal.returns-in_ok-extend_from_slice-in-Some

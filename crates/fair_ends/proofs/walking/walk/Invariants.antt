@@ -1,5 +1,4 @@
-use Rattle.std.proofs.Common.{◌≡◌, Some, Ok as GoesWell}
-use Rattle.std.specs.List.{slice_get}
+use Rattle.std.{proofs.Common.{◌≡◌, Some, Ok as GoesWell}, specs.List.slice_get}
 use Rattle.world_search.specs.Systems.{run}
 use Rattle.fair_ends.specs.Private.Tables.{LandsOn}
 use Rattle.fair_ends.proofs.walking.walk.Given as goal

@@ -1,10 +1,7 @@
 use Rattle.std.proofs.Common.{◌≡◌, ℕ, sym, ap, ◌∙◌, subst}
 use Rattle.fiber_frames.specs.Fiber.{ask_of}
 use Rattle.cell_registry.specs.Plain.{MayCall}
-use Rattle.scheduled_core.specs.declared.wish.Wish.TheVariants.{Shared}
-use Rattle.scheduled_core.specs.Core.{wish_of}
-use Rattle.scheduled_core.proofs.AskTells.{asking}
-use Rattle.scheduled_core.proofs.Moves.{may_call}
+use Rattle.scheduled_core.{specs.{declared.wish.Wish.TheVariants.Shared, Core.wish_of}, proofs.{AskTells.asking, Moves.may_call}}
 use Rattle.fiber_events.proofs.telling.foresee.Goals as goal
 
 pub answer-requires : goal.answer-requires

@@ -1,15 +1,9 @@
 use Rattle.std.proofs.Common.{◌≡◌, List, sym, ap, ◌∙◌, subst}
-use Rattle.derived_ops.specs.Expansion.{code_of}
-use Rattle.derived_ops.specs.Reading.{source_of}
+use Rattle.derived_ops.specs.{Expansion.code_of, Reading.source_of}
 use Rattle.fiber_frames.specs.Fiber.{Fiber}
-use Rattle.cell_registry.specs.Cells.{Cells, opening}
-use Rattle.cell_registry.specs.Plain.{PlainView}
-use Rattle.scheduled_core.specs.Core.{first_world}
-use Rattle.scheduled_core.specs.Fitting.{AllFit, world_of}
-use Rattle.fiber_events.specs.declared.event.Event.{Event}
-use Rattle.fiber_events.specs.Events.{AreEvents}
-use Rattle.fiber_events.specs.Private.Telling.{IsCourse}
-use Rattle.fiber_events.proofs.Courses.{end_told}
+use Rattle.cell_registry.specs.{Cells.{Cells, opening}, Plain.PlainView}
+use Rattle.scheduled_core.specs.{Core.first_world, Fitting.{AllFit, world_of}}
+use Rattle.fiber_events.{specs.{declared.event.Event.Event, Events.AreEvents, Private.Telling.IsCourse}, proofs.Courses.end_told}
 use Rattle.fiber_events.proofs.telling.replay_events.Goals as goal
 
 pub tell_entries-requires-clause-fits : goal.tell_entries-requires-clause-fits

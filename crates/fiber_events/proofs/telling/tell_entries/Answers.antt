@@ -1,15 +1,10 @@
-use Rattle.std.proofs.Common.{◌≡◌, ℕ, ◌+◌, List, [], inl, inr, get_or, take, length, Ok, Err, refl, sym, ap, ◌∙◌, subst, arith, ◌≤◌}
-use Rattle.std.specs.Prelude.{Some, Result}
-use Rattle.std.specs.Option.{option_to_list}
-use Rattle.std.proofs.lemmas.List.{take_all}
-use Rattle.cell_registry.specs.declared.limits.Limits.{Limits}
-use Rattle.cell_registry.specs.declared.limits.RunError.{RunError}
+use Rattle.std.proofs.{Common.{◌≡◌, ℕ, ◌+◌, List, [], inl, inr, get_or, take, length, Ok, Err, refl, sym, ap, ◌∙◌, subst, arith, ◌≤◌}, lemmas.List.take_all}
+use Rattle.std.specs.{Prelude.{Some, Result}, Option.option_to_list}
+use Rattle.cell_registry.specs.declared.limits.{Limits.Limits, RunError.RunError}
+use Rattle.scheduled_core.specs.{Fitting.world_of, Core.{World, entered}}
+use Rattle.fiber_events.{specs.{declared.event.Event.Event, Events.{AreEvents, IsEntry, all, led, no_entry}}, proofs.Courses.{events_more, led_more}}
+use Rattle.fiber_events.proofs.Courses.{stopped_course}
 use Rattle.cell_registry.specs.declared.limits.RunError.TheVariants as run
-use Rattle.scheduled_core.specs.Fitting.{world_of}
-use Rattle.scheduled_core.specs.Core.{World, entered}
-use Rattle.fiber_events.specs.declared.event.Event.{Event}
-use Rattle.fiber_events.specs.Events.{AreEvents, IsEntry, all, led, no_entry}
-use Rattle.fiber_events.proofs.Courses.{events_more, led_more, stopped_course}
 use Rattle.fiber_events.proofs.telling.tell_entries.Goals as goal
 
 pub loop-made-init : goal.loop-made-init

@@ -1,18 +1,10 @@
-use Rattle.std.proofs.Common.{◌≡◌, ℕ, List, inr, sym, ap, ◌∙◌, subst, refl, arith, length}
-use Rattle.std.specs.Prelude.{Option, Some}
-use Rattle.std.specs.List.{slice_get}
-use Rattle.std.proofs.lemmas.Grind.{common_steps}
-use Rattle.std.proofs.lemmas.Option.{gets, slice_get_past}
-use Rattle.std.proofs.lemmas.Result.{err_from_is_err_and}
-use Rattle.fiber_frames.specs.declared.mark.Mark.{Mark}
-use Rattle.fiber_frames.specs.Fiber.{Fiber}
+use Rattle.std.proofs.{Common.{◌≡◌, ℕ, List, inr, sym, ap, ◌∙◌, subst, refl, arith, length}, lemmas.{Grind.common_steps, Option.{gets, slice_get_past}}}
+use Rattle.std.{proofs.lemmas.Result.err_from_is_err_and, specs.{Prelude.{Option, Some}, List.slice_get}}
+use Rattle.fiber_frames.specs.{declared.mark.Mark.Mark, Fiber.Fiber}
 use Rattle.cell_registry.specs.Plain.{PlainView}
-use Rattle.scheduled_core.specs.Fitting.{Fits, cell_registered, world_of}
-use Rattle.scheduled_core.specs.Private.Moving.{Refuses}
-use Rattle.fiber_events.specs.declared.event.Deed.{Deed}
-use Rattle.fiber_events.specs.Events.{idles, over, unborn}
-use Rattle.fiber_events.specs.Private.Telling.{IsForeseen}
-use Rattle.fiber_events.proofs.Foreseen.{left_same, refused_here, stays, told}
+use Rattle.scheduled_core.specs.{Fitting.{Fits, cell_registered, world_of}, Private.Moving.Refuses}
+use Rattle.fiber_events.{specs.{declared.event.Deed.Deed, Events.{idles, over, unborn}, Private.Telling.IsForeseen}, proofs.Foreseen.{left_same, refused_here}}
+use Rattle.fiber_events.proofs.Foreseen.{stays, told}
 use Rattle.fiber_events.proofs.telling.tell_entry.Goals as goal
 
 pub returns-then-place-len-clause-told : goal.returns-then-place-len-clause-told

@@ -1,5 +1,4 @@
-use Rattle.std.proofs.Common.{◌≡◌, ◌++◌, take}
-use Rattle.fiber_frames.specs.Shapes.{numbers_in}
+use Rattle.fiber_frames.proofs.Prelude.{◌≡◌, ◌++◌, take, numbers_in}
 use Rattle.fiber_frames.proofs.shapes.add_masks.Given as goal
 
 -- the masks so far

@@ -1,5 +1,4 @@
-use Rattle.std.proofs.Common.{◌≡◌, map, take}
-use Rattle.fiber_frames.specs.Shapes.{entry_placed}
+use Rattle.fiber_frames.proofs.Prelude.{◌≡◌, map, take, entry_placed}
 use Rattle.fiber_frames.proofs.shapes.place_entries.Given as goal
 
 -- the entries so far

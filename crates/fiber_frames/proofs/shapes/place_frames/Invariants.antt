@@ -1,5 +1,4 @@
-use Rattle.std.proofs.Common.{◌≡◌, map, take}
-use Rattle.fiber_frames.specs.Shapes.{frame_placed}
+use Rattle.fiber_frames.proofs.Prelude.{◌≡◌, map, take, frame_placed}
 use Rattle.fiber_frames.proofs.shapes.place_frames.Given as goal
 
 -- the frames so far

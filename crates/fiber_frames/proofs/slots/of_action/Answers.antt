@@ -1,9 +1,6 @@
-use Rattle.std.proofs.Common.{ℕ, sym, subst}
+use Rattle.fiber_frames.proofs.Prelude.{ℕ, sym, subst, action_in_core, Env, close_action, handle_or, Needs}
 use Rattle.derived_ops.specs.declared.core_term.Action.{Action}
-use Rattle.derived_ops.specs.Cores.{action_in_core}
 use Rattle.derived_ops.specs.Tree as tree
-use Rattle.fiber_frames.specs.Env.{Env, close_action, handle_or}
-use Rattle.fiber_frames.specs.SlotNames.{Needs}
 use Rattle.fiber_frames.proofs.SlotSets.{needs_two}
 use Rattle.fiber_frames.proofs.slots.of_action.Goals as goal
 

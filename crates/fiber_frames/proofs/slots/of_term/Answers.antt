@@ -1,10 +1,5 @@
-use Rattle.std.proofs.Common.{◌≡◌, ◌+◌, sym, ap, ◌∙◌, subst, arith}
-use Rattle.std.proofs.lemmas.Bool.{lt-ltb}
-use Rattle.derived_ops.specs.declared.core_word.CoreWord.{CoreWord}
-use Rattle.derived_ops.specs.Words.{second, third, word_at, word_tree}
-use Rattle.derived_ops.proofs.Words.{word_inside}
-use Rattle.fiber_frames.specs.Env.{Env, close}
-use Rattle.fiber_frames.specs.SlotNames.{Needs, many_parts}
+use Rattle.fiber_frames.proofs.Prelude.{◌≡◌, ◌+◌, sym, ap, ◌∙◌, subst, arith, lt-ltb, CoreWord, second, third, word_at, word_tree, word_inside, Env, close}
+use Rattle.fiber_frames.proofs.Prelude.{Needs, many_parts}
 use Rattle.fiber_frames.proofs.SlotSets.{nothing, part_needs, word_needs}
 use Rattle.fiber_frames.proofs.slots.of_term.Goals as goal
 

@@ -1,14 +1,9 @@
-use Rattle.std.proofs.Common.{◌≡◌, ◌-◌, ◌∙◌, length, arith}
-use Rattle.std.proofs.lemmas.Grind.{common_steps}
-use Rattle.std.proofs.lemmas.List.{length-set}
+use Rattle.fiber_frames.proofs.Prelude.{◌≡◌, ◌-◌, ◌∙◌, length, arith, common_steps, length-set}
 use Rattle.fiber_frames.proofs.SlotSets.{past_needs, set_needs}
 use Rattle.fiber_frames.proofs.slots.slots_of.Goals as goal
 
 pub loop-done-init : goal.loop-done-init
-loop-done-init c = record {
-  many = grind (arith, common_steps);
-  last = λ j h. past_needs c.args.words.now j _ (omega arith);
-}
+loop-done-init c = record { many = grind (arith, common_steps); last = λ j h. past_needs c.args.words.now j _ (omega arith) }
 
 pub loop-done-preserved : goal.loop-done-preserved
 loop-done-preserved c =
@@ -18,6 +13,5 @@ loop-done-preserved c =
     let test = c.loop-done-test.true in
     record {
       many = length-set slots i c.of_term.result ∙ many;
-      last = λ j h. set_needs c.args.words.now slots i c.of_term.result (omega arith) c.of_term.ensures j
-          (λ isnt. c.loop-done.invariant.last j (omega arith));
+      last = λ j h. set_needs c.args.words.now slots i c.of_term.result (omega arith) c.of_term.ensures j (λ isnt. c.loop-done.invariant.last j (omega arith));
     }

@@ -1,5 +1,4 @@
-use Rattle.std.proofs.Common.{◌≡◌, ◌+◌, ◌≤◌, ℕ, length, slice_index}
-use Rattle.fiber_frames.specs.SlotNames.{NeedsAt}
+use Rattle.fiber_frames.proofs.Prelude.{◌≡◌, ◌+◌, ◌≤◌, ℕ, length, slice_index, NeedsAt}
 use Rattle.fiber_frames.proofs.slots.slots_of.Given as goal
 
 -- the last words have their slots

@@ -1,8 +1,4 @@
-use Rattle.std.proofs.Common.{◌≡◌, ◌<◌, ℕ, ◌+◌, refl, sym, ap, ◌∙◌, subst, arith}
-use Rattle.derived_ops.specs.Words.{second, word_at}
-use Rattle.derived_ops.proofs.Words.{word_inside}
-use Rattle.fiber_frames.specs.Hits.{term_hits}
-use Rattle.fiber_frames.specs.SlotNames.{many_parts}
+use Rattle.fiber_frames.proofs.Prelude.{◌≡◌, ◌<◌, ℕ, ◌+◌, refl, sym, ap, ◌∙◌, subst, arith, second, word_at, word_inside, term_hits, many_parts}
 use Rattle.fiber_frames.proofs.WordHits.{term_ends, term_first, term_front, term_next, term_own, term_past}
 use Rattle.fiber_frames.proofs.uses.+term_uses.Goals as goal
 use Rattle.fiber_frames.proofs.uses.+term_uses.Goals.{else-parts-gt1-via-then-parts-gt1+else-term_uses, else-parts-gt1-via-else-parts-gt1}

@@ -1,5 +1,4 @@
-use Rattle.std.proofs.Common.{length, ◌-◌, ◌≡◌, ◌≤◌, ℕ}
-use Rattle.fiber_frames.specs.Hits.{term_hits}
+use Rattle.fiber_frames.proofs.Prelude.{length, ◌-◌, ◌≡◌, ◌≤◌, ℕ, term_hits}
 use Rattle.fiber_frames.proofs.uses.+term_uses.Given as goal
 
 abbrev pub decreases-term_uses : goal.decreases-term_uses

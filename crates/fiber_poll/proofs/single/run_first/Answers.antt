@@ -1,6 +1,5 @@
 use Rattle.std.proofs.Common.{inr, subst}
-use Rattle.fiber_poll.specs.Futures.{Comes}
-use Rattle.fiber_poll.specs.Tasks.{TaskView}
+use Rattle.fiber_poll.specs.{Futures.Comes, Tasks.TaskView}
 use Rattle.fiber_poll.proofs.single.run_first.Goals as goal
 
 pub returns-in-Ok : goal.returns-in-Ok

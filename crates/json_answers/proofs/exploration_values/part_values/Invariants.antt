@@ -1,6 +1,5 @@
 use Rattle.std.proofs.Common.{List, ◌++◌, drop, map}
-use Rattle.serde_json.specs.Data.{Data}
-use Rattle.serde_json.specs.View.{view}
+use Rattle.serde_json.specs.{Data.Data, View.view}
 use Rattle.json_answers.specs.ExplorationData.{IsPartData}
 use Rattle.json_answers.proofs.exploration_values.part_values.Given as goal
 

@@ -1,6 +1,5 @@
 use Rattle.std.proofs.Common.{◌∙◌, ap, arith}
-use Rattle.json_answers.specs.ReportData.{fiber_data}
-use Rattle.json_answers.proofs.Behind.{all_fibers, one_fiber}
+use Rattle.json_answers.{specs.ReportData.fiber_data, proofs.Behind.{all_fibers, one_fiber}}
 use Rattle.json_answers.proofs.report_values.fiber_values.Goals as goal
 
 pub loop-fiber-preserved : goal.loop-fiber-preserved

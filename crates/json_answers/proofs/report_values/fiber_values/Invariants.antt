@@ -1,7 +1,6 @@
 use Rattle.std.proofs.Common.{◌≡◌, drop, vec_len}
 use Rattle.serde_json.specs.View.{items_view}
-use Rattle.json_answers.specs.ReportData.{fibers_items}
-use Rattle.json_answers.proofs.Behind.{items_behind}
+use Rattle.json_answers.{specs.ReportData.fibers_items, proofs.Behind.items_behind}
 use Rattle.json_answers.proofs.report_values.fiber_values.Given as goal
 
 -- followed by the values of the fibers that are left, the values so far are those of all fibers

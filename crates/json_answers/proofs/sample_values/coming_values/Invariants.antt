@@ -1,6 +1,5 @@
 use Rattle.std.proofs.Common.{List, ◌++◌, drop, map}
-use Rattle.serde_json.specs.Data.{Data}
-use Rattle.serde_json.specs.View.{view}
+use Rattle.serde_json.specs.{Data.Data, View.view}
 use Rattle.json_answers.specs.SampleData.{AreComingsData}
 use Rattle.json_answers.proofs.sample_values.coming_values.Given as goal
 

@@ -1,5 +1,4 @@
-use Rattle.std.proofs.Common.{◌≡◌, false}
-use Rattle.std.specs.List.{AllWithin}
+use Rattle.std.{proofs.Common.{◌≡◌, false}, specs.List.AllWithin}
 use Rattle.model_claims.specs.Judging.{decides}
 use Rattle.model_claims.proofs.judging.first_decisive.Given as goal
 

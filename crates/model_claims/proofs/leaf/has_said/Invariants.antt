@@ -1,5 +1,4 @@
-use Rattle.std.proofs.Common.{◌≡◌, drop}
-use Rattle.std.specs.List.{list_all}
+use Rattle.std.{proofs.Common.{◌≡◌, drop}, specs.List.list_all}
 use Rattle.model_claims.specs.Leaves.{has_value}
 use Rattle.model_claims.proofs.leaf.has_said.Given as goal
 

@@ -1,6 +1,4 @@
-use Rattle.std.proofs.Common.{◌≡◌, drop}
-use Rattle.std.specs.List.{list_any}
-use Rattle.std.specs.Ordering.{int_eq}
+use Rattle.std.{proofs.Common.{◌≡◌, drop}, specs.{List.list_any, Ordering.int_eq}}
 use Rattle.model_claims.proofs.leaf.has_value.Given as goal
 
 abbrev pub invariant-loop-one : goal.invariant-loop-one

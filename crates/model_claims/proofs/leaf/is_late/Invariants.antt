@@ -1,5 +1,4 @@
-use Rattle.std.proofs.Common.{◌≡◌, drop, false}
-use Rattle.std.specs.List.{list_any}
+use Rattle.std.{proofs.Common.{◌≡◌, drop, false}, specs.List.list_any}
 use Rattle.model_claims.specs.Leaves.{follows_late, says_of}
 use Rattle.model_claims.proofs.leaf.is_late.Given as goal
 

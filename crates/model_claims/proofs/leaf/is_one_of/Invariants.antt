@@ -1,5 +1,4 @@
-use Rattle.std.proofs.Common.{◌≡◌, drop}
-use Rattle.std.specs.List.{list_any}
+use Rattle.std.{proofs.Common.{◌≡◌, drop}, specs.List.list_any}
 use Rattle.model_claims.specs.Leaves.{is_wanted}
 use Rattle.model_claims.proofs.leaf.is_one_of.Given as goal
 

@@ -1,5 +1,4 @@
-use Rattle.std.proofs.Common.{◌≡◌, take}
-use Rattle.std.specs.List.{fold}
+use Rattle.std.{proofs.Common.{◌≡◌, take}, specs.List.fold}
 use Rattle.model_claims.specs.Conditions.{step}
 use Rattle.model_claims.proofs.truth.run.Given as goal
 

@@ -1,5 +1,4 @@
-use Rattle.std.proofs.Common.{◌≡◌, take, None}
-use Rattle.std.specs.List.{fold}
+use Rattle.std.{proofs.Common.{◌≡◌, take, None}, specs.List.fold}
 use Rattle.model_claims.specs.Conditions.{watched, with_moment}
 use Rattle.model_claims.proofs.truth.watched_truth.Given as goal
 

@@ -1,7 +1,5 @@
 use Rattle.std.proofs.Common.{[], refl, rules}
-use Rattle.model_forms.specs.Rows.{nothing}
-use Rattle.model_forms.proofs.Refusals.{refused}
-use Rattle.model_forms.proofs.Steps.{is_fault}
+use Rattle.model_forms.{specs.Rows.nothing, proofs.{Refusals.refused, Steps.is_fault}}
 use Rattle.model_forms.proofs.reader.read_forms.Goals as goal
 
 pub loop-token-init : goal.loop-token-init

@@ -1,7 +1,5 @@
 use Rattle.std.proofs.Common.{[], ◌∷◌, ap, subst}
-use Rattle.model_forms.specs.Seen.{seen, EndsBehind}
-use Rattle.model_forms.specs.Rows.{nothing, a_word, a_text}
-use Rattle.model_forms.proofs.Steps.{has_opened, has_closed, has_more}
+use Rattle.model_forms.{specs.{Seen.{seen, EndsBehind}, Rows.{nothing, a_word, a_text}}, proofs.Steps.{has_opened, has_closed, has_more}}
 use Rattle.model_forms.proofs.reader.take_token.Goals as goal
 
 pub returns-in_ok-open_list-in-Open-clause-more : goal.returns-in_ok-open_list-in-Open-clause-more

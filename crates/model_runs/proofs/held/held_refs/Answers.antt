@@ -1,6 +1,5 @@
 use Rattle.std.proofs.Common.{◌≡◌, sym, ap, subst}
-use Rattle.cell_registry.specs.Cells.{Cells, opening}
-use Rattle.cell_registry.specs.Plain.{PlainView}
+use Rattle.cell_registry.specs.{Cells.{Cells, opening}, Plain.PlainView}
 use Rattle.scheduled_core.specs.Fitting.{AllFit, world_of}
 use Rattle.model_runs.proofs.held.held_refs.Goals as goal
 

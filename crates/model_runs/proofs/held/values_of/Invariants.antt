@@ -1,5 +1,4 @@
-use Rattle.std.proofs.Common.{◌≡◌}
-use Rattle.std.specs.List.{All}
+use Rattle.std.{proofs.Common.◌≡◌, specs.List.All}
 use Rattle.model_runs.specs.Holding.{IsHeldIn}
 use Rattle.model_runs.proofs.held.values_of.Given as goal
 

@@ -1,5 +1,4 @@
-use Rattle.std.proofs.Common.{◌≡◌, drop}
-use Rattle.std.specs.List.{list_all}
+use Rattle.std.{proofs.Common.{◌≡◌, drop}, specs.List.list_all}
 use Rattle.model_runs.specs.Marks.{is_of_outcomes}
 use Rattle.model_runs.proofs.marks.are_of_outcomes.Given as goal
 

@@ -1,11 +1,6 @@
-use Rattle.std.proofs.Common.{List, subst}
-use Rattle.std.specs.Prelude.{IfNone, IfSome}
-use Rattle.std.specs.Option.{is_some}
-use Rattle.world_search.specs.declared.claims.Met.{Met}
-use Rattle.world_search.specs.Claims.{IsFound}
-use Rattle.model_runs.specs.Moments.{has_fault}
-use Rattle.model_runs.specs.Private.Looking.{IsMetAt, moment_verdict}
-use Rattle.model_runs.proofs.Looks.{judged, shown_by}
+use Rattle.std.{proofs.Common.{List, subst}, specs.{Prelude.{IfNone, IfSome}, Option.is_some}}
+use Rattle.world_search.specs.{declared.claims.Met.Met, Claims.IsFound}
+use Rattle.model_runs.{specs.{Moments.has_fault, Private.Looking.{IsMetAt, moment_verdict}}, proofs.Looks.{judged, shown_by}}
 use Rattle.model_runs.proofs.moments.judge_at.Goals as goal
 
 pub returns-clause-judged : goal.returns-clause-judged

@@ -1,6 +1,4 @@
-use Rattle.std.proofs.Common.{◌≡◌, length, get_or, arith}
-use Rattle.std.proofs.lemmas.List.Elements.{AllWithin-upto}
-use Rattle.std.proofs.lemmas.Option.{slice_get-get_or}
+use Rattle.std.proofs.{Common.{◌≡◌, length, get_or, arith}, lemmas.{List.Elements.AllWithin-upto, Option.slice_get-get_or}}
 use Rattle.model_runs.proofs.Looks.{unfound}
 use Rattle.model_runs.proofs.moments.met_number.Goals as goal
 

@@ -1,5 +1,4 @@
-use Rattle.std.proofs.Common.{◌≡◌}
-use Rattle.std.specs.List.{AllWithin}
+use Rattle.std.{proofs.Common.◌≡◌, specs.List.AllWithin}
 use Rattle.model_runs.proofs.moments.met_number.Given as goal
 
 -- no element so far is the claim

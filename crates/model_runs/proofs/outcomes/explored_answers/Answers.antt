@@ -1,9 +1,6 @@
-use Rattle.std.proofs.Common.{rules, ◌≡◌, ◌++◌, ◌∷◌, [], arith}
-use Rattle.std.proofs.lemmas.List.Elements.{All-push, All-same}
-use Rattle.derived_ops.specs.Expansion.{code_of}
-use Rattle.derived_ops.specs.Reading.{source_of}
-use Rattle.model_runs.specs.Seeing.{IsSeen}
-use Rattle.model_runs.proofs.Looks.{one_more_alike}
+use Rattle.std.proofs.{Common.{rules, ◌≡◌, ◌++◌, ◌∷◌, [], arith}, lemmas.List.Elements.{All-push, All-same}}
+use Rattle.derived_ops.specs.{Expansion.code_of, Reading.source_of}
+use Rattle.model_runs.{specs.Seeing.IsSeen, proofs.Looks.one_more_alike}
 use Rattle.model_runs.proofs.outcomes.explored_answers.Goals as goal
 
 pub loop-answer-preserved : goal.loop-answer-preserved

@@ -1,7 +1,5 @@
-use Rattle.std.proofs.Common.{◌≡◌, map, take}
-use Rattle.std.specs.List.{All}
-use Rattle.derived_ops.specs.Expansion.{code_of}
-use Rattle.derived_ops.specs.Reading.{source_of}
+use Rattle.std.{proofs.Common.{◌≡◌, map, take}, specs.List.All}
+use Rattle.derived_ops.specs.{Expansion.code_of, Reading.source_of}
 use Rattle.model_runs.specs.Seeing.{IsSeen}
 use Rattle.model_runs.proofs.outcomes.explored_answers.Given as goal
 

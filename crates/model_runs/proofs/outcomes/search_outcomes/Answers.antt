@@ -1,5 +1,4 @@
-use Rattle.derived_ops.specs.Expansion.{code_of}
-use Rattle.derived_ops.specs.Reading.{source_of}
+use Rattle.derived_ops.specs.{Expansion.code_of, Reading.source_of}
 use Rattle.model_runs.proofs.Searches.{right_outcomes}
 use Rattle.model_runs.proofs.outcomes.search_outcomes.Goals as goal
 

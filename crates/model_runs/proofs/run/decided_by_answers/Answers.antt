@@ -1,8 +1,5 @@
-use Rattle.std.proofs.Common.{◌≡◌, ◌<◌, ◌∙◌, Some, ap, length, sym}
-use Rattle.std.proofs.lemmas.Option.{slice_get-get_or}
-use Rattle.std.specs.List.{slice_get}
-use Rattle.model_runs.specs.declared.result.Search.{Search}
-use Rattle.model_runs.proofs.Decisions.{decided_by}
+use Rattle.std.{proofs.{Common.{◌≡◌, ◌<◌, ◌∙◌, Some, ap, length, sym}, lemmas.Option.slice_get-get_or}, specs.List.slice_get}
+use Rattle.model_runs.{specs.declared.result.Search.Search, proofs.Decisions.decided_by}
 use Rattle.model_runs.proofs.run.decided_by_answers.Goals as goal
 
 pub returns-in-Some-get : goal.returns-in-Some-get

@@ -1,7 +1,5 @@
-use Rattle.std.proofs.Common.{rules, ◌≡◌, ◌++◌, ◌∷◌, [], arith}
-use Rattle.std.proofs.lemmas.List.Elements.{All-push, All-same}
-use Rattle.model_runs.specs.Deciding.{IsDecidedIn}
-use Rattle.model_runs.proofs.Looks.{left_behind, right_of}
+use Rattle.std.proofs.{Common.{rules, ◌≡◌, ◌++◌, ◌∷◌, [], arith}, lemmas.List.Elements.{All-push, All-same}}
+use Rattle.model_runs.{specs.Deciding.IsDecidedIn, proofs.Looks.{left_behind, right_of}}
 use Rattle.model_runs.proofs.run.results_of.Goals as goal
 
 pub decided-requires : goal.decided-requires

@@ -1,7 +1,5 @@
-use Rattle.std.proofs.Common.{◌≡◌, ◌≤◌, drop}
-use Rattle.std.specs.List.{All}
-use Rattle.model_runs.specs.Deciding.{IsDecidedIn}
-use Rattle.model_runs.specs.Moments.{soughts}
+use Rattle.std.{proofs.Common.{◌≡◌, ◌≤◌, drop}, specs.List.All}
+use Rattle.model_runs.specs.{Deciding.IsDecidedIn, Moments.soughts}
 use Rattle.model_runs.proofs.run.results_of.Given as goal
 
 -- the claims so far are decided, and `number` of them are claims at any moment

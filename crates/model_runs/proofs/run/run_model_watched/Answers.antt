@@ -1,7 +1,5 @@
 use Rattle.std.proofs.Common.{All, List, sym, subst}
-use Rattle.model_runs.specs.declared.result.ClaimResult.{ClaimResult}
-use Rattle.model_runs.specs.declared.result.Search.{Search}
-use Rattle.model_runs.specs.Deciding.{IsDecidedIn}
+use Rattle.model_runs.specs.{declared.result.{ClaimResult.ClaimResult, Search.Search}, Deciding.IsDecidedIn}
 use Rattle.model_runs.proofs.run.run_model_watched.Goals as goal
 
 pub returns-clause-claims : goal.returns-clause-claims

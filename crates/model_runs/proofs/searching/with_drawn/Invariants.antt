@@ -1,6 +1,5 @@
 use Rattle.std.specs.List.{All}
-use Rattle.derived_ops.specs.Expansion.{code_of}
-use Rattle.derived_ops.specs.Reading.{source_of}
+use Rattle.derived_ops.specs.{Expansion.code_of, Reading.source_of}
 use Rattle.model_runs.specs.Seeing.{IsSeen}
 use Rattle.model_runs.proofs.searching.with_drawn.Given as goal
 

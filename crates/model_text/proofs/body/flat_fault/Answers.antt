@@ -1,7 +1,5 @@
-use Rattle.std.proofs.Common.{◌≡◌, ◌<◌, ◌∙◌, length, drop, sym, Some, None, arith, rules}
-use Rattle.std.proofs.lemmas.Grind.{common_steps}
-use Rattle.model_text.specs.Bodies.{first_fault}
-use Rattle.model_text.proofs.Bodies.{one_more, fault_here}
+use Rattle.std.proofs.{Common.{◌≡◌, ◌<◌, ◌∙◌, length, drop, sym, Some, None, arith, rules}, lemmas.Grind.common_steps}
+use Rattle.model_text.{specs.Bodies.first_fault, proofs.Bodies.{one_more, fault_here}}
 use Rattle.model_text.proofs.body.flat_fault.Goals as goal
 
 pub returns-in-Some : goal.returns-in-Some

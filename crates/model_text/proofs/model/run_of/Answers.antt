@@ -1,8 +1,7 @@
 use Rattle.std.proofs.Common.{◌≡◌, ◌∙◌, sym, subst, Ok, Err, None, refl}
 use Rattle.model_forms.specs.Rows.{behind_of, first_of}
-use Rattle.model_text.specs.Standing.{ReadsBlock}
+use Rattle.model_text.{specs.Standing.ReadsBlock, proofs.Walks.{run_goes, run_done, run_bad, run_ends}}
 use Rattle.model_text.specs.declared.fault.ItemFault.TheVariants as faults
-use Rattle.model_text.proofs.Walks.{run_goes, run_done, run_bad, run_ends}
 use Rattle.model_text.proofs.model.run_of.Goals as goal
 
 pub loop-form-preserved : goal.loop-form-preserved

@@ -1,8 +1,6 @@
 use Rattle.std.proofs.Common.{◌-◌, Result}
 use Rattle.model_forms.specs.Rows.{Row, IsBlock}
-use Rattle.model_text.specs.Items.{run_of}
-use Rattle.model_text.specs.declared.fault.ItemFault.{ItemFault}
-use Rattle.model_text.proofs.Walks.{Rest}
+use Rattle.model_text.{specs.{Items.run_of, declared.fault.ItemFault.ItemFault}, proofs.Walks.Rest}
 use Rattle.model_text.proofs.model.run_of.Given as goal
 
 abbrev pub invariant-loop-form : goal.invariant-loop-form

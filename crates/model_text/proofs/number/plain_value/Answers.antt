@@ -1,7 +1,5 @@
-use Rattle.std.proofs.Common.{arith, rules}
-use Rattle.std.proofs.lemmas.Grind.{common_steps}
-use Rattle.term_parse.specs.Seen.{plain_value}
-use Rattle.term_parse.proofs.Lexing.{plain_none, digits_fail, digits_more, value_more, value_over}
+use Rattle.std.proofs.{Common.{arith, rules}, lemmas.Grind.common_steps}
+use Rattle.term_parse.{specs.Seen.plain_value, proofs.Lexing.{plain_none, digits_fail, digits_more, value_more, value_over}}
 use Rattle.model_text.proofs.number.plain_value.Goals as goal
 
 pub returns-then-not-is_digit : goal.returns-then-not-is_digit

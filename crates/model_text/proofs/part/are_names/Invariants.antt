@@ -1,7 +1,6 @@
-use Rattle.std.proofs.Common.{◌-◌, ◌≡◌, Bool, Option, ℕ}
+use Rattle.std.proofs.Common.{◌-◌, ◌≡◌, Bool, ℕ}
 use Rattle.model_forms.specs.Rows.{Row, IsBlock}
-use Rattle.model_text.specs.Items.{are_names}
-use Rattle.model_text.proofs.Walks.{Rest}
+use Rattle.model_text.{specs.Items.are_names, proofs.Walks.Rest}
 use Rattle.model_text.proofs.part.are_names.Given as goal
 
 abbrev pub invariant-loop-form : goal.invariant-loop-form

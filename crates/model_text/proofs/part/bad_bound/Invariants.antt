@@ -1,7 +1,6 @@
-use Rattle.std.proofs.Common.{◌-◌, ◌≡◌, Bool, Option, ℕ}
+use Rattle.std.proofs.Common.{◌-◌, ◌≡◌, Option, ℕ}
 use Rattle.model_forms.specs.Rows.{Row, IsBlock}
-use Rattle.model_text.specs.Items.{bad_bound}
-use Rattle.model_text.proofs.Walks.{Rest}
+use Rattle.model_text.{specs.Items.bad_bound, proofs.Walks.Rest}
 use Rattle.model_text.proofs.part.bad_bound.Given as goal
 
 abbrev pub invariant-loop-form : goal.invariant-loop-form

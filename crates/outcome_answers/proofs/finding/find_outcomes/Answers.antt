@@ -1,7 +1,5 @@
-use Rattle.std.proofs.Common.{◌<◌}
-use Rattle.std.specs.List.{All}
-use Rattle.derived_ops.specs.Expansion.{code_of}
-use Rattle.derived_ops.specs.Reading.{source_of}
+use Rattle.std.{proofs.Common.◌<◌, specs.List.All}
+use Rattle.derived_ops.specs.{Expansion.code_of, Reading.source_of}
 use Rattle.outcome_answers.proofs.Shortened.{kept_all, kept_is}
 use Rattle.outcome_answers.proofs.finding.find_outcomes.Goals as goal
 

@@ -1,9 +1,8 @@
 use Rattle.std.proofs.Common.{◌∙◌, ap, subst, sym, arith}
-use Rattle.every_schedule.specs.declared.exploration.Answer.{Answer}
-use Rattle.every_schedule.specs.Explored.{IsListed}
-use Rattle.outcome_answers.proofs.Firsts.{firsts_all, firsts_more, firsts_same}
+use Rattle.every_schedule.specs.{declared.exploration.Answer.Answer, Explored.IsListed}
+use Rattle.outcome_answers.proofs.{Firsts.{firsts_all, firsts_more, firsts_same}, shown.first_answers.Goals.then-not-has_end+in_ok-push}
+use Rattle.outcome_answers.proofs.shown.first_answers.Goals.{else-not-has_end+in-Ok-1, else-not-has_end+in-Err-1}
 use Rattle.outcome_answers.proofs.shown.first_answers.Goals as goal
-use Rattle.outcome_answers.proofs.shown.first_answers.Goals.{then-not-has_end+in_ok-push, else-not-has_end+in-Ok-1, else-not-has_end+in-Err-1}
 
 pub loop-answer-preserved : goal.loop-answer-preserved
 loop-answer-preserved c =

@@ -1,6 +1,5 @@
 use Rattle.std.proofs.Common.{◌∙◌, ap, arith}
-use Rattle.outcome_answers.specs.OutcomesData.{bare_fiber}
-use Rattle.outcome_answers.proofs.Bare.{all_fibers, one_fiber}
+use Rattle.outcome_answers.{specs.OutcomesData.bare_fiber, proofs.Bare.{all_fibers, one_fiber}}
 use Rattle.outcome_answers.proofs.values.fiber_values.Goals as goal
 
 pub loop-fiber-preserved : goal.loop-fiber-preserved

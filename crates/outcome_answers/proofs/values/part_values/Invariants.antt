@@ -1,6 +1,5 @@
 use Rattle.std.proofs.Common.{List, ◌++◌, drop, map}
-use Rattle.serde_json.specs.Data.{Data}
-use Rattle.serde_json.specs.View.{view}
+use Rattle.serde_json.specs.{Data.Data, View.view}
 use Rattle.outcome_answers.specs.OutcomesData.{IsBarePart}
 use Rattle.outcome_answers.proofs.values.part_values.Given as goal
 

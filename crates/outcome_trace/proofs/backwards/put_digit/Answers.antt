@@ -1,6 +1,4 @@
-use Rattle.std.proofs.Common.{arith}
-use Rattle.std.proofs.lemmas.Fmt.{decimal_digit}
-use Rattle.std.proofs.lemmas.Grind.{common_steps}
+use Rattle.std.proofs.{Common.arith, lemmas.{Fmt.decimal_digit, Grind.common_steps}}
 use Rattle.outcome_trace.proofs.backwards.put_digit.Goals as goal
 
 pub returns-clause-text : goal.returns-clause-text

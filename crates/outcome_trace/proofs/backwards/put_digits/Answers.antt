@@ -1,5 +1,4 @@
-use Rattle.std.proofs.Common.{arith, rules}
-use Rattle.std.proofs.lemmas.Fmt.{length-decimal-le}
+use Rattle.std.proofs.{Common.{arith, rules}, lemmas.Fmt.length-decimal-le}
 use Rattle.outcome_trace.proofs.backwards.put_digits.Goals as goal
 
 pub write_digits-requires : goal.write_digits-requires

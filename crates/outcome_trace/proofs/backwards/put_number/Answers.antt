@@ -1,5 +1,4 @@
-use Rattle.std.proofs.Common.{arith}
-use Rattle.std.proofs.lemmas.Fmt.{IsAscii-decimal, length-decimal-le}
+use Rattle.std.proofs.{Common.arith, lemmas.Fmt.{IsAscii-decimal, length-decimal-le}}
 use Rattle.outcome_trace.proofs.backwards.put_number.Goals as goal
 
 pub put_behind-requires-clause-start : goal.put_behind-requires-clause-start

@@ -1,5 +1,4 @@
-use Rattle.std.proofs.Common.{arith}
-use Rattle.std.proofs.lemmas.Fmt.{IsAscii-decimal}
+use Rattle.std.proofs.{Common.arith, lemmas.Fmt.IsAscii-decimal}
 use Rattle.outcome_trace.proofs.backwards.put_short.Goals as goal
 
 pub returns-clause-ascii : goal.returns-clause-ascii

@@ -1,5 +1,4 @@
-use Rattle.std.proofs.Common.{arith}
-use Rattle.std.proofs.lemmas.Fmt.{length-decimal-le}
+use Rattle.std.proofs.{Common.arith, lemmas.Fmt.length-decimal-le}
 use Rattle.outcome_trace.proofs.Ascii.{IsAscii-of_signed}
 use Rattle.outcome_trace.proofs.backwards.put_signed.Goals as goal
 

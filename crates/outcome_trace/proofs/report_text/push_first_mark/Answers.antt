@@ -1,10 +1,6 @@
-use Rattle.std.proofs.Common.{◌≡◌, ◌-◌, [], ◌++◌, codes, drop, length, string_bytes, take}
-use Rattle.std.proofs.Common.{sym, ap, ◌∙◌, subst, arith, append-nil}
-use Rattle.std.specs.Prelude.{OnOk}
-use Rattle.std.specs.Str.{IsAscii}
-use Rattle.std.proofs.lemmas.List.{drop_all}
-use Rattle.outcome_trace.specs.ReportText.{mark_text}
-use Rattle.outcome_trace.proofs.ReportLemmas.{first_mark-ascii, take-to_end}
+use Rattle.std.proofs.{Common.{◌≡◌, ◌-◌, [], ◌++◌, codes, drop, length, string_bytes, take, sym, ap, ◌∙◌, subst, arith, append-nil}, lemmas.List.drop_all}
+use Rattle.std.specs.{Prelude.OnOk, Str.IsAscii}
+use Rattle.outcome_trace.{specs.ReportText.mark_text, proofs.ReportLemmas.{first_mark-ascii, take-to_end}}
 use Rattle.outcome_trace.proofs.report_text.push_first_mark.Goals as goal
 
 pub push_ascii-requires : goal.push_ascii-requires

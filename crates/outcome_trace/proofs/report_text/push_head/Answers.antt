@@ -1,11 +1,6 @@
-use Rattle.std.proofs.Common.{◌≡◌, ◌-◌, [], ◌++◌, codes, drop, length, string_bytes, take}
-use Rattle.std.proofs.Common.{sym, ap, ◌∙◌, subst, arith, append_assoc, append-nil}
-use Rattle.std.specs.Prelude.{OnOk}
-use Rattle.std.specs.Fmt.{decimal}
-use Rattle.std.specs.Str.{IsAscii}
-use Rattle.std.proofs.lemmas.List.{drop_all}
-use Rattle.outcome_trace.specs.ReportText.{outcome_text}
-use Rattle.outcome_trace.proofs.ReportLemmas.{head-ascii, take-to_end}
+use Rattle.std.proofs.Common.{◌≡◌, ◌-◌, [], ◌++◌, codes, drop, length, string_bytes, take, sym, ap, ◌∙◌, subst, arith, append_assoc, append-nil}
+use Rattle.std.{proofs.lemmas.List.drop_all, specs.{Prelude.OnOk, Fmt.decimal, Str.IsAscii}}
+use Rattle.outcome_trace.{specs.ReportText.outcome_text, proofs.ReportLemmas.{head-ascii, take-to_end}}
 use Rattle.outcome_trace.proofs.report_text.push_head.Goals as goal
 
 pub push_ascii-requires : goal.push_ascii-requires

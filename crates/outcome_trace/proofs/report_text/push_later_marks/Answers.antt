@@ -1,7 +1,5 @@
-use Rattle.std.proofs.Common.{◌≡◌, ◌++◌, length, string_bytes, sym, ap, ap₂, ◌∙◌, arith, append_assoc}
-use Rattle.std.proofs.lemmas.List.{take-append-drop}
-use Rattle.outcome_trace.specs.ReportText.{later_marks_text}
-use Rattle.outcome_trace.proofs.ReportLemmas.{later_marks_text-append, take-to_end}
+use Rattle.std.proofs.{Common.{◌≡◌, ◌++◌, length, string_bytes, sym, ap, ap₂, ◌∙◌, arith, append_assoc}, lemmas.List.take-append-drop}
+use Rattle.outcome_trace.{specs.ReportText.later_marks_text, proofs.ReportLemmas.{later_marks_text-append, take-to_end}}
 use Rattle.outcome_trace.proofs.report_text.push_later_marks.Goals as goal
 
 pub loop-left-preserved : goal.loop-left-preserved

@@ -1,5 +1,4 @@
-use Rattle.std.proofs.Common.{◌≡◌, ◌*◌, ◌≤◌, drop, length}
-use Rattle.std.specs.Str.{IsAscii}
+use Rattle.std.{proofs.Common.{◌≡◌, ◌*◌, ◌≤◌, drop, length}, specs.Str.IsAscii}
 use Rattle.outcome_trace.specs.ReportText.{later_marks_text}
 use Rattle.outcome_trace.proofs.report_text.put_later_marks.Given as goal
 

@@ -1,10 +1,5 @@
-use Rattle.std.proofs.Common.{◌≡◌, ◌⊎◌, ℕ, Some, sym, arith, subst}
-use Rattle.std.specs.List.{slice_get}
-use Rattle.std.proofs.lemmas.Grind.{common_steps}
-use Rattle.std.proofs.lemmas.Option.{gets}
-use Rattle.scheduled_core.specs.Finals.{HasEnded, IsAtRest}
-use Rattle.scheduled_core.specs.Fitting.{Fits, cell_registered}
-use Rattle.scheduled_core.proofs.Settling.{below_length, one_settled}
+use Rattle.std.{proofs.{Common.{◌≡◌, ◌⊎◌, ℕ, Some, sym, arith, subst}, lemmas.{Grind.common_steps, Option.gets}}, specs.List.slice_get}
+use Rattle.scheduled_core.{specs.{Finals.{HasEnded, IsAtRest}, Fitting.{Fits, cell_registered}}, proofs.Settling.{below_length, one_settled}}
 use Rattle.reasons.proofs.unended.is_final.Goals as goal
 
 pub is_done-requires : goal.is_done-requires

@@ -1,5 +1,4 @@
-use Rattle.std.proofs.Common.{◌≡◌, ◌⊎◌, ℕ, ◌<◌, Some}
-use Rattle.std.specs.List.{slice_get}
+use Rattle.std.{proofs.Common.{◌≡◌, ◌⊎◌, ℕ, ◌<◌, Some}, specs.List.slice_get}
 use Rattle.fiber_frames.specs.Fiber.{Fiber}
 use Rattle.scheduled_core.specs.Finals.{HasEnded, IsAtRest}
 use Rattle.reasons.proofs.unended.is_final.Given as goal

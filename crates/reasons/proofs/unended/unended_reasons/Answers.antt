@@ -1,13 +1,8 @@
-use Rattle.std.proofs.Common.{◌≡◌, Ok, sym, ap, ◌∙◌, subst}
-use Rattle.std.proofs.lemmas.Result.{IfOk-weaker}
-use Rattle.derived_ops.specs.Expansion.{code_of}
-use Rattle.derived_ops.specs.Reading.{source_of}
-use Rattle.cell_registry.specs.Cells.{Cells, opening}
-use Rattle.cell_registry.specs.Plain.{PlainView}
-use Rattle.scheduled_core.specs.Fitting.{AllFit, world_of}
-use Rattle.scheduled_core.proofs.Moves.{core-opened}
-use Rattle.reasons.specs.Whys.{unended}
-use Rattle.reasons.proofs.Settled.{faulty}
+use Rattle.std.proofs.{Common.{◌≡◌, Ok, sym, ap, ◌∙◌, subst}, lemmas.Result.IfOk-weaker}
+use Rattle.derived_ops.specs.{Expansion.code_of, Reading.source_of}
+use Rattle.cell_registry.specs.{Cells.{Cells, opening}, Plain.PlainView}
+use Rattle.scheduled_core.{specs.Fitting.{AllFit, world_of}, proofs.Moves.core-opened}
+use Rattle.reasons.{specs.Whys.unended, proofs.Settled.faulty}
 use Rattle.reasons.proofs.unended.unended_reasons.Goals as goal
 
 pub enter_all-requires : goal.enter_all-requires

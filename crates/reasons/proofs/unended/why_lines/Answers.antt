@@ -1,11 +1,6 @@
-use Rattle.std.proofs.Common.{◌≡◌, ◌++◌, ℕ, Some, sym, ap, ◌∙◌, arith, subst}
-use Rattle.std.specs.List.{slice_get}
-use Rattle.std.proofs.lemmas.Grind.{common_steps}
-use Rattle.std.proofs.lemmas.Option.{gets}
-use Rattle.scheduled_core.specs.Fitting.{Fits, cell_registered}
-use Rattle.reasons.specs.Whys.{why_line}
-use Rattle.scheduled_core.specs.Whys.{IsWhy}
-use Rattle.reasons.proofs.Settled.{all_told, told_more}
+use Rattle.std.{proofs.{Common.{◌≡◌, ◌++◌, ℕ, Some, sym, ap, ◌∙◌, arith, subst}, lemmas.{Grind.common_steps, Option.gets}}, specs.List.slice_get}
+use Rattle.scheduled_core.specs.{Fitting.{Fits, cell_registered}, Whys.IsWhy}
+use Rattle.reasons.{specs.Whys.why_line, proofs.Settled.{all_told, told_more}}
 use Rattle.reasons.proofs.unended.why_lines.Goals as goal
 
 pub why_of-requires : goal.why_of-requires

@@ -1,5 +1,4 @@
-use Rattle.std.proofs.Common.{◌≡◌, ℕ, Some}
-use Rattle.std.specs.List.{slice_get}
+use Rattle.std.{proofs.Common.{◌≡◌, ℕ, Some}, specs.List.slice_get}
 use Rattle.fiber_frames.specs.Fiber.{Fiber}
 use Rattle.run_ends.specs.Private.Gathered.{AreInOrder}
 use Rattle.run_ends.proofs.finishing.in_order.Given as goal

@@ -1,11 +1,7 @@
-use Rattle.std.proofs.Common.{List, All, inl, inr, sym, subst}
-use Rattle.std.proofs.lemmas.Result.{err_from_is_err_and}
+use Rattle.std.proofs.{Common.{List, All, inl, inr, sym, subst}, lemmas.Result.err_from_is_err_and}
 use Rattle.fiber_frames.specs.Fiber.{Fiber}
-use Rattle.scheduled_core.specs.declared.report.FiberReport.{FiberReport}
-use Rattle.scheduled_core.specs.Stands.{IsOfSomeSchedule}
-use Rattle.run_ends.specs.Private.Gathered.{AreLines, IsLeast}
-use Rattle.run_ends.specs.Gathering.{IsLawful, TellsEach, TellsNoOther}
-use Rattle.run_ends.proofs.Meeting.{each_home, gathered_report}
+use Rattle.scheduled_core.specs.{declared.report.FiberReport.FiberReport, Stands.IsOfSomeSchedule}
+use Rattle.run_ends.{specs.{Private.Gathered.{AreLines, IsLeast}, Gathering.{IsLawful, TellsEach, TellsNoOther}}, proofs.Meeting.{each_home, gathered_report}}
 use Rattle.run_ends.proofs.Taking.{missing, tells_each, tells_no_other}
 use Rattle.run_ends.proofs.gathering.gather.Goals as goal
 

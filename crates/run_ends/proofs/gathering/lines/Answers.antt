@@ -1,8 +1,6 @@
 use Rattle.std.proofs.Common.{◌+◌, ◌++◌, ◌∷◌, [], List, All, inr, refl, sym, ap, ◌∙◌, subst}
 use Rattle.scheduled_core.specs.declared.report.FiberReport.{FiberReport}
-use Rattle.run_ends.specs.Private.Gathered.{AreLines}
-use Rattle.run_ends.specs.Gathering.{IsLawful}
-use Rattle.run_ends.proofs.Lining.{all_push, least, more_lines}
+use Rattle.run_ends.{specs.{Private.Gathered.AreLines, Gathering.IsLawful}, proofs.Lining.{all_push, least, more_lines}}
 use Rattle.run_ends.proofs.gathering.lines.Goals as goal
 
 pub returns-in_default-clause-lost : goal.returns-in_default-clause-lost

@@ -1,6 +1,5 @@
 use Rattle.std.proofs.Common.{All}
-use Rattle.run_ends.specs.Private.Gathered.{AreLines}
-use Rattle.run_ends.specs.Gathering.{IsLawful}
+use Rattle.run_ends.specs.{Private.Gathered.AreLines, Gathering.IsLawful}
 use Rattle.run_ends.proofs.gathering.lines.Given as goal
 
 -- the lines of the fibers so far

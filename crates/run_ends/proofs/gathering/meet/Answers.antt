@@ -1,7 +1,6 @@
 use Rattle.std.proofs.Common.{◌∙◌, ◌++◌, ◌∷◌, [], ap}
 use Rattle.cell_registry.specs.Passes.{PassView}
-use Rattle.run_ends.proofs.Meeting.{home_of, meets_first, meets_more, pass_here}
-use Rattle.run_ends.proofs.Taking.{first_taken, next_taken}
+use Rattle.run_ends.proofs.{Meeting.{home_of, meets_first, meets_more, pass_here}, Taking.{first_taken, next_taken}}
 use Rattle.run_ends.proofs.gathering.meet.Goals as goal
 
 pub loop-task-init : goal.loop-task-init

@@ -1,7 +1,6 @@
 use Rattle.std.proofs.Common.{All, length}
 use Rattle.cell_registry.specs.Passes.{IsOf}
-use Rattle.run_ends.specs.Private.Gathered.{IsAtHome, Taken}
-use Rattle.run_ends.proofs.Meeting.{Meets_all}
+use Rattle.run_ends.{specs.Private.Gathered.{IsAtHome, Taken}, proofs.Meeting.Meets_all}
 use Rattle.run_ends.proofs.gathering.meet.Given as goal
 
 -- the passes of the tasks that were taken have met, and the rest is at home

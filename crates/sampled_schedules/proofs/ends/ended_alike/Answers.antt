@@ -1,9 +1,7 @@
-use Rattle.std.proofs.Common.{◌≡◌, List, Option, rules, sym, ap, ap₂, ◌∙◌}
-use Rattle.std.proofs.lemmas.Bool.Decides.{not_from_Decides}
+use Rattle.std.proofs.{Common.{◌≡◌, List, Option, rules, sym, ap, ap₂, ◌∙◌}, lemmas.Bool.Decides.not_from_Decides}
 use Rattle.effect_term.specs.declared.reply.Outcome.{Outcome}
 use Rattle.fiber_frames.specs.declared.mark.Mark.{Mark}
-use Rattle.scheduled_core.specs.declared.report.FiberReport.{FiberReport}
-use Rattle.scheduled_core.proofs.SameReports.{marks_decide}
+use Rattle.scheduled_core.{specs.declared.report.FiberReport.FiberReport, proofs.SameReports.marks_decide}
 use Rattle.sampled_schedules.proofs.ends.ended_alike.Goals as goal
 
 told : Option Outcome → List Mark → FiberReport

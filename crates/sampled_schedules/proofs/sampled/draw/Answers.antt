@@ -1,12 +1,7 @@
 use Rattle.std.proofs.Common.{◌≡◌, ℕ, Bool, List, [], sym, ap, ap₂, ◌∙◌, subst}
-use Rattle.cell_registry.specs.declared.limits.Limits.{Limits}
-use Rattle.cell_registry.specs.Plain.{PlainView}
-use Rattle.scheduled_core.specs.Core.{first_world}
-use Rattle.scheduled_core.specs.Fitting.{world_of}
-use Rattle.sampled_schedules.specs.Sampled.{IsDrawing}
-use Rattle.sampled_schedules.specs.Private.Walking.{was_cut}
-use Rattle.sampled_schedules.proofs.Drawings.{drawn_of}
-use Rattle.sampled_schedules.proofs.Walked.{IsWalkOr}
+use Rattle.cell_registry.specs.{declared.limits.Limits.Limits, Plain.PlainView}
+use Rattle.scheduled_core.specs.{Core.first_world, Fitting.world_of}
+use Rattle.sampled_schedules.{specs.{Sampled.IsDrawing, Private.Walking.was_cut}, proofs.{Drawings.drawn_of, Walked.IsWalkOr}}
 use Rattle.sampled_schedules.proofs.sampled.draw.Goals as goal
 
 pub returns-clause-drawn : goal.returns-clause-drawn

@@ -1,10 +1,5 @@
-use Rattle.std.proofs.Common.{◌≡◌, List, slice_set, ap, ◌∙◌, subst, arith}
-use Rattle.std.specs.Prelude.{Some}
-use Rattle.std.specs.List.{slice_get}
-use Rattle.std.proofs.lemmas.Option.{get_or_from_slice_get}
-use Rattle.sampled_schedules.specs.declared.comings.Coming.{Coming}
-use Rattle.sampled_schedules.specs.Private.Noting.{Again, raised}
-use Rattle.sampled_schedules.proofs.Tallies.{one_of}
+use Rattle.std.{proofs.{Common.{◌≡◌, List, slice_set, ap, ◌∙◌, subst, arith}, lemmas.Option.get_or_from_slice_get}, specs.{Prelude.Some, List.slice_get}}
+use Rattle.sampled_schedules.{specs.{declared.comings.Coming.Coming, Private.Noting.{Again, raised}}, proofs.Tallies.one_of}
 use Rattle.sampled_schedules.proofs.sampled.note.Goals as goal
 
 pub raise-requires : goal.raise-requires

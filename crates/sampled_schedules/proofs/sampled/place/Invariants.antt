@@ -1,5 +1,4 @@
-use Rattle.std.proofs.Common.{◌≡◌, ◌≢◌, ℕ, ◌<◌, Some}
-use Rattle.std.specs.List.{slice_get}
+use Rattle.std.{proofs.Common.{◌≡◌, ◌≢◌, ℕ, ◌<◌, Some}, specs.List.slice_get}
 use Rattle.sampled_schedules.specs.declared.comings.Coming.{Coming}
 use Rattle.sampled_schedules.proofs.sampled.place.Given as goal
 

@@ -1,16 +1,11 @@
-use Rattle.std.proofs.Common.{◌≡◌, ◌+◌, true, false, List, refl, sym, ap, ◌∙◌, subst, arith}
-use Rattle.std.specs.List.{All}
-use Rattle.derived_ops.specs.Expansion.{code_of}
-use Rattle.derived_ops.specs.Reading.{source_of}
+use Rattle.std.{proofs.Common.{◌≡◌, ◌+◌, true, false, List, refl, sym, ap, ◌∙◌, subst, arith}, specs.List.All}
+use Rattle.derived_ops.specs.{Expansion.code_of, Reading.source_of}
 use Rattle.fiber_frames.specs.Fiber.{Fiber}
 use Rattle.cell_registry.specs.Cells.{opening}
 use Rattle.scheduled_core.specs.Fitting.{AllFit, world_of}
 use Rattle.every_schedule.specs.Explored.{HasLawfulMarks}
-use Rattle.sampled_schedules.specs.declared.comings.Coming.{Coming}
-use Rattle.sampled_schedules.specs.Sampled.{IsCutShort, IsDrawing, IsDrawn, IsSampleOf, StaysSo}
-use Rattle.sampled_schedules.specs.Private.Noting.{came_in_all}
-use Rattle.sampled_schedules.proofs.Drawings.{cut_told, final_told, nothing_sampled, sampled_more}
-use Rattle.sampled_schedules.proofs.Tallies.{all_noted, counted}
+use Rattle.sampled_schedules.specs.{declared.comings.Coming.Coming, Sampled.{IsCutShort, IsDrawing, IsDrawn, IsSampleOf, StaysSo}, Private.Noting.came_in_all}
+use Rattle.sampled_schedules.proofs.{Drawings.{cut_told, final_told, nothing_sampled, sampled_more}, Tallies.{all_noted, counted}}
 use Rattle.sampled_schedules.proofs.sampled.sample_watched.Goals as goal
 
 pub draw-requires-clause-fits : goal.draw-requires-clause-fits

@@ -1,11 +1,7 @@
-use Rattle.std.proofs.Common.{◌≡◌, ◌≤◌, ◌-◌}
-use Rattle.std.specs.List.{All}
-use Rattle.derived_ops.specs.Expansion.{code_of}
-use Rattle.derived_ops.specs.Reading.{source_of}
+use Rattle.std.{proofs.Common.{◌≡◌, ◌≤◌, ◌-◌}, specs.List.All}
+use Rattle.derived_ops.specs.{Expansion.code_of, Reading.source_of}
 use Rattle.every_schedule.specs.Explored.{HasLawfulMarks}
-use Rattle.sampled_schedules.specs.declared.comings.Coming.{Coming}
-use Rattle.sampled_schedules.specs.Sampled.{IsDrawn, IsSampleOf}
-use Rattle.sampled_schedules.specs.Private.Noting.{came_in_all}
+use Rattle.sampled_schedules.specs.{declared.comings.Coming.Coming, Sampled.{IsDrawn, IsSampleOf}, Private.Noting.came_in_all}
 use Rattle.sampled_schedules.proofs.sampled.sample_watched.Given as goal
 
 -- `schedules` schedules were drawn, and this is their tally

@@ -1,7 +1,4 @@
-use Rattle.std.proofs.Common.{◌≡◌, ℕ, Some, sym, arith, subst}
-use Rattle.std.specs.List.{slice_get}
-use Rattle.std.proofs.lemmas.Grind.{common_steps}
-use Rattle.std.proofs.lemmas.Option.{gets}
+use Rattle.std.{proofs.{Common.{◌≡◌, ℕ, Some, sym, arith, subst}, lemmas.{Grind.common_steps, Option.gets}}, specs.List.slice_get}
 use Rattle.scheduled_core.specs.Fitting.{Fits, cell_registered}
 use Rattle.sampled_schedules.proofs.walks.can_go_on.Goals as goal
 

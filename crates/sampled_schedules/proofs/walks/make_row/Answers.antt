@@ -1,5 +1,4 @@
-use Rattle.std.proofs.Common.{Err, arith}
-use Rattle.std.proofs.lemmas.Result.{err_from_is_err_and}
+use Rattle.std.proofs.{Common.{Err, arith}, lemmas.Result.err_from_is_err_and}
 use Rattle.scheduled_core.specs.Fitting.{world_of}
 use Rattle.sampled_schedules.proofs.Walked.{further}
 use Rattle.sampled_schedules.proofs.walks.make_row.Goals as goal

@@ -1,13 +1,8 @@
-use Rattle.std.proofs.Common.{◌≡◌, ◌⊎◌, ℕ, Some, true, false, sym, ap, ◌∙◌, arith, subst}
-use Rattle.std.specs.Prelude.{is_some, not}
-use Rattle.std.specs.List.{slice_get}
-use Rattle.std.proofs.lemmas.Grind.{common_steps}
-use Rattle.std.proofs.lemmas.Option.{gets, same_Some}
-use Rattle.scheduled_core.specs.Finals.{HasEnded, IsAtRest}
-use Rattle.scheduled_core.specs.Fitting.{Fits, cell_registered}
-use Rattle.scheduled_core.proofs.Settling.{below_length, none_of, one_settled}
-use Rattle.sampled_schedules.proofs.walks.pick.Goals as goal
+use Rattle.std.proofs.{Common.{◌≡◌, ◌⊎◌, ℕ, Some, true, false, sym, ap, ◌∙◌, arith, subst}, lemmas.{Grind.common_steps, Option.{gets, same_Some}}}
+use Rattle.std.specs.{Prelude.{is_some, not}, List.slice_get}
+use Rattle.scheduled_core.{specs.{Finals.{HasEnded, IsAtRest}, Fitting.{Fits, cell_registered}}, proofs.Settling.{below_length, none_of, one_settled}}
 use Rattle.sampled_schedules.proofs.walks.pick.Goals.{then-not-is_done+then-is_none, then-not-is_done+else-is_none+else-below-eq0, else-not-is_done}
+use Rattle.sampled_schedules.proofs.walks.pick.Goals as goal
 
 pub is_done-requires : goal.is_done-requires
 is_done-requires c =

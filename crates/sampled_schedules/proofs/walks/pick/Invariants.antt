@@ -1,5 +1,4 @@
-use Rattle.std.proofs.Common.{◌≡◌, ◌⊎◌, ◌<◌, ◌≤◌, ℕ, None, Some}
-use Rattle.std.specs.List.{slice_get}
+use Rattle.std.{proofs.Common.{◌≡◌, ◌⊎◌, ◌<◌, ◌≤◌, ℕ, None, Some}, specs.List.slice_get}
 use Rattle.fiber_frames.specs.Fiber.{Fiber}
 use Rattle.scheduled_core.specs.Finals.{HasEnded, IsAtRest}
 use Rattle.sampled_schedules.proofs.walks.pick.Given as goal

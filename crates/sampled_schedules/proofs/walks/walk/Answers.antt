@@ -1,5 +1,4 @@
-use Rattle.std.proofs.Common.{Ok, Err, length, ◌∙◌, arith}
-use Rattle.std.proofs.lemmas.Result.{err_from_is_err_and}
+use Rattle.std.proofs.{Common.{Ok, Err, length, ◌∙◌, arith}, lemmas.Result.err_from_is_err_and}
 use Rattle.scheduled_core.specs.Fitting.{world_of}
 use Rattle.sampled_schedules.proofs.Walked.{erred, further, went, within}
 use Rattle.sampled_schedules.proofs.walks.walk.Goals as goal

@@ -1,6 +1,4 @@
-use Rattle.std.proofs.Common.{◌≡◌, suc, ◌-◌, ◌++◌, ◌∷◌, [], Some, arith, sym, ap, ◌∙◌, get_or, set}
-use Rattle.std.proofs.lemmas.Grind.{common_steps}
-use Rattle.std.proofs.lemmas.Option.{gets}
+use Rattle.std.proofs.{Common.{◌≡◌, suc, ◌-◌, ◌++◌, ◌∷◌, [], Some, arith, sym, ap, ◌∙◌, get_or, set}, lemmas.{Grind.common_steps, Option.gets}}
 use Rattle.scheduled_core.proofs.Settling.{go_alone, go_born, has_rest}
 use Rattle.scheduled_core.proofs.finals.go_on.Goals as goal
 

@@ -1,15 +1,10 @@
-use Rattle.std.proofs.Common.{◌≡◌, ◌⊎◌, inl, inr, ℕ, ◌<◌, ◌≤◌, List, get_or, Option, None, Some, refl, sym, ap, ◌∙◌, arith, subst}
-use Rattle.std.specs.Prelude.{IfSome}
-use Rattle.std.specs.List.{slice_get}
-use Rattle.std.proofs.lemmas.Grind.{common_steps}
-use Rattle.std.proofs.lemmas.Option.{gets, same_Some}
+use Rattle.std.proofs.{Common.{◌≡◌, ◌⊎◌, inl, inr, ℕ, ◌<◌, ◌≤◌, List, get_or, Option, None, Some, refl, sym, ap, ◌∙◌, arith, subst}, lemmas.Grind.common_steps}
+use Rattle.std.{proofs.lemmas.Option.{gets, same_Some}, specs.{Prelude.IfSome, List.slice_get}}
 use Rattle.cell_registry.specs.Cells.{Cells}
 use Rattle.fiber_frames.specs.Fiber.{Fiber}
-use Rattle.scheduled_core.specs.Finals.{HasEnded, IsAtRest}
-use Rattle.scheduled_core.specs.Fitting.{Fits, cell_registered}
-use Rattle.scheduled_core.proofs.Settling.{below_length, none_of, one_settled, some_of}
-use Rattle.scheduled_core.proofs.finals.next.Goals as goal
+use Rattle.scheduled_core.{specs.{Finals.{HasEnded, IsAtRest}, Fitting.{Fits, cell_registered}}, proofs.Settling.{below_length, none_of, one_settled, some_of}}
 use Rattle.scheduled_core.proofs.finals.next.Goals.{then-not-is_done, else-not-is_done}
+use Rattle.scheduled_core.proofs.finals.next.Goals as goal
 
 -- what is known of a fiber where the one with the most moves left is o
 abbrev Behind : List ℕ → Cells → ℕ → ℕ → Fiber → Type 0

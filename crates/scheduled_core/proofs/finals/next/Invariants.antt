@@ -1,8 +1,6 @@
-use Rattle.std.proofs.Common.{◌≡◌, ◌⊎◌, ℕ, ◌<◌, ◌≤◌, get_or, None, Some}
-use Rattle.std.specs.List.{slice_get}
+use Rattle.std.{proofs.Common.{◌≡◌, ◌⊎◌, ℕ, ◌<◌, ◌≤◌, get_or, None, Some}, specs.List.slice_get}
 use Rattle.fiber_frames.specs.Fiber.{Fiber}
-use Rattle.scheduled_core.specs.Finals.{HasEnded, IsAtRest}
-use Rattle.scheduled_core.specs.Private.Settling.{IsUnended}
+use Rattle.scheduled_core.specs.{Finals.{HasEnded, IsAtRest}, Private.Settling.IsUnended}
 use Rattle.scheduled_core.proofs.finals.next.Given as goal
 
 -- where nobody was found, each fiber so far has ended or rests; who was found hasn't ended, and no other that can

@@ -1,5 +1,4 @@
-use Rattle.std.proofs.Common.{◌∙◌, arith}
-use Rattle.std.proofs.lemmas.Result.{err_from_is_err_and}
+use Rattle.std.proofs.{Common.{◌∙◌, arith}, lemmas.Result.err_from_is_err_and}
 use Rattle.scheduled_core.proofs.Settling.{memory_or_stops, more_on}
 use Rattle.scheduled_core.proofs.finals.settle_noted.Goals as goal
 

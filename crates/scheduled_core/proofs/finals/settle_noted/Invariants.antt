@@ -1,7 +1,5 @@
 use Rattle.std.proofs.Common.{◌≡◌, length}
-use Rattle.scheduled_core.specs.Fitting.{AllFit, world_of}
-use Rattle.scheduled_core.specs.Spending.{SpendsMany}
-use Rattle.scheduled_core.specs.Private.Settling.{moves_left}
+use Rattle.scheduled_core.specs.{Fitting.{AllFit, world_of}, Spending.SpendsMany, Private.Settling.moves_left}
 use Rattle.scheduled_core.proofs.finals.settle_noted.Given as goal
 
 -- the entries so far led to this world

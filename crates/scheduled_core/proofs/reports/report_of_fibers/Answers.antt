@@ -1,10 +1,7 @@
-use Rattle.std.proofs.Common.{◌≡◌, ◌++◌, List, [], ◌∷◌, length, map, sym, ap, ◌∙◌, append_assoc, append-nil, arith, rules}
-use Rattle.std.specs.Vec.Iter.{into_iter_items}
-use Rattle.std.proofs.lemmas.List.Elements.{All-push, All-same}
-use Rattle.fiber_frames.specs.Fiber.{Fiber}
-use Rattle.fiber_frames.specs.Marks.{AreLawful}
-use Rattle.scheduled_core.specs.declared.report.FiberReport.{FiberReport}
-use Rattle.scheduled_core.specs.Core.{fiber_report}
+use Rattle.std.proofs.{Common.{◌≡◌, ◌++◌, List, [], ◌∷◌, length, map, sym, ap, ◌∙◌, append_assoc, append-nil, arith, rules}, lemmas.List.Elements.All-push}
+use Rattle.std.{proofs.lemmas.List.Elements.All-same, specs.Vec.Iter.into_iter_items}
+use Rattle.fiber_frames.specs.{Fiber.Fiber, Marks.AreLawful}
+use Rattle.scheduled_core.specs.{declared.report.FiberReport.FiberReport, Core.fiber_report}
 use Rattle.scheduled_core.proofs.reports.report_of_fibers.Goals as goal
 
 nothing_left : {X : Type 0} (l : List X) → length l ≡ 0 → l ≡ []

@@ -1,6 +1,4 @@
-use Rattle.std.proofs.Common.{◌≡◌, ◌++◌, length, map}
-use Rattle.std.specs.List.{All}
-use Rattle.std.specs.Vec.Iter.{into_iter_items, into_iter_len}
+use Rattle.std.{proofs.Common.{◌≡◌, ◌++◌, length, map}, specs.{List.All, Vec.Iter.{into_iter_items, into_iter_len}}}
 use Rattle.fiber_frames.specs.Marks.{AreLawful}
 use Rattle.scheduled_core.specs.Core.{fiber_report}
 use Rattle.scheduled_core.proofs.reports.report_of_fibers.Given as goal

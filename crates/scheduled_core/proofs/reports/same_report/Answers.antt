@@ -1,6 +1,5 @@
 use Rattle.std.proofs.Common.{arith}
-use Rattle.scheduled_core.proofs.SameReports.{maps_apart}
-use Rattle.scheduled_core.specs.Core.{fiber_report}
+use Rattle.scheduled_core.{proofs.SameReports.maps_apart, specs.Core.fiber_report}
 use Rattle.scheduled_core.proofs.reports.same_report.Goals as goal
 
 pub returns-then-not-ended_alike-clause-other : goal.returns-then-not-ended_alike-clause-other

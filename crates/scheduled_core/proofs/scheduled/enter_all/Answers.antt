@@ -1,10 +1,7 @@
-use Rattle.std.proofs.Common.{◌≡◌, inl, inr, get_or, Ok, Err, refl, sym, ap, ◌∙◌, subst}
-use Rattle.std.proofs.lemmas.List.Folds.{fold_stuck}
-use Rattle.std.proofs.lemmas.List.Sums.{fold_more}
+use Rattle.std.proofs.{Common.{◌≡◌, inl, inr, get_or, Ok, Err, refl, sym, ap, ◌∙◌, subst}, lemmas.List.{Folds.fold_stuck, Sums.fold_more}}
 use Rattle.std.proofs.lemmas.Result.{err_from_is_err_and}
 use Rattle.cell_registry.specs.declared.limits.Limits.{Limits}
-use Rattle.scheduled_core.specs.Fitting.{world_of}
-use Rattle.scheduled_core.specs.Core.{entered}
+use Rattle.scheduled_core.specs.{Fitting.world_of, Core.entered}
 use Rattle.scheduled_core.proofs.scheduled.enter_all.Goals as goal
 
 pub returns-in_err-entry-clause-stops : goal.returns-in_err-entry-clause-stops

@@ -1,7 +1,5 @@
-use Rattle.std.proofs.Common.{◌≡◌, Ok, take}
-use Rattle.std.specs.List.{fold}
-use Rattle.scheduled_core.specs.Fitting.{AllFit, world_of}
-use Rattle.scheduled_core.specs.Core.{entered}
+use Rattle.std.{proofs.Common.{◌≡◌, Ok, take}, specs.List.fold}
+use Rattle.scheduled_core.specs.{Fitting.{AllFit, world_of}, Core.entered}
 use Rattle.scheduled_core.proofs.scheduled.enter_all.Given as goal
 
 -- the entries so far led to this world

@@ -1,14 +1,8 @@
-use Rattle.std.proofs.Common.{◌≡◌, ℕ, ◌++◌, inl, inr, Ok, List, [], ◌∷◌, set, sym, ap, ◌∙◌, subst, arith, append-nil}
-use Rattle.std.specs.Prelude.{Option, Some}
-use Rattle.std.specs.List.{slice_get}
-use Rattle.std.specs.Option.{option_to_list}
-use Rattle.std.proofs.lemmas.Grind.{common_steps}
-use Rattle.std.proofs.lemmas.Option.{gets}
-use Rattle.std.proofs.lemmas.Result.{err_from_is_err_and}
+use Rattle.std.proofs.{Common.{◌≡◌, ℕ, ◌++◌, inl, inr, Ok, List, [], ◌∷◌, set, sym, ap, ◌∙◌, subst, arith, rules, append-nil}, lemmas.Grind.common_steps}
+use Rattle.std.{proofs.lemmas.{Option.gets, Result.err_from_is_err_and}, specs.{Prelude.{Option, Some}, List.slice_get, Option.option_to_list}}
 use Rattle.fiber_frames.specs.Fiber.{Fiber}
-use Rattle.scheduled_core.specs.Fitting.{AllFit, Fits, cell_registered, world_of}
-use Rattle.scheduled_core.specs.Private.Moving.{Moves, Refuses}
-use Rattle.scheduled_core.proofs.Moves.{moved_entered, refused_entered, unborn_entered}
+use Rattle.scheduled_core.{specs.{Fitting.{AllFit, Fits, cell_registered, world_of}, Private.Moving.{Moves, Refuses}}, proofs.Moves.moved_entered}
+use Rattle.scheduled_core.proofs.Moves.{refused_entered, unborn_entered}
 use Rattle.scheduled_core.proofs.scheduled.entry.Goals as goal
 
 pub make_move-requires : goal.make_move-requires
@@ -29,8 +23,8 @@ returns-in_err-child-clause-stops c =
           (subst (λ (n : ℕ). Refuses c.args.registry.now n c.index_mut.result.now c.in_err-child.field-0.0) number q))
     ])
 
-pub returns-in_ok-add-in-Some-clause-fits : goal.returns-in_ok-add-in-Some-clause-fits
-returns-in_ok-add-in-Some-clause-fits c =
+pub returns-in_ok-add-in-Some : goal.returns-in_ok-add-in-Some
+returns-in_ok-add-in-Some c =
     let at : slice_get c.args.fibers.now.items c.args.number ≡ Some c.index_mut.result.now = grind (arith, common_steps, gets) in
     let number : c.index_mut.result.now.number ≡ c.args.number = (c.requires.each c.args.number c.index_mut.result.now at).number in
     let made = subst (λ (n : ℕ). Moves c.args.registry.now n c.index_mut.result.now c.make_move.new.registry c.make_move.new.config
@@ -41,24 +35,15 @@ returns-in_ok-add-in-Some-clause-fits c =
     at c.make_move.new.registry c.make_move.new.config (c.in-Some.child ∷ []) moves in
     let here : c.add.new.fibers.items ≡ set c.args.fibers.now.items c.args.number c.make_move.new.config ++ c.in-Some.child ∷ [] =
     c.in_ok-add-in-Some.ensures ∙ ap (λ i. set c.args.fibers.now.items i c.make_move.new.config ++ c.in-Some.child ∷ []) c.from-place.ensures in
-    subst (λ (fibers : List Fiber). AllFit (world_of fibers c.make_move.new.registry.state)) (sym here) led.fits
+    record {
+      limits = first_of (search rules, grind (arith, common_steps));
+      fits = subst (λ (fibers : List Fiber). AllFit (world_of fibers c.make_move.new.registry.state)) (sym here) led.fits;
+      goes = led.goes ∙ ap (λ (fibers : List Fiber). Ok (world_of fibers c.make_move.new.registry.state)) (sym here);
+      stops = search rules;
+    }
 
-pub returns-in_ok-add-in-Some-clause-goes : goal.returns-in_ok-add-in-Some-clause-goes
-returns-in_ok-add-in-Some-clause-goes c =
-    let at : slice_get c.args.fibers.now.items c.args.number ≡ Some c.index_mut.result.now = grind (arith, common_steps, gets) in
-    let number : c.index_mut.result.now.number ≡ c.args.number = (c.requires.each c.args.number c.index_mut.result.now at).number in
-    let made = subst (λ (n : ℕ). Moves c.args.registry.now n c.index_mut.result.now c.make_move.new.registry c.make_move.new.config
-    (option_to_list c.in_ok-child.field-0)) number c.in_ok-child.ensures.moves in
-    let moves = subst (λ (o : Option Fiber). Moves c.args.registry.now c.args.number c.index_mut.result.now c.make_move.new.registry
-    c.make_move.new.config (option_to_list o)) c.in-Some.is made in
-    let led = moved_entered c.args.registry.now c.args.fibers.now.items c.args.number c.index_mut.result.now c.requires c.in_ok-child.ensures.lawful
-    at c.make_move.new.registry c.make_move.new.config (c.in-Some.child ∷ []) moves in
-    let here : c.add.new.fibers.items ≡ set c.args.fibers.now.items c.args.number c.make_move.new.config ++ c.in-Some.child ∷ [] =
-    c.in_ok-add-in-Some.ensures ∙ ap (λ i. set c.args.fibers.now.items i c.make_move.new.config ++ c.in-Some.child ∷ []) c.from-place.ensures in
-    led.goes ∙ ap (λ (fibers : List Fiber). Ok (world_of fibers c.make_move.new.registry.state)) (sym here)
-
-pub returns-in-None-clause-fits : goal.returns-in-None-clause-fits
-returns-in-None-clause-fits c =
+pub returns-in-None : goal.returns-in-None
+returns-in-None c =
     let at : slice_get c.args.fibers.now.items c.args.number ≡ Some c.index_mut.result.now = grind (arith, common_steps, gets) in
     let number : c.index_mut.result.now.number ≡ c.args.number = (c.requires.each c.args.number c.index_mut.result.now at).number in
     let made = subst (λ (n : ℕ). Moves c.args.registry.now n c.index_mut.result.now c.make_move.new.registry c.make_move.new.config
@@ -69,21 +54,12 @@ returns-in-None-clause-fits c =
     at c.make_move.new.registry c.make_move.new.config [] moves in
     let here : set c.args.fibers.now.items c.from-place.result c.make_move.new.config ≡ set c.args.fibers.now.items c.args.number c.make_move.new.config ++ [] =
     ap (λ i. set c.args.fibers.now.items i c.make_move.new.config) c.from-place.ensures ∙ sym (append-nil _) in
-    subst (λ (fibers : List Fiber). AllFit (world_of fibers c.make_move.new.registry.state)) (sym here) led.fits
-
-pub returns-in-None-clause-goes : goal.returns-in-None-clause-goes
-returns-in-None-clause-goes c =
-    let at : slice_get c.args.fibers.now.items c.args.number ≡ Some c.index_mut.result.now = grind (arith, common_steps, gets) in
-    let number : c.index_mut.result.now.number ≡ c.args.number = (c.requires.each c.args.number c.index_mut.result.now at).number in
-    let made = subst (λ (n : ℕ). Moves c.args.registry.now n c.index_mut.result.now c.make_move.new.registry c.make_move.new.config
-    (option_to_list c.in_ok-child.field-0)) number c.in_ok-child.ensures.moves in
-    let moves = subst (λ (o : Option Fiber). Moves c.args.registry.now c.args.number c.index_mut.result.now c.make_move.new.registry
-    c.make_move.new.config (option_to_list o)) c.in-None.is made in
-    let led = moved_entered c.args.registry.now c.args.fibers.now.items c.args.number c.index_mut.result.now c.requires c.in_ok-child.ensures.lawful
-    at c.make_move.new.registry c.make_move.new.config [] moves in
-    let here : set c.args.fibers.now.items c.from-place.result c.make_move.new.config ≡ set c.args.fibers.now.items c.args.number c.make_move.new.config ++ [] =
-    ap (λ i. set c.args.fibers.now.items i c.make_move.new.config) c.from-place.ensures ∙ sym (append-nil _) in
-    led.goes ∙ ap (λ (fibers : List Fiber). Ok (world_of fibers c.make_move.new.registry.state)) (sym here)
+    record {
+      limits = first_of (search rules, grind (arith, common_steps));
+      fits = subst (λ (fibers : List Fiber). AllFit (world_of fibers c.make_move.new.registry.state)) (sym here) led.fits;
+      goes = led.goes ∙ ap (λ (fibers : List Fiber). Ok (world_of fibers c.make_move.new.registry.state)) (sym here);
+      stops = search rules;
+    }
 
 pub returns-else-place-len-clause-goes : goal.returns-else-place-len-clause-goes
 returns-else-place-len-clause-goes c =

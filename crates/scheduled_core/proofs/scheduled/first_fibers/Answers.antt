@@ -1,12 +1,8 @@
 use Rattle.std.proofs.Common.{◌≡◌, [], ◌∷◌, List, sym, subst, rules}
-use Rattle.derived_ops.specs.Expansion.{code_of}
-use Rattle.derived_ops.specs.Naming.{Given}
-use Rattle.derived_ops.specs.Reading.{source_of}
-use Rattle.fiber_frames.specs.Fiber.{Fiber, begins}
-use Rattle.fiber_frames.specs.Naming.{NamedBeginning}
+use Rattle.derived_ops.specs.{Expansion.code_of, Naming.Given, Reading.source_of}
+use Rattle.fiber_frames.specs.{Fiber.{Fiber, begins}, Naming.NamedBeginning}
 use Rattle.cell_registry.specs.Cells.{opening}
-use Rattle.scheduled_core.specs.Fitting.{AllFit, world_of}
-use Rattle.scheduled_core.proofs.Worlds.{all_first}
+use Rattle.scheduled_core.{specs.Fitting.{AllFit, world_of}, proofs.Worlds.all_first}
 use Rattle.scheduled_core.proofs.scheduled.first_fibers.Goals as goal
 
 pub returns-clause-fits : goal.returns-clause-fits

@@ -1,14 +1,9 @@
-use Rattle.std.proofs.Common.{◌≡◌, ℕ, inr, refl, sym, ap, subst, ◌∙◌}
-use Rattle.std.specs.Prelude.{Some}
+use Rattle.std.{proofs.Common.{◌≡◌, ℕ, inr, refl, sym, ap, subst, ◌∙◌}, specs.Prelude.Some}
 use Rattle.effect_term.specs.declared.reply.Reply.TheVariants.{Done}
 use Rattle.fiber_frames.specs.Fiber.{ask_of}
-use Rattle.scheduled_core.specs.declared.wish.Wish.TheVariants.{Shared, Alone, Nothing}
-use Rattle.cell_registry.specs.Cells.{refusal}
-use Rattle.cell_registry.specs.Plain.{IsMade, MayCall}
-use Rattle.scheduled_core.specs.Core.{fault_of, wish_of}
-use Rattle.scheduled_core.specs.Private.Moving.{Made, Refuses, Rests, Unshared}
-use Rattle.scheduled_core.proofs.AskTells.{asking}
-use Rattle.scheduled_core.proofs.Moves.{few_masks, goes_on, lacks_memory, may_call, replied_answers}
+use Rattle.scheduled_core.specs.{declared.wish.Wish.TheVariants.{Shared, Alone, Nothing}, Core.{fault_of, wish_of}, Private.Moving.{Made, Refuses, Rests}}
+use Rattle.scheduled_core.{specs.Private.Moving.Unshared, proofs.{AskTells.asking, Moves.{few_masks, goes_on, lacks_memory, may_call, replied_answers}}}
+use Rattle.cell_registry.specs.{Cells.refusal, Plain.{IsMade, MayCall}}
 use Rattle.scheduled_core.proofs.scheduled.make_move.Goals as goal
 
 pub returns-in-Nothing-clause-moves : goal.returns-in-Nothing-clause-moves

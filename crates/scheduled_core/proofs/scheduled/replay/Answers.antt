@@ -1,12 +1,7 @@
-use Rattle.std.proofs.Common.{◌≡◌, inl, inr, Ok, Err, sym, ap, ◌∙◌, subst, map}
-use Rattle.std.proofs.lemmas.Result.{err_from_is_err_and}
-use Rattle.derived_ops.specs.Expansion.{code_of}
-use Rattle.derived_ops.specs.Reading.{source_of}
-use Rattle.cell_registry.specs.Cells.{Cells, opening}
-use Rattle.cell_registry.specs.Plain.{PlainView}
-use Rattle.scheduled_core.specs.Fitting.{AllFit, world_of}
-use Rattle.scheduled_core.specs.Core.{fiber_report, reported}
-use Rattle.scheduled_core.proofs.Moves.{core-opened}
+use Rattle.std.proofs.{Common.{◌≡◌, inl, inr, Ok, Err, sym, ap, ◌∙◌, subst, map}, lemmas.Result.err_from_is_err_and}
+use Rattle.derived_ops.specs.{Expansion.code_of, Reading.source_of}
+use Rattle.cell_registry.specs.{Cells.{Cells, opening}, Plain.PlainView}
+use Rattle.scheduled_core.{specs.{Fitting.{AllFit, world_of}, Core.{fiber_report, reported}}, proofs.Moves.core-opened}
 use Rattle.scheduled_core.proofs.scheduled.replay.Goals as goal
 
 pub enter_all-requires : goal.enter_all-requires

@@ -1,8 +1,6 @@
 use Rattle.std.proofs.Common.{◌∙◌, sym, ap, arith, subst}
 use Rattle.fiber_frames.specs.Naming.{AskNamed}
-use Rattle.scheduled_core.specs.Core.{wish_of}
-use Rattle.scheduled_core.specs.Fitting.{given_by}
-use Rattle.scheduled_core.proofs.Settling.{at_rest, waits_join, waits_read, word_named}
+use Rattle.scheduled_core.{specs.{Core.wish_of, Fitting.given_by}, proofs.Settling.{at_rest, waits_join, waits_read, word_named}}
 use Rattle.scheduled_core.proofs.why.why_of.Goals as goal
 
 pub has_ended-requires : goal.has_ended-requires

@@ -1,10 +1,6 @@
-use Rattle.std.proofs.Common.{◌≡◌, [], ◌∷◌}
-use Rattle.term_parse.specs.Atoms.{ended}
-use Rattle.term_parse.specs.Forms.{sorts, ends}
-use Rattle.term_parse.proofs.Builds.{ends_none}
+use Rattle.std.proofs.Common.{◌≡◌, [], ◌∷◌, subst}
+use Rattle.term_parse.{specs.{Atoms.ended, Forms.{sorts, ends, Shaped}}, proofs.Builds.ends_none}
 use Rattle.term_parse.proofs.build.build.Goals as goal
-use Rattle.std.proofs.Common.{subst}
-use Rattle.term_parse.specs.Forms.{Shaped}
 
 pub returns-in-Cede : goal.returns-in-Cede
 returns-in-Cede c =

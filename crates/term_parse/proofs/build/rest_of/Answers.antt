@@ -1,7 +1,6 @@
-use Rattle.term_parse.specs.Forms.{ends}
-use Rattle.term_parse.proofs.build.rest_of.Goals as goal
+use Rattle.term_parse.{specs.Forms.ends, proofs.Builds.{rest_more, rest_atoms}}
 use Rattle.std.proofs.Common.{rules}
-use Rattle.term_parse.proofs.Builds.{rest_more, rest_atoms}
+use Rattle.term_parse.proofs.build.rest_of.Goals as goal
 
 pub loop-piece-preserved : goal.loop-piece-preserved
 loop-piece-preserved c = record {

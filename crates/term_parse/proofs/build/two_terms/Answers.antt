@@ -1,7 +1,5 @@
 use Rattle.std.proofs.Common.{◌≡◌, [], ◌∷◌}
-use Rattle.term_parse.specs.Atoms.{ended}
-use Rattle.term_parse.specs.Forms.{sorts, ends}
-use Rattle.term_parse.proofs.Builds.{ends_none}
+use Rattle.term_parse.{specs.{Atoms.ended, Forms.{sorts, ends}}, proofs.Builds.ends_none}
 use Rattle.term_parse.proofs.build.two_terms.Goals as goal
 
 pub returns : goal.returns

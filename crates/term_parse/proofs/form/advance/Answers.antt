@@ -1,8 +1,5 @@
 use Rattle.std.proofs.Common.{◌≡◌, [], length, drop, ap, subst, IfOk, IfErr, arith, rules}
-use Rattle.term_parse.specs.Language.{parts_of}
-use Rattle.term_parse.specs.Forms.{FailsAt, Stepped}
-use Rattle.term_parse.specs.OpenForms.{innermost}
-use Rattle.term_parse.proofs.Steps.{fails_over, drop_over}
+use Rattle.term_parse.{specs.{Language.parts_of, Forms.{FailsAt, Stepped}, OpenForms.innermost}, proofs.Steps.{fails_over, drop_over}}
 use Rattle.term_parse.proofs.form.advance.Goals as goal
 
 pub returns-in_default-clause-fault : goal.returns-in_default-clause-fault

@@ -1,6 +1,5 @@
 use Rattle.std.proofs.Common.{refl, arith, rules}
-use Rattle.term_parse.specs.OpenForms.{innermost}
-use Rattle.term_parse.proofs.Steps.{fails_bind, reads_bind}
+use Rattle.term_parse.{specs.OpenForms.innermost, proofs.Steps.{fails_bind, reads_bind}}
 use Rattle.term_parse.proofs.form.bind.Goals as goal
 
 pub returns-in_default : goal.returns-in_default

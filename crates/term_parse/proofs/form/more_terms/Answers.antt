@@ -1,6 +1,5 @@
 use Rattle.std.proofs.Common.{refl, arith}
-use Rattle.term_parse.specs.OpenForms.{innermost}
-use Rattle.term_parse.proofs.Steps.{fails_more, closes_more}
+use Rattle.term_parse.{specs.OpenForms.innermost, proofs.Steps.{fails_more, closes_more}}
 use Rattle.term_parse.proofs.form.more_terms.Goals as goal
 
 pub returns-in-Close-clause-found : goal.returns-in-Close-clause-found

@@ -1,6 +1,5 @@
 use Rattle.std.proofs.Common.{arith, rules}
-use Rattle.term_parse.specs.OpenForms.{innermost}
-use Rattle.term_parse.proofs.Steps.{fails_named_value, reads_named_value}
+use Rattle.term_parse.{specs.OpenForms.innermost, proofs.Steps.{fails_named_value, reads_named_value}}
 use Rattle.term_parse.proofs.form.named_value.Goals as goal
 
 pub returns-in_ok-with_piece-in-Ok-clause-found : goal.returns-in_ok-with_piece-in-Ok-clause-found

@@ -1,5 +1,4 @@
-use Rattle.term_parse.specs.OpenForms.{innermost}
-use Rattle.term_parse.proofs.Steps.{fails_term}
+use Rattle.term_parse.{specs.OpenForms.innermost, proofs.Steps.fails_term}
 use Rattle.term_parse.proofs.form.one_term.Goals as goal
 
 pub returns-in_default : goal.returns-in_default

@@ -1,9 +1,5 @@
-use Rattle.std.proofs.Common.{◌≡◌, ◌∙◌, refl, ap, sym, subst, length, take, arith}
-use Rattle.std.proofs.lemmas.List.{length-take}
-use Rattle.term_parse.specs.Bindings.{InText, bounds}
-use Rattle.term_parse.specs.Reading.{entered}
-use Rattle.term_parse.specs.OpenForms.{begun_form, innermost}
-use Rattle.term_parse.proofs.Steps.{fails_deep, fails_word, opens_form}
+use Rattle.std.proofs.{Common.{◌≡◌, ◌∙◌, refl, ap, sym, subst, length, take, arith}, lemmas.List.length-take}
+use Rattle.term_parse.{specs.{Bindings.{InText, bounds}, Reading.entered, OpenForms.{begun_form, innermost}}, proofs.Steps.{fails_deep, fails_word, opens_form}}
 use Rattle.term_parse.proofs.form.open.Goals as goal
 
 pub returns-then-depth-ge-MOST_OPEN-clause-fault : goal.returns-then-depth-ge-MOST_OPEN-clause-fault

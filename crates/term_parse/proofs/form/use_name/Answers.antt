@@ -1,6 +1,5 @@
 use Rattle.std.proofs.Common.{arith, rules}
-use Rattle.term_parse.specs.OpenForms.{innermost}
-use Rattle.term_parse.proofs.Steps.{fails_use, fails_name, reads_name}
+use Rattle.term_parse.{specs.OpenForms.innermost, proofs.Steps.{fails_use, fails_name, reads_name}}
 use Rattle.term_parse.proofs.form.use_name.Goals as goal
 
 pub returns-in_default : goal.returns-in_default

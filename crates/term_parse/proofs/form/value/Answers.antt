@@ -1,6 +1,5 @@
 use Rattle.std.proofs.Common.{arith}
-use Rattle.term_parse.specs.OpenForms.{innermost}
-use Rattle.term_parse.proofs.Steps.{fails_value, reads_number}
+use Rattle.term_parse.{specs.OpenForms.innermost, proofs.Steps.{fails_value, reads_number}}
 use Rattle.term_parse.proofs.form.value.Goals as goal
 
 pub returns-in_ok-with_piece-in-Number-clause-found : goal.returns-in_ok-with_piece-in-Number-clause-found

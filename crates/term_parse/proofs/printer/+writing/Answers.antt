@@ -1,12 +1,7 @@
-use Rattle.std.proofs.Common.{◌++◌, ◌∙◌, ap, sym, subst, arith}
-use Rattle.std.proofs.lemmas.Result.{on_ok_weaker}
-use Rattle.term_parse.specs.PrintedParts.{Suffice}
-use Rattle.term_parse.proofs.Parts.{appended, followed, close_text, more_text, bind_text, piece_text, form_text}
-use Rattle.term_parse.specs.Spelling.{spelling}
-use Rattle.term_parse.proofs.MoreTerms.{weight_at, next_text, next_numbers}
-use Rattle.term_parse.proofs.PrintedNumbers.{close_numbers, more_numbers, piece_numbers}
-use Rattle.term_parse.specs.Numbers.{NumbersFit}
-use Rattle.term_parse.proofs.Weights.{weight_form}
+use Rattle.std.proofs.{Common.{◌++◌, ◌∙◌, ap, sym, subst, arith}, lemmas.Result.on_ok_weaker}
+use Rattle.term_parse.{specs.{PrintedParts.Suffice, Spelling.spelling, Numbers.NumbersFit}, proofs.Parts.{appended, followed, close_text, more_text, bind_text}}
+use Rattle.term_parse.proofs.{Parts.{piece_text, form_text}, MoreTerms.{weight_at, next_text, next_numbers}, PrintedNumbers.{close_numbers, more_numbers}}
+use Rattle.term_parse.proofs.{PrintedNumbers.piece_numbers, Weights.weight_form}
 use Rattle.term_parse.proofs.printer.+writing.Goals as goal
 
 pub write_parts-returns-in_ok-push-in-Close-clause-text : goal.write_parts-returns-in_ok-push-in-Close-clause-text

@@ -1,9 +1,6 @@
 use Rattle.std.proofs.Common.{◌≡◌, ◌+◌, ◌*◌, ◌≤◌, [], ◌∷◌, ◌++◌, length, drop, vec_len}
-use Rattle.term_parse.specs.Atoms.{ended}
-use Rattle.term_parse.specs.Numbers.{NumbersFit}
-use Rattle.term_parse.specs.PrintedParts.{terms_spelled, terms_atoms}
-use Rattle.term_parse.specs.Spelling.{more_spelling}
-use Rattle.term_parse.proofs.Weights.{weight, terms_weight, piece_weight, pieces_weight}
+use Rattle.term_parse.{specs.{Atoms.ended, Numbers.NumbersFit, PrintedParts.{terms_spelled, terms_atoms}, Spelling.more_spelling}, proofs.Weights.weight}
+use Rattle.term_parse.proofs.Weights.{terms_weight, piece_weight, pieces_weight}
 use Rattle.term_parse.proofs.printer.+writing.Given as goal
 
 abbrev pub decreases-write_term : goal.decreases-write_term

@@ -1,9 +1,5 @@
 use Rattle.std.proofs.Common.{◌≡◌, ◌≤◌, ◌++◌, ◌∙◌, Ok, ap, sym, subst, length}
-use Rattle.term_parse.specs.Atoms.{atoms_of}
-use Rattle.term_parse.specs.Reading.{reading}
-use Rattle.term_parse.specs.Spelling.{canonical}
-use Rattle.term_parse.proofs.ParseLaws.{one_term}
-use Rattle.term_parse.proofs.RoundTrip.{reading-canonical}
+use Rattle.term_parse.{specs.{Atoms.atoms_of, Reading.reading, Spelling.canonical}, proofs.{ParseLaws.one_term, RoundTrip.reading-canonical}}
 use Rattle.term_parse.proofs.SpelledLaws.{spelled-from_reading}
 use Rattle.term_parse.proofs.printer.print.Goals as goal
 

@@ -1,6 +1,5 @@
 use Rattle.std.proofs.Common.{ap, sym, ◌+◌, ◌∷◌, []}
-use Rattle.term_parse.proofs.Parts.{followed}
-use Rattle.term_parse.specs.Spelling.{name_spelling}
+use Rattle.term_parse.{proofs.Parts.followed, specs.Spelling.name_spelling}
 use Rattle.term_parse.proofs.printer.write_binder.Goals as goal
 
 pub returns-clause-text : goal.returns-clause-text

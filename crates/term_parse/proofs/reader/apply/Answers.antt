@@ -1,7 +1,5 @@
 use Rattle.std.proofs.Common.{sym, subst, arith, rules}
-use Rattle.term_parse.specs.Forms.{Stepped}
-use Rattle.term_parse.specs.OpenForms.{IsBegun}
-use Rattle.term_parse.proofs.OpenStacks.{open_reads, open_opens}
+use Rattle.term_parse.{specs.{Forms.Stepped, OpenForms.IsBegun}, proofs.OpenStacks.{open_reads, open_opens}}
 use Rattle.term_parse.proofs.reader.apply.Goals as goal
 
 pub returns-in-Read : goal.returns-in-Read

@@ -1,9 +1,5 @@
-use Rattle.term_parse.specs.Reading.{reading}
-use Rattle.term_parse.proofs.FaultLaws.{reading-from_fault}
-use Rattle.term_parse.proofs.KindLaws.{closed_from}
-use Rattle.term_parse.proofs.ParseLaws.{spelled_from, one_term_from, first_fault_from, one_fault_from}
-use Rattle.term_parse.proofs.SpelledLaws.{reading-from_spelled}
-use Rattle.term_parse.proofs.Stacks.{only_from, refused_from}
+use Rattle.term_parse.{specs.Reading.reading, proofs.{FaultLaws.reading-from_fault, KindLaws.closed_from, ParseLaws.{spelled_from, one_term_from}}}
+use Rattle.term_parse.proofs.{ParseLaws.{first_fault_from, one_fault_from}, SpelledLaws.reading-from_spelled, Stacks.{only_from, refused_from}}
 use Rattle.term_parse.proofs.reader.parse.Goals as goal
 
 pub returns-clause-only : goal.returns-clause-only

@@ -1,7 +1,5 @@
 use Rattle.std.proofs.Common.{◌≡◌, ◌+◌, length, sym, subst, arith}
-use Rattle.term_parse.specs.Forms.{IsOpen, Sound}
-use Rattle.term_parse.specs.OpenForms.{innermost}
-use Rattle.term_parse.proofs.OpenStacks.{open_fails, buildable, forms_few}
+use Rattle.term_parse.{specs.{Forms.{IsOpen, Sound}, OpenForms.innermost}, proofs.OpenStacks.{open_fails, buildable, forms_few}}
 use Rattle.term_parse.proofs.reader.read_token.Goals as goal
 
 pub overflow_add-depth : goal.overflow_add-depth

@@ -1,8 +1,6 @@
 use Rattle.std.proofs.Common.{◌≡◌, subst, rules}
+use Rattle.term_parse.{specs.{Forms.Adds, OpenForms.innermost}, proofs.OpenStacks.open_closes}
 use Rattle.term_parse.specs.declared.form.ReadPart.TheVariants as pieces
-use Rattle.term_parse.specs.Forms.{Adds}
-use Rattle.term_parse.specs.OpenForms.{innermost}
-use Rattle.term_parse.proofs.OpenStacks.{open_closes}
 use Rattle.term_parse.proofs.reader.resume.Goals as goal
 
 pub returns : goal.returns

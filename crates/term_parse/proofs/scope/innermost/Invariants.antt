@@ -1,6 +1,5 @@
 use Rattle.std.proofs.Common.{◌≡◌, ◌≤◌, length}
-use Rattle.term_parse.specs.Bindings.{bounds, InText}
-use Rattle.term_parse.specs.Reading.{find_from}
+use Rattle.term_parse.specs.{Bindings.{bounds, InText}, Reading.find_from}
 use Rattle.term_parse.proofs.scope.innermost.Given as goal
 
 abbrev pub invariant-loop-binding : goal.invariant-loop-binding

@@ -1,10 +1,8 @@
 use Rattle.std.proofs.Common.{◌≡◌, Result, Ok, Err, rules}
 use Rattle.effect_term.specs.declared.term.Name.{Name}
-use Rattle.term_parse.specs.declared.error.ParseError.{ParseError}
+use Rattle.term_parse.{specs.{declared.error.ParseError.ParseError, Bindings.bounds, Reading.meaning}, proofs.ScopeLaws.{meant_where, unknown_where}}
+use Rattle.term_parse.proofs.ScopeLaws.{other_where}
 use Rattle.term_parse.specs.declared.error.ParseError.TheVariants as errors
-use Rattle.term_parse.specs.Bindings.{bounds}
-use Rattle.term_parse.specs.Reading.{meaning}
-use Rattle.term_parse.proofs.ScopeLaws.{meant_where, unknown_where, other_where}
 use Rattle.term_parse.proofs.scope.meaning.Goals as goal
 
 pub returns-in_default : goal.returns-in_default

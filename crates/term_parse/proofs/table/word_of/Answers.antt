@@ -1,6 +1,5 @@
 use Rattle.std.proofs.Common.{◌∙◌, ap, find, bytes_eq}
-use Rattle.term_parse.specs.Language.{word_spelling}
-use Rattle.term_parse.proofs.Lookup.{near_word}
+use Rattle.term_parse.{specs.Language.word_spelling, proofs.Lookup.near_word}
 use Rattle.term_parse.proofs.table.word_of.Goals as goal
 
 pub returns : goal.returns

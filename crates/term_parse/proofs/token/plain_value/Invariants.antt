@@ -1,5 +1,4 @@
-use Rattle.std.proofs.Common.{◌≡◌, true, take}
-use Rattle.std.specs.Str.Parse.{digits_value}
+use Rattle.std.{proofs.Common.{◌≡◌, true, take}, specs.Str.Parse.digits_value}
 use Rattle.term_parse.specs.Lexemes.{all_digits}
 use Rattle.term_parse.proofs.token.plain_value.Given as goal
 

@@ -1,5 +1,4 @@
-use Rattle.std.proofs.Common.{Some, None, arith}
-use Rattle.std.proofs.lemmas.Str.Pattern.{split_parts}
+use Rattle.std.proofs.{Common.{Some, None, arith}, lemmas.Str.Pattern.split_parts}
 use Rattle.text_io.proofs.ScheduleLemmas.{no_at}
 use Rattle.text_io.proofs.schedule.first_item.Goals as goal
 

@@ -1,8 +1,5 @@
-use Rattle.std.proofs.Common.{◌≡◌, arith, Some, None, refl, sym, ◌∙◌}
-use Rattle.std.proofs.lemmas.Fmt.{decimal_injective}
-use Rattle.std.proofs.lemmas.Str.Pattern.{split_parts}
-use Rattle.text_io.specs.Schedule.{once, repeated}
-use Rattle.text_io.proofs.ScheduleLemmas.{no_at, starred, unstarred}
+use Rattle.std.proofs.{Common.{◌≡◌, arith, Some, None, refl, sym, ◌∙◌}, lemmas.{Fmt.decimal_injective, Str.Pattern.split_parts}}
+use Rattle.text_io.{specs.Schedule.{once, repeated}, proofs.ScheduleLemmas.{no_at, starred, unstarred}}
 use Rattle.text_io.proofs.schedule.item.Goals as goal
 
 pub returns-in_default-clause-none : goal.returns-in_default-clause-none

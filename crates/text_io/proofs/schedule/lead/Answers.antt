@@ -1,6 +1,4 @@
-use Rattle.std.proofs.Common.{◌≡◌, ◌∷◌, [], ◌+◌, ◌<◌, get_or, take, length, sym, ◌∙◌, arith, rules}
-use Rattle.std.proofs.Math.Seq.{take-suc}
-use Rattle.std.proofs.lemmas.Fmt.{decimal_digit}
+use Rattle.std.proofs.{Common.{◌≡◌, ◌∷◌, [], ◌+◌, ◌<◌, get_or, take, length, sym, ◌∙◌, arith, rules}, Math.Seq.take-suc, lemmas.Fmt.decimal_digit}
 use Rattle.text_io.proofs.ScheduleLemmas.{digit_more}
 use Rattle.text_io.proofs.schedule.lead.Goals as goal
 

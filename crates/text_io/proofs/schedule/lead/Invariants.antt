@@ -1,5 +1,4 @@
-use Rattle.std.proofs.Common.{◌≡◌, ◌≤◌, take}
-use Rattle.std.specs.Fmt.{decimal}
+use Rattle.std.{proofs.Common.{◌≡◌, ◌≤◌, take}, specs.Fmt.decimal}
 use Rattle.text_io.proofs.schedule.lead.Given as goal
 
 abbrev pub invariant-loop-at : goal.invariant-loop-at

@@ -1,8 +1,5 @@
-use Rattle.std.proofs.Common.{◌≡◌, ◌∙◌, ap, sym, true, arith, Ok}
-use Rattle.std.proofs.lemmas.Fmt.{parse-decimal}
-use Rattle.std.specs.declared.num.ParseIntError.{ParseIntError}
-use Rattle.text_io.specs.Digits.{is_plain}
-use Rattle.text_io.proofs.ScheduleLemmas.{parsed, decimal_plain}
+use Rattle.std.{proofs.{Common.{◌≡◌, ◌∙◌, ap, sym, true, arith, Ok}, lemmas.Fmt.parse-decimal}, specs.declared.num.ParseIntError.ParseIntError}
+use Rattle.text_io.{specs.Digits.is_plain, proofs.ScheduleLemmas.{parsed, decimal_plain}}
 use Rattle.text_io.proofs.schedule.number.Goals as goal
 
 pub returns-then-not-is_plain-clause-none : goal.returns-then-not-is_plain-clause-none

@@ -1,11 +1,6 @@
-use Rattle.std.proofs.Common.{◌≡◌, ◌+◌, ◌-◌, ◌<◌, ◌∷◌, ◌++◌, get_or, drop, take, length, sym, ◌∙◌, ap, subst, arith, rules, List, ℕ}
-use Rattle.std.specs.Fmt.{decimal}
-use Rattle.std.proofs.lemmas.List.{get_or-drop}
-use Rattle.std.proofs.Math.Seq.{take_all}
-use Rattle.std.proofs.lemmas.List.{length-drop}
-use Rattle.std.proofs.lemmas.Str.{lead_after_ascii}
-use Rattle.text_io.specs.Reading.{GoesOn}
-use Rattle.text_io.proofs.ScheduleLemmas.{first_of}
+use Rattle.std.proofs.{Common.{◌≡◌, ◌+◌, ◌-◌, ◌<◌, ◌∷◌, ◌++◌, get_or, drop, take, length, sym, ◌∙◌, ap, subst, arith, rules, List, ℕ}, lemmas.List.get_or-drop}
+use Rattle.std.{proofs.{lemmas.{List.length-drop, Str.lead_after_ascii}, Math.Seq.take_all}, specs.Fmt.decimal}
+use Rattle.text_io.{specs.Reading.GoesOn, proofs.ScheduleLemmas.first_of}
 use Rattle.text_io.proofs.schedule.quick_item.Goals as goal
 
 -- behind the space, which is one byte, a character begins

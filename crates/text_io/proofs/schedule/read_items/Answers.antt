@@ -1,6 +1,5 @@
 use Rattle.std.proofs.Common.{◌≡◌, ◌≤◌, ◌<◌, ◌+◌, ◌-◌, rules, arith, length, subst}
-use Rattle.text_io.specs.Schedule.{IsFirstBad}
-use Rattle.text_io.proofs.ScheduleLemmas.{read_bad, read_more, read_all, too_many}
+use Rattle.text_io.{specs.Schedule.IsFirstBad, proofs.ScheduleLemmas.{read_bad, read_more, read_all, too_many}}
 use Rattle.text_io.proofs.schedule.read_items.Goals as goal
 
 pub returns-in_default-clause-place : goal.returns-in_default-clause-place

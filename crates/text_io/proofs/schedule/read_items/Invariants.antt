@@ -1,6 +1,5 @@
 use Rattle.std.proofs.Common.{length}
-use denote.Shadow.{shadow}
-use denote.Text.{Utf8}
+use denote.{Shadow.shadow, Text.Utf8}
 use Rattle.text_io.specs.Reading.{HasRead}
 use Rattle.text_io.proofs.schedule.read_items.Given as goal
 

@@ -1,8 +1,5 @@
-use Rattle.std.proofs.Common.{◌++◌, ◌∷◌, refl, rules}
-use Rattle.std.specs.Prelude.{string_bytes}
-use Rattle.std.specs.Fmt.{decimal}
-use Rattle.text_io.specs.Schedule.{once, repeated}
-use Rattle.text_io.proofs.WriteLemmas.{item_there}
+use Rattle.std.{proofs.Common.{◌++◌, ◌∷◌, refl, rules}, specs.{Prelude.string_bytes, Fmt.decimal}}
+use Rattle.text_io.{specs.Schedule.{once, repeated}, proofs.WriteLemmas.item_there}
 use Rattle.text_io.proofs.schedule_items.item_text.Goals as goal
 
 pub returns-then-times-eq1 : goal.returns-then-times-eq1

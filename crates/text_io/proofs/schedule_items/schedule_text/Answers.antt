@@ -1,7 +1,5 @@
-use Rattle.std.proofs.Common.{◌≡◌, ◌-◌, ◌<◌, ◌++◌, ℕ, List, [], ◌∷◌, length, drop, take, get_or, sym, ap, ◌∙◌, rules, subst}
-use Rattle.std.specs.Prelude.{string_bytes}
-use Rattle.text_io.specs.Reading.{HasWritten}
-use Rattle.text_io.proofs.WriteLemmas.{behind, write_all, write_more}
+use Rattle.std.{proofs.Common.{◌≡◌, ◌-◌, ◌<◌, ◌++◌, ℕ, List, [], ◌∷◌, length, drop, take, get_or, sym, ap, ◌∙◌, rules, subst}, specs.Prelude.string_bytes}
+use Rattle.text_io.{specs.Reading.HasWritten, proofs.WriteLemmas.{behind, write_all, write_more}}
 use Rattle.text_io.proofs.schedule_items.schedule_text.Goals as goal
 
 pub returns-then-is_empty-2 : goal.returns-then-is_empty-2

@@ -1,5 +1,4 @@
-use Rattle.std.proofs.Common.{length}
-use Rattle.std.specs.Prelude.{string_bytes}
+use Rattle.std.{proofs.Common.length, specs.Prelude.string_bytes}
 use Rattle.text_io.specs.Reading.{HasWritten}
 use Rattle.text_io.proofs.schedule_items.schedule_text.Given as goal
 

@@ -1,11 +1,7 @@
-use Rattle.std.proofs.Common.{◌≡◌, ◌≤◌, length, take, drop, arith, ap, ◌∙◌, Err}
-use Rattle.text_io.specs.Device.{read_failed}
-use Rattle.std.proofs.lemmas.List.{take_at, take-append-le}
-use Rattle.std.proofs.lemmas.Grind.{common_steps}
-use Rattle.text_io.proofs.KnownLemmas.{consumes_more, consumes_same}
-use Rattle.text_io.proofs.ReadLemmas.{found_end-some, or-false, ran_out, read_full}
-use Rattle.text_io.proofs.text.read_text.Goals as goal
+use Rattle.std.proofs.{Common.{◌≡◌, ◌≤◌, length, take, drop, arith, ap, ◌∙◌, Err}, lemmas.{List.{take_at, take-append-le}, Grind.common_steps}}
+use Rattle.text_io.{specs.Device.read_failed, proofs.{KnownLemmas.{consumes_more, consumes_same}, ReadLemmas.{found_end-some, or-false, ran_out, read_full}}}
 use Rattle.text_io.proofs.text.read_text.Goals.{in-Ok+else-length-eq-TEXT_BOUND, in-Err-Interrupted}
+use Rattle.text_io.proofs.text.read_text.Goals as goal
 
 pub returns-then-length-eq-TEXT_BOUND-clause-read :
     goal.returns-then-length-eq-TEXT_BOUND-clause-read

@@ -1,5 +1,4 @@
-use Rattle.std.proofs.Common.{◌+◌, ◌≡◌, ◌<◌, false, take, vec_len}
-use Rattle.std.specs.Io.KnownBytes.{Consumes}
+use Rattle.std.{proofs.Common.{◌+◌, ◌≡◌, ◌<◌, false, take, vec_len}, specs.Io.KnownBytes.Consumes}
 use Rattle.text_io.proofs.text.read_text.Given as goal
 
 abbrev pub invariant-loop : goal.invariant-loop

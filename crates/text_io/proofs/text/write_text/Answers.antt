@@ -1,5 +1,4 @@
-use Rattle.std.proofs.Common.{arith, rules}
-use Rattle.std.proofs.lemmas.Grind.{common_steps}
+use Rattle.std.proofs.{Common.{arith, rules}, lemmas.Grind.common_steps}
 use Rattle.text_io.proofs.KnownLemmas.{appends_more}
 use Rattle.text_io.proofs.text.write_text.Goals as goal
 

@@ -1,6 +1,5 @@
-use Rattle.std.proofs.Common.{length, arith}
-use Rattle.world_search.proofs.Claiming.{listed_next, looked_next}
-use Rattle.world_search.proofs.Lists.{got_none}
+use Rattle.std.proofs.Common.{arith}
+use Rattle.world_search.proofs.{Claiming.{listed_next, looked_next}, Lists.got_none}
 use Rattle.world_search.proofs.claims.list_met.Goals as goal
 
 pub loop-number-init : goal.loop-number-init

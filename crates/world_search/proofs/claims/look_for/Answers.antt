@@ -1,10 +1,6 @@
-use Rattle.std.proofs.Common.{◌≡◌, ℕ, ◌<◌, true, inr, length, slice_index_or, refl, subst, arith}
-use Rattle.std.specs.Prelude.{IfSome, Some}
-use Rattle.std.specs.List.{slice_get}
-use Rattle.std.proofs.lemmas.Grind.{common_steps}
-use Rattle.std.proofs.lemmas.Option.{gets, slice_get-get_or}
-use Rattle.world_search.specs.declared.graphs.Node.{Node}
-use Rattle.world_search.specs.declared.claims.Met.{Met}
+use Rattle.std.proofs.{Common.{◌≡◌, ℕ, ◌<◌, true, inr, length, slice_index_or, refl, subst, arith}, lemmas.{Grind.common_steps, Option.gets}}
+use Rattle.std.{proofs.lemmas.Option.slice_get-get_or, specs.{Prelude.{IfSome, Some}, List.slice_get}}
+use Rattle.world_search.specs.declared.{graphs.Node.Node, claims.Met.Met}
 use Rattle.world_search.proofs.claims.look_for.Goals as goal
 
 pub returns-in_ok-push-in-Some : goal.returns-in_ok-push-in-Some

@@ -1,11 +1,6 @@
 use Rattle.std.proofs.Common.{◌≡◌, ℕ, List, length, sym, subst, arith}
-use Rattle.world_search.specs.declared.graphs.Node.{Node}
-use Rattle.world_search.specs.Private.Claimed.{AreListedMet, AreLooked}
-use Rattle.world_search.specs.Private.Paths.{AreChained}
-use Rattle.world_search.specs.Private.Shapes.{shape}
-use Rattle.world_search.proofs.Claiming.{all_brief, all_few, all_led, all_unmet}
-use Rattle.world_search.proofs.Lists.{more_get}
-use Rattle.world_search.proofs.Paths.{are_chained}
+use Rattle.world_search.specs.{declared.graphs.Node.Node, Private.{Claimed.{AreListedMet, AreLooked}, Paths.AreChained, Shapes.shape}}
+use Rattle.world_search.proofs.{Claiming.{all_brief, all_few, all_led, all_unmet}, Lists.more_get, Paths.are_chained}
 use Rattle.world_search.proofs.claims.search_claims.Goals as goal
 
 pub list_met-requires-clause-chained : goal.list_met-requires-clause-chained

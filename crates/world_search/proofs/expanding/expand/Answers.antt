@@ -1,16 +1,9 @@
-use Rattle.std.proofs.Common.{◌≡◌, ℕ, ◌+◌, ◌<◌, ◌≤◌, length, sym, ◌∙◌, subst, arith, inl, inr}
-use Rattle.std.specs.Prelude.{Some}
-use Rattle.std.specs.List.{slice_get}
-use Rattle.std.proofs.lemmas.Grind.{common_steps}
-use Rattle.std.proofs.lemmas.Option.{gets, same_Some}
-use Rattle.world_search.specs.declared.expanding.Came.{Came}
-use Rattle.world_search.specs.declared.graphs.Node.{Node}
-use Rattle.world_search.specs.Private.Shapes.{Shape, shape}
-use Rattle.world_search.specs.Private.Graphs.{Fits, CameSo, IsDone, IsSnug, SameFlags}
-use Rattle.world_search.proofs.Lists.{more_same, more_more, more_back, more_long}
-use Rattle.world_search.proofs.Fitting.{grows_same, grows_grows, fits_quiet}
-use Rattle.world_search.proofs.Entries.{came_next, quiet_all, done_quiet, done_leaves, same_flags, same_flags_set}
-use Rattle.world_search.proofs.Snug.{worse_lost, quiet_snug}
+use Rattle.std.proofs.{Common.{◌≡◌, ℕ, ◌+◌, ◌<◌, ◌≤◌, length, sym, ◌∙◌, subst, arith, inl, inr}, lemmas.{Grind.common_steps, Option.{gets, same_Some}}}
+use Rattle.std.specs.{Prelude.Some, List.slice_get}
+use Rattle.world_search.specs.{declared.{expanding.Came.Came, graphs.Node.Node}, Private.{Shapes.{Shape, shape}, Graphs.{Fits, CameSo, IsDone, IsSnug}}}
+use Rattle.world_search.{specs.Private.Graphs.SameFlags, proofs.{Lists.{more_same, more_more, more_back, more_long}, Fitting.{grows_same, grows_grows}}}
+use Rattle.world_search.proofs.{Fitting.fits_quiet, Entries.{came_next, quiet_all, done_quiet, done_leaves, same_flags, same_flags_set}, Snug.worse_lost}
+use Rattle.world_search.proofs.Snug.{quiet_snug}
 use Rattle.world_search.proofs.expanding.expand.Goals as goal
 
 pub loop-fiber-init : goal.loop-fiber-init

@@ -1,10 +1,5 @@
-use Rattle.std.proofs.Common.{◌≡◌, ◌+◌, ◌<◌, ◌≤◌, length}
-use Rattle.std.specs.Prelude.{Some, max}
-use Rattle.std.specs.List.{slice_get}
-use Rattle.world_search.specs.declared.graphs.Node.{Node}
-use Rattle.world_search.specs.Lists.{IsMore}
-use Rattle.world_search.specs.Private.Shapes.{shape}
-use Rattle.world_search.specs.Private.Graphs.{Fits, Grows, CameSo, IsSnug}
+use Rattle.std.{proofs.Common.{◌≡◌, ◌+◌, ◌<◌, ◌≤◌, length}, specs.{Prelude.{Some, max}, List.slice_get}}
+use Rattle.world_search.specs.{declared.graphs.Node.Node, Lists.IsMore, Private.{Shapes.shape, Graphs.{Fits, Grows, CameSo, IsSnug}}}
 use Rattle.world_search.specs.declared.expanding.Came.TheVariants as outcome
 use Rattle.world_search.proofs.expanding.expand.Given as goal
 

@@ -1,11 +1,7 @@
 use Rattle.std.proofs.Common.{length, sym, ◌∙◌, arith, inl}
-use Rattle.world_search.specs.Private.Shapes.{shape}
-use Rattle.world_search.proofs.Lists.{more_long, mul_next}
-use Rattle.world_search.proofs.Fitting.{grows_grows}
-use Rattle.world_search.proofs.Entries.{done_next}
-use Rattle.world_search.proofs.Snug.{stopped_on}
-use Rattle.world_search.proofs.expanding.explore.Goals as goal
+use Rattle.world_search.{specs.Private.Shapes.shape, proofs.{Lists.{more_long, mul_next}, Fitting.grows_grows, Entries.done_next, Snug.stopped_on}}
 use Rattle.world_search.proofs.expanding.explore.Goals.{then-not-branch, else-not-branch}
+use Rattle.world_search.proofs.expanding.explore.Goals as goal
 
 pub loop-index-preserved : goal.loop-index-preserved
 loop-index-preserved g c =

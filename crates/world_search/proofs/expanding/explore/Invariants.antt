@@ -1,7 +1,5 @@
-use Rattle.std.proofs.Common.{◌≡◌, ℕ, ◌+◌, ◌*◌, ◌<◌, ◌≤◌, ◌-◌, true, false, length}
-use Rattle.std.specs.Prelude.{max}
-use Rattle.world_search.specs.Private.Shapes.{shape}
-use Rattle.world_search.specs.Private.Graphs.{Fits, Grows, IsDone, IsSnug, IsStopped}
+use Rattle.std.{proofs.Common.{◌≡◌, ℕ, ◌+◌, ◌*◌, ◌<◌, ◌≤◌, ◌-◌, true, false, length}, specs.Prelude.max}
+use Rattle.world_search.specs.Private.{Shapes.shape, Graphs.{Fits, Grows, IsDone, IsSnug, IsStopped}}
 use Rattle.world_search.proofs.expanding.explore.Given as goal
 
 abbrev pub invariant-loop-index : goal.invariant-loop-index

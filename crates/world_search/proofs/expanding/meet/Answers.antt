@@ -1,10 +1,7 @@
 use Rattle.std.proofs.Common.{length, sym, subst, arith}
+use Rattle.world_search.{specs.Private.{Shapes.{Shape, shape}, Graphs.{Fits, ComesTo, IsSnug}}, proofs.{Lists.more_long, Meeting.{kept_fits, kept_grows}}}
+use Rattle.world_search.proofs.{Meeting.{low_next, edge_fits, edge_stays}, Snug.{kept_snug, lost_snug, edge_snug}}
 use Rattle.world_search.specs.declared.expanding.Came.TheVariants as came
-use Rattle.world_search.specs.Private.Shapes.{Shape, shape}
-use Rattle.world_search.specs.Private.Graphs.{Fits, ComesTo, IsSnug}
-use Rattle.world_search.proofs.Lists.{more_long}
-use Rattle.world_search.proofs.Meeting.{kept_fits, kept_grows, low_next, edge_fits, edge_stays}
-use Rattle.world_search.proofs.Snug.{kept_snug, lost_snug, edge_snug}
 use Rattle.world_search.proofs.expanding.meet.Goals as goal
 
 pub returns-then-not-branch-clause-fits : goal.returns-then-not-branch-clause-fits

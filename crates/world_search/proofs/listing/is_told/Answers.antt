@@ -1,12 +1,8 @@
-use Rattle.std.proofs.Common.{◌≡◌, length, refl, sym, ◌∙◌, subst, arith}
-use Rattle.std.specs.Prelude.{Some}
+use Rattle.std.{proofs.{Common.{◌≡◌, length, refl, sym, ◌∙◌, subst, arith}, lemmas.Option.{same_Some, slice_get_read, slice_get_within}}, specs.Prelude.Some}
 use Rattle.std.specs.List.{slice_get}
-use Rattle.std.proofs.lemmas.Option.{same_Some, slice_get_read, slice_get_within}
 use mathlib.Core.Logic.{dite}
 use native.Mathlib.Decide.{ℕ_discrete}
-use Rattle.world_search.specs.declared.answers.Answer.{Answer}
-use Rattle.world_search.specs.declared.landings.Landing.TheVariants.{World}
-use Rattle.world_search.specs.Answers.{AreApart}
+use Rattle.world_search.specs.{declared.{answers.Answer.Answer, landings.Landing.TheVariants.World}, Answers.AreApart}
 use Rattle.world_search.proofs.listing.is_told.Goals as goal
 
 pub returns-then-tells-clause-yes : goal.returns-then-tells-clause-yes

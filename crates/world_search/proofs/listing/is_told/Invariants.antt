@@ -1,9 +1,5 @@
-use Rattle.std.proofs.Common.{◌≡◌, ℕ, ◌<◌}
-use Rattle.std.specs.Prelude.{Some}
-use Rattle.std.specs.List.{slice_get}
-use Rattle.world_search.specs.declared.answers.Answer.{Answer}
-use Rattle.world_search.specs.declared.landings.Landing.TheVariants.{World}
-use Rattle.world_search.specs.Answers.{AreApart}
+use Rattle.std.{proofs.Common.{◌≡◌, ℕ, ◌<◌}, specs.{Prelude.Some, List.slice_get}}
+use Rattle.world_search.specs.{declared.{answers.Answer.Answer, landings.Landing.TheVariants.World}, Answers.AreApart}
 use Rattle.world_search.proofs.listing.is_told.Given as goal
 
 -- no answer so far has the report of the world

@@ -1,18 +1,11 @@
-use Rattle.std.proofs.Common.{◌≡◌, List, sym, ◌∙◌, subst, arith}
-use Rattle.std.specs.Prelude.{Some}
-use Rattle.std.specs.List.{slice_get}
-use Rattle.std.proofs.lemmas.Grind.{common_steps}
-use Rattle.std.proofs.lemmas.Option.{gets, same_Some, slice_get_within}
+use Rattle.std.proofs.{Common.{◌≡◌, List, sym, ◌∙◌, subst, arith}, lemmas.{Grind.common_steps, Option.{gets, same_Some, slice_get_within}}}
+use Rattle.std.specs.{Prelude.Some, List.slice_get}
 use mathlib.Core.Logic.{dite}
 use native.Mathlib.Decide.{ℕ_discrete}
-use Rattle.world_search.specs.declared.graphs.Noted.{Noted}
-use Rattle.world_search.specs.declared.graphs.Node.{Node}
+use Rattle.world_search.specs.{declared.graphs.{Noted.Noted, Node.Node}, Private.{Listed.{Adds, IsNamed}, Paths.IsChained, Shapes.shape}}
+use Rattle.world_search.proofs.{Lists.{more_more, more_same}, Answering.{adds_more, adds_named, adds_fault, adds_faults, adds_noted, named_more, no_faults}}
+use Rattle.world_search.proofs.Answering.{none_noted}
 use Rattle.world_search.specs.declared.landings.Landing.TheVariants as to
-use Rattle.world_search.specs.Private.Listed.{Adds, IsNamed}
-use Rattle.world_search.specs.Private.Paths.{IsChained}
-use Rattle.world_search.specs.Private.Shapes.{shape}
-use Rattle.world_search.proofs.Lists.{more_more, more_same}
-use Rattle.world_search.proofs.Answering.{adds_more, adds_named, adds_fault, adds_faults, adds_noted, named_more, no_faults, none_noted}
 use Rattle.world_search.proofs.listing.list_faults.Goals as goal
 
 pub loop-index-init : goal.loop-index-init

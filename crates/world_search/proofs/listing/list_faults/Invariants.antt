@@ -1,12 +1,7 @@
-use Rattle.std.proofs.Common.{◌≡◌, ℕ, ◌<◌}
-use Rattle.std.specs.Prelude.{Some}
-use Rattle.std.specs.List.{slice_get}
-use Rattle.world_search.specs.declared.graphs.Noted.{Noted}
-use Rattle.world_search.specs.declared.landings.Landing.TheVariants as to
-use Rattle.world_search.specs.Lists.{IsMore}
-use Rattle.world_search.specs.Private.Listed.{AddsFaults, AreListed, IsNamed}
-use Rattle.world_search.specs.Private.Shapes.{shape}
+use Rattle.std.{proofs.Common.{◌≡◌, ℕ, ◌<◌}, specs.{Prelude.Some, List.slice_get}}
+use Rattle.world_search.specs.{declared.graphs.Noted.Noted, Lists.IsMore, Private.{Listed.{AddsFaults, AreListed, IsNamed}, Shapes.shape}}
 use Rattle.world_search.proofs.Answering.{NamesNoted}
+use Rattle.world_search.specs.declared.landings.Landing.TheVariants as to
 use Rattle.world_search.proofs.listing.list_faults.Given as goal
 
 abbrev pub invariant-loop-index : goal.invariant-loop-index

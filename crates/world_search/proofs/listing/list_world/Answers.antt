@@ -1,16 +1,7 @@
-use Rattle.std.proofs.Common.{◌≡◌, List, false, sym, subst, arith}
-use Rattle.std.specs.Prelude.{Some, Ok}
-use Rattle.std.specs.List.{slice_get}
-use Rattle.std.proofs.lemmas.Grind.{common_steps}
-use Rattle.std.proofs.lemmas.Option.{gets}
-use Rattle.world_search.specs.declared.answers.Answer.{Answer}
-use Rattle.world_search.specs.declared.graphs.Node.{Node}
-use Rattle.world_search.specs.declared.landings.Landing.TheVariants as to
-use Rattle.world_search.specs.Answers.{IsAnswered}
-use Rattle.world_search.specs.Private.Listed.{Adds}
-use Rattle.world_search.specs.Private.Paths.{IsChained}
-use Rattle.world_search.specs.Private.Shapes.{shape}
+use Rattle.std.{proofs.{Common.{◌≡◌, List, false, sym, subst, arith}, lemmas.{Grind.common_steps, Option.gets}}, specs.{Prelude.{Some, Ok}, List.slice_get}}
+use Rattle.world_search.specs.{declared.{answers.Answer.Answer, graphs.Node.Node}, Answers.IsAnswered, Private.{Listed.Adds, Paths.IsChained, Shapes.shape}}
 use Rattle.world_search.proofs.Answering.{listed_within, adds_faultless, adds_more, adds_named, adds_once, adds_world, named_answered}
+use Rattle.world_search.specs.declared.landings.Landing.TheVariants as to
 use Rattle.world_search.proofs.listing.list_world.Goals as goal
 
 pub is_told-requires-clause-within : goal.is_told-requires-clause-within

@@ -1,7 +1,4 @@
-use Rattle.std.proofs.Common.{◌≡◌, false, subst, arith}
-use Rattle.std.specs.Prelude.{Some, Ok}
-use Rattle.std.specs.List.{slice_get}
-use Rattle.std.proofs.lemmas.Option.{slice_get_within}
+use Rattle.std.{proofs.{Common.{◌≡◌, false, subst, arith}, lemmas.Option.slice_get_within}, specs.{Prelude.{Some, Ok}, List.slice_get}}
 use mathlib.Core.Logic.{dite}
 use native.Mathlib.Decide.{ℕ_discrete}
 use Rattle.world_search.proofs.Answering.{answered_more}

@@ -1,9 +1,5 @@
-use Rattle.std.proofs.Common.{◌≡◌, ℕ, ◌<◌, false}
-use Rattle.std.specs.Prelude.{Some, Ok}
-use Rattle.std.specs.List.{slice_get}
-use Rattle.world_search.specs.Answers.{IsAnswered, TellOnce}
-use Rattle.world_search.specs.Private.Listed.{AreListed, HaveNoFault}
-use Rattle.world_search.specs.Private.Shapes.{shape}
+use Rattle.std.{proofs.Common.{◌≡◌, ℕ, ◌<◌, false}, specs.{Prelude.{Some, Ok}, List.slice_get}}
+use Rattle.world_search.specs.{Answers.{IsAnswered, TellOnce}, Private.{Listed.{AreListed, HaveNoFault}, Shapes.shape}}
 use Rattle.world_search.proofs.listing.list_worlds.Given as goal
 
 abbrev pub invariant-loop-index : goal.invariant-loop-index

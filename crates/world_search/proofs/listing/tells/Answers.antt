@@ -1,9 +1,5 @@
-use Rattle.std.proofs.Common.{sym, subst}
-use Rattle.std.specs.Prelude.{Ok}
-use Rattle.world_search.specs.declared.landings.Landing.{Landing}
-use Rattle.world_search.specs.declared.landings.Landing.TheVariants.{World}
-use Rattle.world_search.specs.Answers.{AreApart, Tells}
-use Rattle.world_search.proofs.Lists.{get_low}
+use Rattle.std.{proofs.Common.{sym, subst}, specs.Prelude.Ok}
+use Rattle.world_search.{specs.{declared.landings.Landing.{Landing, TheVariants.World}, Answers.{AreApart, Tells}}, proofs.Lists.get_low}
 use Rattle.world_search.proofs.listing.tells.Goals as goal
 
 pub returns-in-World-clause-yes : goal.returns-in-World-clause-yes

@@ -1,11 +1,6 @@
 use Rattle.std.proofs.Common.{◌≡◌, ◌+◌, List, [], ◌∷◌, ◌++◌, reverse, slice_index_or, refl, sym, ap, ◌∙◌, subst, arith, append_assoc}
-use Rattle.std.specs.Prelude.{Some}
-use Rattle.std.specs.List.{slice_get}
-use Rattle.std.proofs.lemmas.List.{reverse-append}
-use Rattle.std.proofs.lemmas.Option.{get_or_from_slice_get}
-use Rattle.world_search.specs.declared.graphs.Node.{Node}
-use Rattle.world_search.specs.Private.Paths.{IsPath}
-use Rattle.world_search.specs.Private.Paths.IsPath.{Root, Then}
+use Rattle.std.{proofs.lemmas.{List.reverse-append, Option.get_or_from_slice_get}, specs.{Prelude.Some, List.slice_get}}
+use Rattle.world_search.specs.{declared.graphs.Node.Node, Private.Paths.{IsPath, IsPath.{Root, Then}}}
 use Rattle.world_search.proofs.schedules.schedule_to.Goals as goal
 
 pub loop-entry-preserved : goal.loop-entry-preserved

@@ -1,5 +1,4 @@
-use Rattle.std.proofs.Common.{◌≡◌, ◌+◌, ℕ, List, ◌++◌}
-use Rattle.std.specs.Prelude.{reverse}
+use Rattle.std.{proofs.Common.{◌≡◌, ◌+◌, ℕ, List, ◌++◌}, specs.Prelude.reverse}
 use Rattle.world_search.specs.Private.Paths.{IsChained, IsPath}
 use Rattle.world_search.proofs.schedules.schedule_to.Given as goal
 

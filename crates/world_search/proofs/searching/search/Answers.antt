@@ -1,12 +1,7 @@
-use Rattle.std.proofs.Common.{ℕ, List, length, sym, subst}
-use Rattle.std.specs.Prelude.{Ok}
-use Rattle.world_search.specs.declared.graphs.Edge.{Edge}
-use Rattle.world_search.specs.Private.Flags.{AreWithin, AreBack, AreFlagged}
-use Rattle.world_search.specs.Private.Shapes.{shape}
-use Rattle.world_search.proofs.Answering.{answered_more, faults_once}
-use Rattle.world_search.proofs.Lists.{got_none, more_get}
-use Rattle.world_search.proofs.Paths.{are_chained, are_noted_chained}
-use Rattle.world_search.proofs.Results.{within, all_covered, all_onward, all_right, all_numbered, all_short}
+use Rattle.std.{proofs.Common.{ℕ, List, length, sym, subst}, specs.Prelude.Ok}
+use Rattle.world_search.{specs.{declared.graphs.Edge.Edge, Private.{Flags.{AreWithin, AreBack, AreFlagged}, Shapes.shape}}, proofs.Answering.answered_more}
+use Rattle.world_search.proofs.{Answering.faults_once, Lists.{got_none, more_get}, Paths.{are_chained, are_noted_chained}, Results.{within, all_covered}}
+use Rattle.world_search.proofs.Results.{all_onward, all_right, all_numbered, all_short}
 use Rattle.world_search.proofs.searching.search.Goals as goal
 
 pub spread-requires : goal.spread-requires

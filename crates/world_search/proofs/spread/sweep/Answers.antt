@@ -1,13 +1,9 @@
 use Rattle.std.proofs.Common.{◌≡◌, ℕ, ◌+◌, ◌-◌, ◌<◌, length, slice_index_or, true, false, Bool, List, set, refl, sym, ap, ◌∙◌, subst, arith, inl, inr}
+use Rattle.std.{proofs.lemmas.Option.{slice_get-get_or, slice_get_within}, specs.{Prelude.Some, List.slice_get}}
 use mathlib.Core.Logic.{◌⊎◌}
-use Rattle.std.specs.Prelude.{Some}
-use Rattle.std.specs.List.{slice_get}
-use Rattle.std.proofs.lemmas.Option.{slice_get-get_or, slice_get_within}
-use Rattle.world_search.specs.declared.graphs.Edge.{Edge}
-use Rattle.world_search.specs.Private.Flags.{AreFlagged, KeepsFlags, AreBack, unset}
-use Rattle.world_search.proofs.Flags.{keeps_same, keeps_set, flagged_same, flagged_set, back_more, unset_set}
+use Rattle.world_search.{specs.{declared.graphs.Edge.Edge, Private.Flags.{AreFlagged, KeepsFlags, AreBack, unset}}, proofs.Flags.{keeps_same, keeps_set}}
+use Rattle.world_search.proofs.{Flags.{flagged_same, flagged_set, back_more, unset_set}, spread.sweep.Goals.{then-pass, else-pass}}
 use Rattle.world_search.proofs.spread.sweep.Goals as goal
-use Rattle.world_search.proofs.spread.sweep.Goals.{then-pass, else-pass}
 
 pub loop-done-init : goal.loop-done-init
 loop-done-init c = record {

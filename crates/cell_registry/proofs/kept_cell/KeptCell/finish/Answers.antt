@@ -1,5 +1,4 @@
-use Rattle.std.proofs.Common.{arith}
-use Rattle.std.proofs.lemmas.Grind.{common_steps}
+use Rattle.cell_registry.proofs.Prelude.{arith, common_steps}
 use Rattle.cell_registry.proofs.kept_cell.KeptCell.finish.Goals as goal
 
 pub returns : goal.returns

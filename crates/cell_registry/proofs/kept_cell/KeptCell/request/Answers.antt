@@ -1,5 +1,4 @@
-use Rattle.std.proofs.Common.{arith}
-use Rattle.std.proofs.lemmas.Grind.{common_steps}
+use Rattle.cell_registry.proofs.Prelude.{arith, common_steps}
 use Rattle.cell_registry.proofs.kept_cell.KeptCell.request.Goals as goal
 
 pub returns-clause-reply : goal.returns-clause-reply

@@ -1,15 +1,10 @@
-use Rattle.std.proofs.Common.{arith, subst}
-use Rattle.std.proofs.lemmas.Grind.{common_steps}
-use Rattle.effect_term.specs.declared.reply.Reply.TheVariants as reply
-use Rattle.cell_registry.specs.declared.call.Call.TheVariants.{Mask}
-use Rattle.cell_registry.specs.Cells.{after, reply_of, refusal, IsAllowed}
-use Rattle.cell_registry.specs.Plain.{IsPlain}
+use Rattle.cell_registry.proofs.Prelude.{arith, subst, common_steps, Mask, after, reply_of, refusal, IsAllowed, IsPlain, Reply}
 use Rattle.cell_registry.proofs.PlainCalls.{IsPlain-made}
 use Rattle.cell_registry.proofs.plain.PlainRegistry.mask.Goals as goal
 
 pub invariant_of-self-2 : goal.invariant_of-self-2
 unfolding after reply_of refusal IsAllowed
-invariant_of-self-2 c = IsPlain-made c.args.self.now _ c.args.by Mask reply.Done (subst IsPlain c.self.view_is c.self.invariant) c.requires.may
+invariant_of-self-2 c = IsPlain-made c.args.self.now _ c.args.by Mask Reply.Done (subst IsPlain c.self.view_is c.self.invariant) c.requires.may
     (grind (arith, common_steps))
 
 pub returns-clause-lawful : goal.returns-clause-lawful

@@ -1,9 +1,5 @@
-use Rattle.std.proofs.Common.{◌≡◌, ℕ, ◌<◌, ◌+◌, ◌%◌, ◌^◌, length, ap, sym, subst, ◌∙◌, get_or, refl, arith, ℤ, pos, ◌+ℤ◌}
-use Rattle.std.proofs.lemmas.List.{get_or_default}
-use Rattle.effect_term.specs.declared.reply.Reply.TheVariants.{Value}
-use Rattle.effect_term.specs.Values.{IsValue, value_bits, bits_value, wrapped}
-use Rattle.effect_term.proofs.ValueLaws.{bits_lt, sum_bits, from_bits}
-use Rattle.cell_registry.specs.Cells.{after, reply_of, refusal, IsAllowed}
+use Rattle.cell_registry.proofs.Prelude.{◌≡◌, ℕ, ◌<◌, ◌+◌, ◌%◌, ◌^◌, length, ap, sym, subst, ◌∙◌, get_or, refl, arith, ℤ, pos, ◌+ℤ◌, get_or_default, Value}
+use Rattle.cell_registry.proofs.Prelude.{IsValue, value_bits, bits_value, wrapped, bits_lt, sum_bits, from_bits, after, reply_of, refusal, IsAllowed}
 use Rattle.cell_registry.proofs.plain.PlainRegistry.modify.Goals as goal
 
 -- the bits of a sum, in a word
@@ -27,13 +23,8 @@ returns-clause-made c =
     let old : x ≡ get_or xs c.args.number (pos 0) = is ∙ get_or_default xs c.args.number x (pos 0) within in
     let first = c.value_word.ensures in
     let second = c.value_word-2.ensures in
-    let sum : c.word_value.result ≡ wrapped (get_or xs c.args.number (pos 0) +ℤ c.args.value) =
-    c.word_value.ensures.value
+    let sum : c.word_value.result ≡ wrapped (get_or xs c.args.number (pos 0) +ℤ c.args.value) = c.word_value.ensures.value
     ∙ added x c.args.value c.value_word.result c.value_word-2.result _ first.bits second.bits refl (from_bits _ _ first.bits first.inverse)
     (from_bits _ _ second.bits second.inverse)
     ∙ ap (λ z. wrapped (z +ℤ c.args.value)) old in
-    rw (← c.self.view_is) record {
-      room = refl;
-      reply = ap Value old;
-      left = rw (c.from-place.ensures, sum) refl;
-    }
+    rw (← c.self.view_is) record { room = refl; reply = ap Value old; left = rw (c.from-place.ensures, sum) refl }

@@ -1,6 +1,4 @@
-use Rattle.std.proofs.Common.{arith}
-use Rattle.std.proofs.lemmas.Grind.{common_steps}
-use Rattle.cell_registry.specs.Cells.{after, reply_of, refusal, IsAllowed}
+use Rattle.cell_registry.proofs.Prelude.{arith, common_steps, after, reply_of, refusal, IsAllowed}
 use Rattle.cell_registry.proofs.plain.PlainRegistry.set.Goals as goal
 
 pub returns-clause-made : goal.returns-clause-made

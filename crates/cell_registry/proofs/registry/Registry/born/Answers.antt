@@ -1,7 +1,4 @@
-use Rattle.std.proofs.Common.{◌≡◌, ap, arith, refl, subst}
-use Rattle.cell_registry.specs.declared.limits.Band.TheVariants.{Fibers}
-use Rattle.cell_registry.specs.Passes.{Counts, PassView, RegistryView, pass_of}
-use Rattle.cell_registry.specs.Private.Kept.{stage_of}
+use Rattle.cell_registry.proofs.Prelude.{◌≡◌, ap, arith, refl, subst, Fibers, Counts, PassView, RegistryView, pass_of, stage_of}
 use Rattle.cell_registry.proofs.Claiming.{sees_next}
 use Rattle.cell_registry.proofs.Giving.{next_of-most}
 use Rattle.cell_registry.proofs.Tokens.{of_registry, pass_of-step, seat_has, seated_still}

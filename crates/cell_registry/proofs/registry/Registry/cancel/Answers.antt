@@ -1,11 +1,6 @@
-use Rattle.std.proofs.Common.{◌<◌, sym, ◌∙◌, ap, arith, subst, refl}
+use Rattle.cell_registry.proofs.Prelude.{◌<◌, sym, ◌∙◌, ap, arith, subst, refl, Limits, Called, RegistryView, PassView, OnlySees, Calls, pass_of, stage_of}
+use Rattle.cell_registry.proofs.Prelude.{Reply, Call}
 use Rattle.effect_term.specs.declared.reply.CancelReply.{CancelReply}
-use Rattle.effect_term.specs.declared.reply.Reply.TheVariants as reply
-use Rattle.cell_registry.specs.declared.limits.Limits.{Limits}
-use Rattle.cell_registry.specs.declared.call.Call.TheVariants as call
-use Rattle.cell_registry.specs.Steps.{Called}
-use Rattle.cell_registry.specs.Passes.{RegistryView, PassView, OnlySees, Calls, pass_of}
-use Rattle.cell_registry.specs.Private.Kept.{stage_of}
 use Rattle.cell_registry.proofs.CellTurns.{cancels}
 use Rattle.cell_registry.proofs.Tokens.{of_registry, seat_has, called_by, call-prefix, pass_of-step, seated_still}
 use Rattle.cell_registry.proofs.registry.Registry.cancel.Goals as goal
@@ -43,12 +38,11 @@ returns-clause-call c =
     let answer = c.cancel_answer.ensures t.0 t.1 t.2 in
     let old = c.pass.inside in
     let new = c.fetch_or-found.new.seat in
-    let P : PassView → Type 0 =
-    λ h. Calls h (call.Cancel c.args.fiber) (reply.Cancel c.cancel_answer.result)
+    let P : PassView → Type 0 = λ h. Calls h (Call.Cancel c.args.fiber) (Reply.Cancel c.cancel_answer.result)
     (pass_of new.table_id new.me.0 old.number (stage_of old.phase old.value) old.depth old.count old.saw) in
     subst P c.pass.view_is
     (called_by old.seat.me.0 new.me.0 _ _ _ c.pass.invariant.1.number_is
-    (subst (λ (r : CancelReply). Called old.seat.me.0 (call.Cancel c.args.fiber) (reply.Cancel r) new.me.0) (sym answer) t.3.0))
+    (subst (λ (r : CancelReply). Called old.seat.me.0 (Call.Cancel c.args.fiber) (Reply.Cancel r) new.me.0) (sym answer) t.3.0))
 
 pub returns-clause-lawful : goal.returns-clause-lawful
 returns-clause-lawful c = (invariant_of-pass c).1.pass

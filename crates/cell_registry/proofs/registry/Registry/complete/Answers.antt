@@ -1,10 +1,5 @@
-use Rattle.std.proofs.Common.{◌+◌, ◌^◌, ◌<◌, ◌==◌, sym, ap, subst, refl}
-use Rattle.effect_term.proofs.ValueLaws.{from_bits}
-use Rattle.effect_term.specs.declared.reply.Reply.TheVariants as reply
-use Rattle.cell_registry.specs.declared.limits.Limits.{Limits}
-use Rattle.cell_registry.specs.declared.call.Call.TheVariants as call
-use Rattle.cell_registry.specs.Passes.{RegistryView, PassView, OnlySees, Calls, pass_of}
-use Rattle.cell_registry.specs.Private.Kept.{stage_of}
+use Rattle.cell_registry.proofs.Prelude.{◌+◌, ◌^◌, ◌<◌, ◌==◌, sym, ap, subst, refl, from_bits, Limits, RegistryView, PassView, OnlySees, Calls, pass_of}
+use Rattle.cell_registry.proofs.Prelude.{stage_of, Reply, Call}
 use Rattle.cell_registry.proofs.ValueTurns.{completes}
 use Rattle.cell_registry.proofs.Tokens.{of_registry, seat_has, deferred_here, deferred_word, called_by, call-prefix, pass_of-step, seated_still}
 use Rattle.cell_registry.proofs.registry.Registry.complete.Goals as goal
@@ -51,8 +46,7 @@ returns-clause-call c =
     (from_bits _ _ c.value_word-filled.ensures.bits c.value_word-filled.ensures.inverse) (ap (λ b. 2 ^ 63 + b) c.value_word-filled.ensures.bits) in
     let old = c.pass.inside in
     let new = c.compare_exchange-found.new.seat in
-    let P : PassView → Type 0 =
-    λ h. Calls h (call.Complete c.args.number c.args.value) (reply.Completed (c.compare_exchange-found.result == 0))
+    let P : PassView → Type 0 = λ h. Calls h (Call.Complete c.args.number c.args.value) (Reply.Completed (c.compare_exchange-found.result == 0))
     (pass_of new.table_id new.me.0 old.number (stage_of old.phase old.value) old.depth old.count old.saw) in
     subst P c.pass.view_is (called_by old.seat.me.0 new.me.0 _ _ _ c.pass.invariant.1.number_is t.0)
 

@@ -1,12 +1,8 @@
-use Rattle.std.proofs.Common.{◌≡◌, ℕ, ◌+◌, sym, ◌∙◌, ap, subst, refl, rules, true}
-use Rattle.cell_registry.specs.declared.cell.Stage.TheVariants.{Running, Finalizing}
-use Rattle.cell_registry.specs.declared.call.Call.TheVariants as call
-use Rattle.cell_registry.specs.Cells.{IsOpen}
-use Rattle.cell_registry.specs.Rule.{seen_cell}
-use Rattle.cell_registry.specs.Passes.{RegistryView, PassView, Changes, pass_of}
+use Rattle.cell_registry.proofs.Prelude.{◌≡◌, ℕ, ◌+◌, sym, ◌∙◌, ap, subst, refl, rules, true, Running, Finalizing, IsOpen, seen_cell, RegistryView, PassView}
+use Rattle.cell_registry.proofs.Prelude.{Changes, pass_of, Call}
 use Rattle.cell_registry.proofs.OwnTurns.{cuts_as}
-use Rattle.cell_registry.proofs.Tokens.{of_registry, own_place, seat_has, seat_cell, called_by, call-prefix}
-use Rattle.cell_registry.proofs.Tokens.{pass_of-step, seated_changed, count_below, seen_count_below}
+use Rattle.cell_registry.proofs.Tokens.{of_registry, own_place, seat_has, seat_cell, called_by, call-prefix, pass_of-step, seated_changed, count_below}
+use Rattle.cell_registry.proofs.Tokens.{seen_count_below}
 use Rattle.cell_registry.proofs.Requests.{legal-cuts}
 use Rattle.cell_registry.proofs.registry.Registry.cut.Goals as goal
 
@@ -53,7 +49,7 @@ returns-clause-cut c =
     let new = c.fetch_add.new.seat in
     let of = of_registry _ _ _ _ c.self.view_is c.pass.view_is c.requires.own in
     let told = c.fetch_add.ensures.2.1 in
-    let P : PassView → Type 0 = λ h. Changes h call.Cut Finalizing 1 (pass_of new.table_id new.me.0 old.number Finalizing 1 (old.count + 1) old.saw) in
+    let P : PassView → Type 0 = λ h. Changes h Call.Cut Finalizing 1 (pass_of new.table_id new.me.0 old.number Finalizing 1 (old.count + 1) old.saw) in
     subst P c.pass.view_is record {
       room = count_below _ _ _ p.1 of c.in_ok-refuse_if_spent.ensures.room;
       same = pass_of-step _ _ old.seat.me.0 new.me.0 _ Finalizing 1 (old.count + 1) _ c.fetch_add.ensures.0 told.1.limits told.1.fibers;

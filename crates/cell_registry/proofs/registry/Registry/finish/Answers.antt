@@ -1,20 +1,9 @@
-use Rattle.std.proofs.Common.{ℕ, ◌+◌, arith, sym, ◌∙◌, ap, subst, refl, rules}
-use Rattle.std.specs.Prelude.{Some}
-use Rattle.effect_term.specs.declared.reply.Reply.TheVariants as reply
-use Rattle.cell_registry.specs.declared.knowledge.Knowledge.{Knowledge}
-use Rattle.cell_registry.specs.declared.cell.Stage.{Stage}
-use Rattle.cell_registry.specs.declared.cell.Stage.TheVariants.{Ended}
-use Rattle.cell_registry.specs.declared.call.Call.TheVariants as call
-use Rattle.cell_registry.specs.Cells.{IsOpen, MayFinish}
-use Rattle.cell_registry.specs.Words.{phase_at, value_place}
-use Rattle.cell_registry.specs.Steps.{Called}
-use Rattle.cell_registry.specs.Passes.{RegistryView, PassView, Changes, pass_of}
-use Rattle.cell_registry.specs.Private.Kept.{stage_of}
+use Rattle.cell_registry.proofs.Prelude.{ℕ, ◌+◌, arith, sym, ◌∙◌, ap, subst, refl, rules, Some, Knowledge, Stage, Ended, IsOpen, MayFinish, phase_at}
+use Rattle.cell_registry.proofs.Prelude.{value_place, Called, RegistryView, PassView, Changes, pass_of, stage_of, Reply, Call}
 use Rattle.cell_registry.proofs.Calls.{outcome-fits}
 use Rattle.cell_registry.proofs.OwnTurns.{finish-open, stores_as, finishes_as}
-use Rattle.cell_registry.proofs.Tokens.{of_registry, own_place, seat_has, seat_cell, called_by, call-prefix}
-use Rattle.cell_registry.proofs.Tokens.{pass_of-step, but_stored, seated_stored, stored_registry}
-use Rattle.cell_registry.proofs.Tokens.{seated_changed, count_below, seen_count_below}
+use Rattle.cell_registry.proofs.Tokens.{of_registry, own_place, seat_has, seat_cell, called_by, call-prefix, pass_of-step, but_stored, seated_stored}
+use Rattle.cell_registry.proofs.Tokens.{stored_registry, seated_changed, count_below, seen_count_below}
 use Rattle.cell_registry.proofs.registry.Registry.finish.Goals as goal
 
 pub store-requires : goal.store-requires
@@ -88,9 +77,8 @@ returns-clause-ended c =
     let stored = ap (λ (x : Knowledge). x.stored) s.2.1 ∙ ap Some c.outcome_word-value.ensures in
     let told = c.fetch_add-pass-inside.ensures.2.1 c.is_finalizing.result c.args.outcome phase (outcome-fits _ _ _ may) stored
     c.finish_amount-amount.ensures.sum in
-    let made = subst (λ (x : Knowledge). Called x (call.Finish c.args.outcome) reply.Done new.me.0) s.2.1 told.0 in
-    let P : Stage → PassView → Type 0 =
-    λ g h. Changes h (call.Finish c.args.outcome) (Ended c.args.outcome) h.depth
+    let made = subst (λ (x : Knowledge). Called x (Call.Finish c.args.outcome) Reply.Done new.me.0) s.2.1 told.0 in
+    let P : Stage → PassView → Type 0 = λ g h. Changes h (Call.Finish c.args.outcome) (Ended c.args.outcome) h.depth
     (pass_of new.table_id new.me.0 old.number g old.depth (old.count + 1) old.saw) in
     subst (λ (g : Stage). P g c.args.pass.now) (sym c.ended-phase.ensures) (subst (P (Ended c.args.outcome)) c.pass.view_is record {
       room = count_below _ _ _ c.pass.invariant.1 of c.in_ok-refuse_if_spent.ensures.room;

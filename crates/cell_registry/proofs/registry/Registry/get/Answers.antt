@@ -1,9 +1,4 @@
-use Rattle.std.proofs.Common.{◌<◌, sym, ap, subst, refl}
-use Rattle.effect_term.specs.declared.reply.Reply.TheVariants as reply
-use Rattle.cell_registry.specs.declared.limits.Limits.{Limits}
-use Rattle.cell_registry.specs.declared.call.Call.TheVariants as call
-use Rattle.cell_registry.specs.Passes.{RegistryView, PassView, OnlySees, Calls, pass_of}
-use Rattle.cell_registry.specs.Private.Kept.{stage_of}
+use Rattle.cell_registry.proofs.Prelude.{◌<◌, sym, ap, subst, refl, Limits, RegistryView, PassView, OnlySees, Calls, pass_of, stage_of, Reply, Call}
 use Rattle.cell_registry.proofs.ValueTurns.{gets}
 use Rattle.cell_registry.proofs.Tokens.{of_registry, seat_has, ref_here, ref_word, called_by, call-prefix, pass_of-step, seated_still}
 use Rattle.cell_registry.proofs.registry.Registry.get.Goals as goal
@@ -46,8 +41,7 @@ returns-clause-call c =
     let t = c.load-found.ensures.2.1 c.args.number place in
     let old = c.pass.inside in
     let new = c.load-found.new.seat in
-    let P : PassView → Type 0 =
-    λ h. Calls h (call.Get c.args.number) (reply.Value c.word_value.result)
+    let P : PassView → Type 0 = λ h. Calls h (Call.Get c.args.number) (Reply.Value c.word_value.result)
     (pass_of new.table_id new.me.0 old.number (stage_of old.phase old.value) old.depth old.count old.saw) in
     subst P c.pass.view_is (called_by old.seat.me.0 new.me.0 _ _ _ c.pass.invariant.1.number_is (rw c.word_value.ensures.value t.0))
 

@@ -1,11 +1,4 @@
-use Rattle.std.proofs.Common.{◌≡◌, ℕ, ◌+◌, List, ap, subst}
-use Rattle.cell_registry.specs.declared.limits.Limits.{Limits}
-use Rattle.cell_registry.specs.declared.call.Entry.{Entry}
-use Rattle.cell_registry.specs.Cells.{Cells}
-use Rattle.cell_registry.specs.Histories.{left}
-use Rattle.cell_registry.specs.Passes.{PassView, RegistryView}
-use Rattle.cell_registry.specs.Plain.{IsLeftPlain}
-use Rattle.cell_registry.specs.Private.Shown.{Shows}
+use Rattle.cell_registry.proofs.Prelude.{◌≡◌, ℕ, ◌+◌, List, ap, subst, Limits, Entry, Cells, left, PassView, RegistryView, IsLeftPlain, Shows}
 use Rattle.cell_registry.proofs.Showing.{if_ok, left_here, left_plain}
 use Rattle.cell_registry.proofs.registry.Registry.into_plain.Goals as goal
 

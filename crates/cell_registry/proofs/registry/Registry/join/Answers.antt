@@ -1,15 +1,6 @@
-use Rattle.std.proofs.Common.{◌≡◌, ◌<◌, sym, ◌∙◌, ap, arith, subst, refl}
+use Rattle.cell_registry.proofs.Prelude.{◌≡◌, ◌<◌, sym, ◌∙◌, ap, arith, subst, refl, Limits, Knowledge, join_reply, value_place, Called, RegistryView, PassView}
+use Rattle.cell_registry.proofs.Prelude.{IsSeated, OnlySees, Calls, pass_of, stage_of, Reply, Call}
 use Rattle.effect_term.specs.declared.reply.JoinReply.{JoinReply}
-use Rattle.effect_term.specs.declared.reply.JoinReply.TheVariants as joined
-use Rattle.effect_term.specs.declared.reply.Reply.TheVariants as reply
-use Rattle.cell_registry.specs.declared.limits.Limits.{Limits}
-use Rattle.cell_registry.specs.declared.knowledge.Knowledge.{Knowledge}
-use Rattle.cell_registry.specs.declared.call.Call.TheVariants as call
-use Rattle.cell_registry.specs.Cells.{join_reply}
-use Rattle.cell_registry.specs.Words.{value_place}
-use Rattle.cell_registry.specs.Steps.{Called}
-use Rattle.cell_registry.specs.Passes.{RegistryView, PassView, IsSeated, OnlySees, Calls, pass_of}
-use Rattle.cell_registry.specs.Private.Kept.{stage_of}
 use Rattle.cell_registry.proofs.Replies.{waits_reply, outcome_of}
 use Rattle.cell_registry.proofs.CellTurns.{joins}
 use Rattle.cell_registry.proofs.OwnTurns.{finds_as}
@@ -50,12 +41,11 @@ returns-then-not-has_ended-clause-call c =
     let answer = waits_reply t.0.stage (sym (c.has_ended.ensures t.0 t.1 t.2) ∙ c.if-not-has_ended.true) in
     let old = c.pass.inside in
     let new = c.fetch_or-found.new.seat in
-    let P : PassView → Type 0 =
-    λ h. Calls h (call.Join c.args.fiber) (reply.Join joined.Waits)
+    let P : PassView → Type 0 = λ h. Calls h (Call.Join c.args.fiber) (Reply.Join JoinReply.Waits)
     (pass_of new.table_id new.me.0 old.number (stage_of old.phase old.value) old.depth old.count old.saw) in
     subst P c.pass.view_is
     (called_by old.seat.me.0 new.me.0 _ _ _ c.pass.invariant.1.number_is
-    (subst (λ (r : JoinReply). Called old.seat.me.0 (call.Join c.args.fiber) (reply.Join r) new.me.0) (sym answer) t.3.0))
+    (subst (λ (r : JoinReply). Called old.seat.me.0 (Call.Join c.args.fiber) (Reply.Join r) new.me.0) (sym answer) t.3.0))
 
 -- ---- where it has
 pub load-value-requires : goal.load-value-requires
@@ -107,13 +97,12 @@ returns-clause-call c =
     let place = c.value_place-place.ensures ∙ ap (λ (k : Limits). value_place k c.args.fiber) (sym (t.3.1.limits ∙ ap (λ (s : RegistryView). s.limits) of)) in
     let holds = l.2.1.1 c.args.fiber place ends.0 (t.3.2 ∙ ends.1) in
     let answer = c.outcome_answer.ensures t.0 ends.0 t.1 t.2 ends.1 holds in
-    let replied : join_reply t.0.stage ≡ joined.Ended c.outcome_answer.result = ap join_reply ends.1 ∙ ap joined.Ended (sym answer) in
+    let replied : join_reply t.0.stage ≡ JoinReply.Ended c.outcome_answer.result = ap join_reply ends.1 ∙ ap JoinReply.Ended (sym answer) in
     let old = c.pass.inside in
     let new = c.load-value.new.seat in
-    let made = subst (λ (r : JoinReply). Called old.seat.me.0 (call.Join c.args.fiber) (reply.Join r) c.fetch_or-found.new.seat.me.0) replied t.3.0 in
-    let now = subst (λ (v : Knowledge). Called old.seat.me.0 (call.Join c.args.fiber) (reply.Join (joined.Ended c.outcome_answer.result)) v)
+    let made = subst (λ (r : JoinReply). Called old.seat.me.0 (Call.Join c.args.fiber) (Reply.Join r) c.fetch_or-found.new.seat.me.0) replied t.3.0 in
+    let now = subst (λ (v : Knowledge). Called old.seat.me.0 (Call.Join c.args.fiber) (Reply.Join (JoinReply.Ended c.outcome_answer.result)) v)
     (sym l.2.1.0) made in
-    let P : PassView → Type 0 =
-    λ h. Calls h (call.Join c.args.fiber) (reply.Join (joined.Ended c.outcome_answer.result))
+    let P : PassView → Type 0 = λ h. Calls h (Call.Join c.args.fiber) (Reply.Join (JoinReply.Ended c.outcome_answer.result))
     (pass_of new.table_id new.me.0 old.number (stage_of old.phase old.value) old.depth old.count old.saw) in
     subst P c.pass.view_is (called_by old.seat.me.0 new.me.0 _ _ _ c.pass.invariant.1.number_is now)

@@ -1,7 +1,4 @@
-use Rattle.std.proofs.Common.{◌<◌, ℕ, List, ◌∙◌, ap, arith, subst}
-use Rattle.cell_registry.specs.declared.limits.Limits.{Limits}
-use Rattle.cell_registry.specs.declared.call.Entry.{Entry}
-use Rattle.cell_registry.specs.Passes.{RegistryView, PassView, IsLeftWord}
+use Rattle.cell_registry.proofs.Prelude.{◌<◌, ℕ, List, ◌∙◌, ap, arith, subst, Limits, Entry, RegistryView, PassView, IsLeftWord}
 use Rattle.cell_registry.proofs.Seats.{last_word}
 use Rattle.cell_registry.proofs.registry.Registry.last_word.Goals as goal
 
@@ -20,6 +17,5 @@ returns c =
     c.close_with-closed.ensures.values.2 c.cell_place.ensures within c.word-word.ensures in
     let fibers = ap (λ (p : PassView). p.fibers) c.pass.view_is in
     record {
-      left = subst (λ (x : Limits × List ℕ × List Entry). IsLeftWord x.0 x.1 x.2 c.args.fiber c.word-word.result)
-          (λ j. (limits j, fibers j, seen j)) left;
+      left = subst (λ (x : Limits × List ℕ × List Entry). IsLeftWord x.0 x.1 x.2 c.args.fiber c.word-word.result) (λ j. (limits j, fibers j, seen j)) left;
     }

@@ -1,11 +1,5 @@
-use Rattle.std.proofs.Common.{◌≡◌, ◌+◌, Bool, sym, ◌∙◌, ap, subst, refl}
-use Rattle.effect_term.specs.declared.reply.Reply.TheVariants as reply
-use Rattle.cell_registry.specs.declared.call.Call.TheVariants as call
-use Rattle.cell_registry.specs.Cells.{IsOpen}
-use Rattle.cell_registry.specs.Steps.{Called}
-use Rattle.cell_registry.specs.Cancellation.{WasCancelled}
-use Rattle.cell_registry.specs.Passes.{RegistryView, PassView, Calls, pass_of}
-use Rattle.cell_registry.specs.Private.Kept.{stage_of}
+use Rattle.cell_registry.proofs.Prelude.{◌≡◌, ◌+◌, Bool, sym, ◌∙◌, ap, subst, refl, IsOpen, Called, WasCancelled, RegistryView, PassView, Calls, pass_of}
+use Rattle.cell_registry.proofs.Prelude.{stage_of, Reply, Call}
 use Rattle.cell_registry.proofs.CellTurns.{sees}
 use Rattle.cell_registry.proofs.Tokens.{of_registry, own_place, seat_has, seat_cell, called_by, call-prefix, pass_of-step, seated_looked}
 use Rattle.cell_registry.proofs.Requests.{request-cancelled}
@@ -42,8 +36,7 @@ returns-clause-same c =
     let new = c.load-found.new.seat in
     let P : PassView → Type 0 =
     λ h. pass_of new.table_id new.me.0 old.number (stage_of old.phase old.value) old.depth old.count c.look_answer-requested.result ≡ record h {
-      saw =
-          c.look_answer-requested.result;
+      saw = c.look_answer-requested.result;
       seen = new.me.0.seen;
     } in
     subst P c.pass.view_is (pass_of-step _ _ old.seat.me.0 new.me.0 _ _ _ _ _ c.load-found.ensures.0 t.3.1.limits t.3.1.fibers)
@@ -54,12 +47,11 @@ returns-clause-call c =
     let answer = c.look_answer-requested.ensures t.0 t.1 t.2 in
     let old = c.pass.inside in
     let new = c.load-found.new.seat in
-    let P : PassView → Type 0 =
-    λ h. Calls h call.Look (reply.Seen c.look_answer-requested.result)
+    let P : PassView → Type 0 = λ h. Calls h Call.Look (Reply.Seen c.look_answer-requested.result)
     (pass_of new.table_id new.me.0 old.number (stage_of old.phase old.value) old.depth old.count c.look_answer-requested.result) in
     subst P c.pass.view_is
     (called_by old.seat.me.0 new.me.0 _ _ _ c.pass.invariant.1.number_is
-    (subst (λ (b : Bool). Called old.seat.me.0 call.Look (reply.Seen b) new.me.0) (sym answer) t.3.0))
+    (subst (λ (b : Bool). Called old.seat.me.0 Call.Look (Reply.Seen b) new.me.0) (sym answer) t.3.0))
 
 pub returns-clause-asked : goal.returns-clause-asked
 returns-clause-asked c saw =

@@ -1,11 +1,7 @@
-use Rattle.std.proofs.Common.{◌+◌, ◌<◌, sym, ◌∙◌, ap, arith, subst, refl, rules}
-use Rattle.cell_registry.specs.declared.call.Call.TheVariants as call
-use Rattle.cell_registry.specs.Cells.{IsOpen}
-use Rattle.cell_registry.specs.Passes.{RegistryView, PassView, Changes, pass_of}
-use Rattle.cell_registry.specs.Private.Kept.{stage_of}
+use Rattle.cell_registry.proofs.Prelude.{◌+◌, ◌<◌, sym, ◌∙◌, ap, arith, subst, refl, rules, IsOpen, RegistryView, PassView, Changes, pass_of, stage_of, Call}
 use Rattle.cell_registry.proofs.OwnTurns.{masks_as}
-use Rattle.cell_registry.proofs.Tokens.{of_registry, own_place, seat_has, seat_cell, called_by, call-prefix}
-use Rattle.cell_registry.proofs.Tokens.{pass_of-step, seated_changed, count_below, seen_count_below}
+use Rattle.cell_registry.proofs.Tokens.{of_registry, own_place, seat_has, seat_cell, called_by, call-prefix, pass_of-step, seated_changed, count_below}
+use Rattle.cell_registry.proofs.Tokens.{seen_count_below}
 use Rattle.cell_registry.proofs.registry.Registry.mask.Goals as goal
 
 pub fetch_add-requires : goal.fetch_add-requires
@@ -48,8 +44,7 @@ returns-clause-masked c =
     let new = c.fetch_add.new.seat in
     let of = of_registry _ _ _ _ c.self.view_is c.pass.view_is c.requires.own in
     let told = c.fetch_add.ensures.2.1 in
-    let P : PassView → Type 0 =
-    λ h. Changes h call.Mask h.stage (h.depth + 1)
+    let P : PassView → Type 0 = λ h. Changes h Call.Mask h.stage (h.depth + 1)
     (pass_of new.table_id new.me.0 old.number (stage_of old.phase old.value) (old.depth + 1) (old.count + 1) old.saw) in
     subst P c.pass.view_is record {
       room = count_below _ _ _ p.1 of c.in_ok-refuse_if_spent.ensures.room;

@@ -1,9 +1,4 @@
-use Rattle.std.proofs.Common.{ℕ, sym, ◌∙◌, ap, arith, subst, refl}
-use Rattle.atomic_table.specs.Table.{Me}
-use Rattle.cell_registry.specs.declared.knowledge.Knowledge.{Knowledge}
-use Rattle.cell_registry.specs.Rule.{Has}
-use Rattle.cell_registry.specs.Cells.{IsOpen}
-use Rattle.cell_registry.specs.Passes.{RegistryView}
+use Rattle.cell_registry.proofs.Prelude.{ℕ, sym, ◌∙◌, ap, arith, subst, refl, Me, Knowledge, Has, IsOpen, RegistryView}
 use Rattle.cell_registry.proofs.Seats.{hosts, meets}
 use Rattle.cell_registry.proofs.Tokens.{of_registry, seat_has, seat_cell, met_seated}
 use Rattle.cell_registry.proofs.registry.Registry.meet.Goals as goal

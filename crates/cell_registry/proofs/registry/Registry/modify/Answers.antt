@@ -1,8 +1,4 @@
-use Rattle.std.proofs.Common.{◌<◌, sym, ap, subst, refl}
-use Rattle.effect_term.proofs.ValueLaws.{from_bits}
-use Rattle.cell_registry.specs.declared.limits.Limits.{Limits}
-use Rattle.cell_registry.specs.Passes.{RegistryView, PassView, OnlySees, pass_of}
-use Rattle.cell_registry.specs.Private.Kept.{stage_of}
+use Rattle.cell_registry.proofs.Prelude.{◌<◌, sym, ap, subst, refl, from_bits, Limits, RegistryView, PassView, OnlySees, pass_of, stage_of}
 use Rattle.cell_registry.proofs.ValueTurns.{modifies}
 use Rattle.cell_registry.proofs.Tokens.{of_registry, seat_has, ref_here, ref_word, call-prefix, pass_of-step, seated_still}
 use Rattle.cell_registry.proofs.registry.Registry.modify.Goals as goal

@@ -1,13 +1,5 @@
-use Rattle.std.proofs.Common.{◌≡◌, ℕ, ◌+◌, [], sym, ◌∙◌, ap, subst, set, false}
-use Rattle.std.specs.Prelude.{replicate}
-use Rattle.atomic_table.specs.Seated.{TableId}
-use Rattle.atomic_table.specs.Table.{Me}
-use Rattle.cell_registry.specs.declared.limits.Limits.{Limits}
-use Rattle.cell_registry.specs.declared.cell.Stage.TheVariants.{Running}
-use Rattle.cell_registry.specs.declared.knowledge.Knowledge.{Knowledge}
-use Rattle.cell_registry.specs.Cells.{AreLimits}
-use Rattle.cell_registry.specs.Rule.{first_knowledge}
-use Rattle.cell_registry.specs.Passes.{IsSeated, pass_of}
+use Rattle.cell_registry.proofs.Prelude.{◌≡◌, ℕ, ◌+◌, [], sym, ◌∙◌, ap, subst, set, false, replicate, TableId, Me, Limits, Running, Knowledge, AreLimits}
+use Rattle.cell_registry.proofs.Prelude.{first_knowledge, IsSeated, pass_of}
 use Rattle.cell_registry.proofs.Seats.{begins}
 use Rattle.cell_registry.proofs.Tokens.{first_seated}
 use Rattle.cell_registry.proofs.registry.Registry.new.Goals as goal
@@ -25,9 +17,7 @@ first k t me limits is = subst (λ (v : Knowledge). IsSeated v (pass_of t v 0 Ru
     (first_seated k t limits)
 
 pub invariant_of-pass-2 : goal.invariant_of-pass-2
-invariant_of-pass-2 c =
-    let me = c.in_ok-table.ensures.4 in
-    (ap (λ (m : Me ℕ Knowledge). m.1) me, first _ _ _ c.requires.limits me)
+invariant_of-pass-2 c = let me = c.in_ok-table.ensures.4 in (ap (λ (m : Me ℕ Knowledge). m.1) me, first _ _ _ c.requires.limits me)
 
 pub returns-clause-lawful : goal.returns-clause-lawful
 returns-clause-lawful c = (first _ _ _ c.requires.limits c.in_ok-table.ensures.4).pass

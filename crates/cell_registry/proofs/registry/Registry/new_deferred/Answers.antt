@@ -1,7 +1,4 @@
-use Rattle.std.proofs.Common.{sym, ap, arith, refl}
-use Rattle.cell_registry.specs.declared.limits.Limits.{Limits}
-use Rattle.cell_registry.specs.declared.limits.Band.TheVariants.{Deferreds}
-use Rattle.cell_registry.specs.Passes.{RegistryView}
+use Rattle.cell_registry.proofs.Prelude.{sym, ap, arith, refl, Limits, Deferreds, RegistryView}
 use Rattle.cell_registry.proofs.Tokens.{of_registry, seat_has, seated_given}
 use Rattle.cell_registry.proofs.registry.Registry.new_deferred.Goals as goal
 

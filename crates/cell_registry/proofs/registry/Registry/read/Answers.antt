@@ -1,11 +1,5 @@
-use Rattle.std.proofs.Common.{◌<◌, ℤ, sym, ap, subst, refl}
-use Rattle.std.specs.Prelude.{Option}
-use Rattle.effect_term.specs.declared.reply.Reply.TheVariants as reply
-use Rattle.cell_registry.specs.declared.limits.Limits.{Limits}
-use Rattle.cell_registry.specs.declared.call.Call.TheVariants as call
-use Rattle.cell_registry.specs.Steps.{Called}
-use Rattle.cell_registry.specs.Passes.{RegistryView, PassView, OnlySees, Calls, pass_of}
-use Rattle.cell_registry.specs.Private.Kept.{stage_of}
+use Rattle.cell_registry.proofs.Prelude.{◌<◌, ℤ, sym, ap, subst, refl, Option, Limits, Called, RegistryView, PassView, OnlySees, Calls, pass_of, stage_of}
+use Rattle.cell_registry.proofs.Prelude.{Reply, Call}
 use Rattle.cell_registry.proofs.ValueTurns.{reads}
 use Rattle.cell_registry.proofs.Tokens.{of_registry, seat_has, deferred_here, deferred_word, called_by, call-prefix, pass_of-step, seated_still}
 use Rattle.cell_registry.proofs.registry.Registry.read.Goals as goal
@@ -49,12 +43,11 @@ returns-clause-call c =
     let answer = c.read_answer.ensures t.0 t.1 t.2 in
     let old = c.pass.inside in
     let new = c.load-found.new.seat in
-    let P : PassView → Type 0 =
-    λ h. Calls h (call.Read c.args.number) (reply.Read c.read_answer.result)
+    let P : PassView → Type 0 = λ h. Calls h (Call.Read c.args.number) (Reply.Read c.read_answer.result)
     (pass_of new.table_id new.me.0 old.number (stage_of old.phase old.value) old.depth old.count old.saw) in
     subst P c.pass.view_is
     (called_by old.seat.me.0 new.me.0 _ _ _ c.pass.invariant.1.number_is
-    (subst (λ (x : Option ℤ). Called old.seat.me.0 (call.Read c.args.number) (reply.Read x) new.me.0) (sym answer) t.3))
+    (subst (λ (x : Option ℤ). Called old.seat.me.0 (Call.Read c.args.number) (Reply.Read x) new.me.0) (sym answer) t.3))
 
 pub returns-clause-lawful : goal.returns-clause-lawful
 returns-clause-lawful c = (invariant_of-pass c).1.pass

@@ -1,12 +1,5 @@
-use Rattle.std.proofs.Common.{ℕ, false, sym, ◌∙◌, ap, arith, refl, subst}
-use Rattle.atomic_table.specs.Table.{Me}
-use Rattle.cell_registry.specs.declared.limits.Limits.{Limits}
-use Rattle.cell_registry.specs.declared.knowledge.Knowledge.{Knowledge}
-use Rattle.cell_registry.specs.declared.cell.Stage.TheVariants.{Running}
-use Rattle.cell_registry.specs.Cells.{IsOpen}
-use Rattle.cell_registry.specs.Rule.{Has}
-use Rattle.cell_registry.specs.Passes.{RegistryView, PassView, IsSeated, pass_of}
-use Rattle.cell_registry.specs.Private.Kept.{stage_of}
+use Rattle.cell_registry.proofs.Prelude.{ℕ, false, sym, ◌∙◌, ap, arith, refl, subst, Me, Limits, Knowledge, Running, IsOpen, Has, RegistryView, PassView}
+use Rattle.cell_registry.proofs.Prelude.{IsSeated, pass_of, stage_of}
 use Rattle.cell_registry.proofs.Seats.{splits}
 use Rattle.cell_registry.proofs.Tokens.{of_registry, seat_has, seat_cell, call-prefix, seated_still, parent-same, child_seated}
 use Rattle.cell_registry.proofs.registry.Registry.start.Goals as goal
@@ -31,9 +24,7 @@ claim-requires-clause-may c = (
 
 -- where all numbers were given
 pub invariant_of-pass : goal.invariant_of-pass
-invariant_of-pass c =
-    let e = c.in_default.ensures.claim in
-    (c.claim.ensures.seat.1, seated_still _ _ _ _ _ _ _ _ _ e.1 e.0.seen e.0.legal c.pass.invariant.1)
+invariant_of-pass c = let e = c.in_default.ensures.claim in (c.claim.ensures.seat.1, seated_still _ _ _ _ _ _ _ _ _ e.1 e.0.seen e.0.legal c.pass.invariant.1)
 
 pub split_seat-seat-requires : goal.split_seat-seat-requires
 split_seat-seat-requires c =

@@ -1,12 +1,8 @@
-use Rattle.std.proofs.Common.{ℕ, ◌+◌, ◌-◌, sym, ◌∙◌, ap, subst, refl, rules}
-use Rattle.cell_registry.specs.declared.cell.Stage.{Stage}
-use Rattle.cell_registry.specs.declared.call.Call.TheVariants as call
-use Rattle.cell_registry.specs.Cells.{MayUnmask}
-use Rattle.cell_registry.specs.Passes.{RegistryView, PassView, Changes, pass_of}
-use Rattle.cell_registry.specs.Private.Kept.{stage_of}
+use Rattle.cell_registry.proofs.Prelude.{ℕ, ◌+◌, ◌-◌, sym, ◌∙◌, ap, subst, refl, rules, Stage, MayUnmask, RegistryView, PassView, Changes, pass_of, stage_of}
+use Rattle.cell_registry.proofs.Prelude.{Call}
 use Rattle.cell_registry.proofs.OwnTurns.{unmasks_as}
-use Rattle.cell_registry.proofs.Tokens.{of_registry, own_place, seat_has, seat_cell, called_by, call-prefix}
-use Rattle.cell_registry.proofs.Tokens.{pass_of-step, seated_changed, count_below, seen_count_below}
+use Rattle.cell_registry.proofs.Tokens.{of_registry, own_place, seat_has, seat_cell, called_by, call-prefix, pass_of-step, seated_changed, count_below}
+use Rattle.cell_registry.proofs.Tokens.{seen_count_below}
 use Rattle.cell_registry.proofs.registry.Registry.unmask.Goals as goal
 
 pub fetch_sub-requires : goal.fetch_sub-requires
@@ -48,8 +44,7 @@ returns-clause-unmasked c =
     let new = c.fetch_sub.new.seat in
     let of = of_registry _ _ _ _ c.self.view_is c.pass.view_is c.requires.own in
     let told = c.fetch_sub.ensures.2.1 in
-    let P : PassView → Type 0 =
-    λ h. Changes h call.Unmask h.stage (h.depth - 1)
+    let P : PassView → Type 0 = λ h. Changes h Call.Unmask h.stage (h.depth - 1)
     (pass_of new.table_id new.me.0 old.number (stage_of old.phase old.value) (old.depth - 1) (old.count + 1) old.saw) in
     subst P c.pass.view_is record {
       room = count_below _ _ _ p.1 of c.in_ok-refuse_if_spent.ensures.room;

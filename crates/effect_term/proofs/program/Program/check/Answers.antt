@@ -1,9 +1,6 @@
-use Rattle.std.proofs.Common.{arith, rules, [], IfErr, refl}
-use Rattle.std.proofs.lemmas.Result.{IfErr-weaker}
-use Rattle.effect_term.specs.Names.{uses_of, IsFault}
-use Rattle.effect_term.specs.Programs.{IsPastLimit}
-use Rattle.effect_term.proofs.KindLaws.{well_kinded}
-use Rattle.effect_term.proofs.ProgramLaws.{names_of_program, past_limit-from_fault}
+use Rattle.std.proofs.{Common.{arith, rules, [], IfErr, refl}, lemmas.Result.IfErr-weaker}
+use Rattle.effect_term.{specs.{Names.{uses_of, IsFault}, Programs.IsPastLimit}, proofs.{KindLaws.well_kinded, ProgramLaws.names_of_program}}
+use Rattle.effect_term.proofs.ProgramLaws.{past_limit-from_fault}
 use Rattle.effect_term.proofs.program.Program.check.Goals as goal
 
 pub returns-in_err-check_names-clause-only : goal.returns-in_err-check_names-clause-only

@@ -1,9 +1,5 @@
-use Rattle.std.proofs.Common.{rules, arith, ap, ◌≡◌, ◌≤◌, ℕ, List, drop, length}
-use Rattle.std.proofs.lemmas.List.{drop_all}
-use Rattle.effect_term.proofs.Rows.{expansion_sizes_of-row}
-use Rattle.effect_term.specs.ExpansionSize.{total_expansion_size}
-use Rattle.effect_term.specs.declared.term.Term.{Term}
-use Rattle.effect_term.specs.declared.term.Term.TheViews.{the_lemmas}
+use Rattle.std.proofs.{Common.{rules, arith, ap, ◌≡◌, ◌≤◌, ℕ, List, drop, length}, lemmas.List.drop_all}
+use Rattle.effect_term.{proofs.Rows.expansion_sizes_of-row, specs.{ExpansionSize.total_expansion_size, declared.term.Term.{Term, TheViews.the_lemmas}}}
 use Rattle.effect_term.proofs.term.Term.+expansion_size.Goals as goal
 
 none_left : (n : ℕ) (ts : List Term) → length ts ≤ n → total_expansion_size (drop n ts) ≡ 0

@@ -1,9 +1,5 @@
-use Rattle.std.proofs.Common.{rules, arith, ap, ◌≡◌, ◌≤◌, ℕ, List, drop, length}
-use Rattle.std.proofs.lemmas.List.{drop_all}
-use Rattle.effect_term.proofs.Rows.{most_masks_of-row}
-use Rattle.effect_term.specs.Masks.{most_masks}
-use Rattle.effect_term.specs.declared.term.Term.{Term}
-use Rattle.effect_term.specs.declared.term.Term.TheViews.{the_lemmas}
+use Rattle.std.proofs.{Common.{rules, arith, ap, ◌≡◌, ◌≤◌, ℕ, List, drop, length}, lemmas.List.drop_all}
+use Rattle.effect_term.{proofs.Rows.most_masks_of-row, specs.{Masks.most_masks, declared.term.Term.{Term, TheViews.the_lemmas}}}
 use Rattle.effect_term.proofs.term.Term.+masks.Goals as goal
 
 none_left : (n : ℕ) (ts : List Term) → length ts ≤ n → most_masks (drop n ts) ≡ 0

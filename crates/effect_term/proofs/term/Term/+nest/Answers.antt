@@ -1,10 +1,5 @@
-use Rattle.std.proofs.Common.{rules, arith, ap, ◌≡◌, ◌≤◌, ℕ, List, drop, length}
-use Rattle.std.proofs.lemmas.List.{drop_all}
-use Rattle.effect_term.proofs.Caps.{max_capped, one_above_capped}
-use Rattle.effect_term.proofs.Rows.{nests_of-row}
-use Rattle.effect_term.specs.Sizes.{deepest}
-use Rattle.effect_term.specs.declared.term.Term.{Term}
-use Rattle.effect_term.specs.declared.term.Term.TheViews.{the_lemmas}
+use Rattle.std.proofs.{Common.{rules, arith, ap, ◌≡◌, ◌≤◌, ℕ, List, drop, length}, lemmas.List.drop_all}
+use Rattle.effect_term.{proofs.{Caps.{max_capped, one_above_capped}, Rows.nests_of-row}, specs.{Sizes.deepest, declared.term.Term.{Term, TheViews.the_lemmas}}}
 use Rattle.effect_term.proofs.term.Term.+nest.Goals as goal
 
 none_left : (n : ℕ) (ts : List Term) → length ts ≤ n → deepest (drop n ts) ≡ 0

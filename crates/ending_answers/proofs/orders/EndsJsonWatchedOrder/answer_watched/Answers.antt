@@ -1,7 +1,6 @@
-use Rattle.std.proofs.Common.{◌∙◌, true, arith}
+use Rattle.std.proofs.Common.{◌∙◌, true}
 use Rattle.serde_json.specs.View.{view}
-use Rattle.ending_answers.proofs.Answered.{answered, decided_plain}
-use Rattle.ending_answers.proofs.Endings.{short_more}
+use Rattle.ending_answers.proofs.{Answered.{answered, decided_plain}, Endings.short_more}
 use Rattle.ending_answers.proofs.orders.EndsJsonWatchedOrder.answer_watched.Goals as goal
 
 pub decided_json-requires-clause-short : goal.decided_json-requires-clause-short

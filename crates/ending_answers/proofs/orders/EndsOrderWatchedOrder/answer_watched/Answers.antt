@@ -1,6 +1,5 @@
-use Rattle.std.proofs.Common.{false, arith}
-use Rattle.ending_answers.proofs.Answered.{answered}
-use Rattle.ending_answers.proofs.Endings.{short_more}
+use Rattle.std.proofs.Common.{false}
+use Rattle.ending_answers.proofs.{Answered.answered, Endings.short_more}
 use Rattle.ending_answers.proofs.orders.EndsOrderWatchedOrder.answer_watched.Goals as goal
 
 pub text_of_decided-requires-clause-short : goal.text_of_decided-requires-clause-short

@@ -1,14 +1,8 @@
-use Rattle.std.proofs.Common.{◌≡◌, List, Ok, Err, inl, inr, sym, ap, ◌∙◌, subst}
-use Rattle.std.specs.Prelude.{Some}
-use Rattle.std.specs.List.{slice_get}
-use Rattle.fiber_frames.specs.Fiber.{Fiber}
-use Rattle.fiber_frames.specs.Reached.{Reached}
+use Rattle.std.{proofs.Common.{◌≡◌, List, Ok, Err, inl, inr, sym, ap, ◌∙◌, subst}, specs.{Prelude.Some, List.slice_get}}
+use Rattle.fiber_frames.specs.{Fiber.Fiber, Reached.Reached}
 use Rattle.cell_registry.specs.declared.limits.Limits.{Limits}
-use Rattle.scheduled_core.specs.Core.{World}
-use Rattle.scheduled_core.specs.Fitting.{world_of}
-use Rattle.every_outcome.specs.Places.{Place, stepped, unmarked_place, unmarked_world}
-use Rattle.every_outcome.specs.Private.Keeping.{IsFull}
-use Rattle.every_outcome.proofs.Stepping.{step_full, step_goes}
+use Rattle.scheduled_core.specs.{Core.World, Fitting.world_of}
+use Rattle.every_outcome.{specs.{Places.{Place, stepped, unmarked_place, unmarked_world}, Private.Keeping.IsFull}, proofs.Stepping.{step_full, step_goes}}
 use Rattle.every_outcome.proofs.core_world.CoreWorld.enter.Goals as goal
 
 pub returns-clause-goes : goal.returns-clause-goes

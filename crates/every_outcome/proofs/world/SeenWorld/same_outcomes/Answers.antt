@@ -1,7 +1,6 @@
 use Rattle.std.proofs.Common.{◌≡◌, map, sym, ap, ◌∙◌}
 use Rattle.fiber_frames.specs.Fiber.{outcome_of}
-use Rattle.every_outcome.specs.Places.{outcomes_at}
-use Rattle.every_outcome.proofs.Stepping.{outcomes_stay}
+use Rattle.every_outcome.{specs.Places.outcomes_at, proofs.Stepping.outcomes_stay}
 use Rattle.every_outcome.proofs.world.SeenWorld.same_outcomes.Goals as goal
 
 pub returns-clause-yes : goal.returns-clause-yes

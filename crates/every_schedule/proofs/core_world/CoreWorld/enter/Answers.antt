@@ -1,6 +1,5 @@
 use Rattle.std.proofs.Common.{sym, ap, subst}
-use Rattle.cell_registry.specs.Cells.{Cells}
-use Rattle.cell_registry.specs.Plain.{PlainView}
+use Rattle.cell_registry.specs.{Cells.Cells, Plain.PlainView}
 use Rattle.scheduled_core.specs.Fitting.{AllFit, world_of}
 use Rattle.every_schedule.proofs.Bare.{fits_bare}
 use Rattle.every_schedule.proofs.core_world.CoreWorld.enter.Goals as goal

@@ -1,9 +1,6 @@
-use Rattle.std.proofs.Common.{◌≡◌, length, map, ◌<◌, sym, ap, ◌∙◌, subst, arith}
-use Rattle.std.specs.List.{slice_get}
-use Rattle.every_schedule.specs.Places.{Kept, Place}
-use Rattle.every_schedule.specs.Private.Numbered.{place_of}
-use Rattle.every_schedule.proofs.Numbered.{row_at, registry_there}
-use Rattle.every_schedule.proofs.Entering.{born_few, born_of, place_at}
+use Rattle.std.{proofs.Common.{◌≡◌, length, map, ◌<◌, sym, ap, ◌∙◌, subst, arith}, specs.List.slice_get}
+use Rattle.every_schedule.{specs.{Places.{Kept, Place}, Private.Numbered.place_of}, proofs.{Numbered.{row_at, registry_there}, Entering.{born_few, born_of}}}
+use Rattle.every_schedule.proofs.Entering.{place_at}
 use Rattle.every_schedule.proofs.core_worlds.CoreWorlds.born_at.Goals as goal
 
 pub registry_of-registry-requires : goal.registry_of-registry-requires

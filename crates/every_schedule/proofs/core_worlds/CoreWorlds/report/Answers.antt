@@ -1,13 +1,8 @@
-use Rattle.std.proofs.Common.{◌≡◌, ℕ, ◌<◌, List, length, map, sym, ap, ◌∙◌, subst}
-use Rattle.std.specs.List.{All, slice_get}
+use Rattle.std.{proofs.{Common.{◌≡◌, ℕ, ◌<◌, List, length, map, sym, ap, ◌∙◌, subst}, lemmas.Result.IfOk-weaker}, specs.List.{All, slice_get}}
 use Rattle.fiber_frames.specs.Fiber.{Fiber}
-use Rattle.every_schedule.specs.Places.{Kept, report_at}
-use Rattle.every_schedule.specs.Private.Numbered.{AreAt, place_of}
-use Rattle.std.proofs.lemmas.Result.{IfOk-weaker}
+use Rattle.every_schedule.{specs.{Places.{Kept, report_at}, Private.Numbered.{AreAt, place_of}}, proofs.{Alikeness.told, Numbered.{row_at, fibers_there}}}
+use Rattle.every_schedule.proofs.{Numbered.picked_is, Entering.place_at}
 use Rattle.scheduled_core.specs.Core.{fiber_report}
-use Rattle.every_schedule.proofs.Alikeness.{told}
-use Rattle.every_schedule.proofs.Numbered.{row_at, fibers_there, picked_is}
-use Rattle.every_schedule.proofs.Entering.{place_at}
 use Rattle.every_schedule.proofs.core_worlds.CoreWorlds.report.Goals as goal
 
 pub fibers_of-requires : goal.fibers_of-requires

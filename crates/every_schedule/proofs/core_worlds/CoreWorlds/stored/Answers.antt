@@ -1,11 +1,6 @@
-use Rattle.std.proofs.Common.{◌≡◌, ℕ, ◌<◌, List, length, map, sym, ap, ◌∙◌, subst}
-use Rattle.std.specs.List.{All, slice_get}
+use Rattle.std.{proofs.Common.{◌≡◌, ℕ, ◌<◌, List, length, map, sym, ap, ◌∙◌, subst}, specs.List.{All, slice_get}}
 use Rattle.fiber_frames.specs.Fiber.{Fiber}
-use Rattle.every_schedule.specs.Places.{Kept}
-use Rattle.every_schedule.specs.Private.Numbered.{place_of}
-use Rattle.every_schedule.proofs.Numbered.{row_at, fibers_there}
-use Rattle.every_schedule.proofs.Entering.{place_at}
-use Rattle.every_schedule.proofs.SeenRows.{stored_is}
+use Rattle.every_schedule.{specs.{Places.Kept, Private.Numbered.place_of}, proofs.{Numbered.{row_at, fibers_there}, Entering.place_at, SeenRows.stored_is}}
 use Rattle.every_schedule.proofs.core_worlds.CoreWorlds.stored.Goals as goal
 
 pub stored_at-requires : goal.stored_at-requires

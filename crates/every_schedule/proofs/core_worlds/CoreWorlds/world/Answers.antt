@@ -1,12 +1,8 @@
-use Rattle.std.proofs.Common.{◌≡◌, ◌<◌, ℕ, List, length, map, sym, ap, ◌∙◌, subst}
-use Rattle.std.specs.Prelude.{Some}
-use Rattle.std.specs.List.{All, slice_get}
+use Rattle.std.{proofs.Common.{◌≡◌, ◌<◌, ℕ, List, length, map, sym, ap, ◌∙◌, subst}, specs.{Prelude.Some, List.{All, slice_get}}}
 use Rattle.fiber_frames.specs.Fiber.{Fiber}
 use Rattle.world_search.proofs.Lists.{more_same}
-use Rattle.every_schedule.specs.Places.{Kept, Place}
-use Rattle.every_schedule.specs.Private.Numbered.{AreAt, IsWorldOf, place_of}
-use Rattle.every_schedule.proofs.Entering.{is_here}
-use Rattle.every_schedule.proofs.Numbered.{row_at, fibers_there, fits_at, is_at, registry_there}
+use Rattle.every_schedule.{specs.{Places.{Kept, Place}, Private.Numbered.{AreAt, IsWorldOf, place_of}}, proofs.{Entering.is_here, Numbered.row_at}}
+use Rattle.every_schedule.proofs.Numbered.{fibers_there, fits_at, is_at, registry_there}
 use Rattle.every_schedule.proofs.core_worlds.CoreWorlds.world.Goals as goal
 
 pub fibers_of-requires : goal.fibers_of-requires

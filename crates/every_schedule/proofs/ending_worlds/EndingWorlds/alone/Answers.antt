@@ -1,5 +1,4 @@
-use Rattle.std.proofs.lemmas.Result.{IfOk-weaker}
-use Rattle.std.proofs.Common.{subst}
+use Rattle.std.proofs.{lemmas.Result.IfOk-weaker, Common.subst}
 use Rattle.world_search.specs.Landings.{EntersAt}
 use Rattle.every_schedule.proofs.Leaps.{leapt_none}
 use Rattle.every_schedule.proofs.ending_worlds.EndingWorlds.alone.Goals as goal

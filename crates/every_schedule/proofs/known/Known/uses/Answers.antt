@@ -1,10 +1,5 @@
-use Rattle.std.proofs.Common.{◌≡◌, ◌+◌, ◌*◌, subst, arith}
-use Rattle.std.specs.Prelude.{Some}
-use Rattle.std.specs.List.{slice_get}
-use Rattle.std.proofs.lemmas.Grind.{common_steps}
-use Rattle.std.proofs.lemmas.Option.{gets}
-use Rattle.every_schedule.specs.Private.Knowing.{use_place}
-use Rattle.every_schedule.proofs.Knowing.{tell_set}
+use Rattle.std.{proofs.{Common.{◌≡◌, ◌+◌, ◌*◌, subst, arith}, lemmas.{Grind.common_steps, Option.gets}}, specs.{Prelude.Some, List.slice_get}}
+use Rattle.every_schedule.{specs.Private.Knowing.use_place, proofs.Knowing.tell_set}
 use Rattle.every_schedule.proofs.known.Known.uses.Goals as goal
 
 pub returns-in-Some-clause-exact : goal.returns-in-Some-clause-exact

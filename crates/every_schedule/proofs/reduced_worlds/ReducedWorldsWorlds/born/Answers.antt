@@ -1,6 +1,5 @@
 use Rattle.std.proofs.Common.{arith}
-use Rattle.every_schedule.specs.Reduced.{hundred}
-use Rattle.every_schedule.proofs.Leaps.{leapt_rests}
+use Rattle.every_schedule.{specs.Reduced.hundred, proofs.Leaps.leapt_rests}
 use Rattle.every_schedule.proofs.reduced_worlds.ReducedWorldsWorlds.born.Goals as goal
 
 pub returns-clause-rests : goal.returns-clause-rests

@@ -1,7 +1,6 @@
 use Rattle.std.proofs.Common.{sym, ap, ap₂, ◌∙◌, subst}
 use Rattle.cell_registry.specs.Plain.{PlainView}
-use Rattle.scheduled_core.specs.Finals.{IsFinal}
-use Rattle.scheduled_core.specs.Fitting.{AllFit, world_of}
+use Rattle.scheduled_core.specs.{Finals.IsFinal, Fitting.{AllFit, world_of}}
 use Rattle.every_schedule.specs.Places.{Place}
 use Rattle.every_schedule.proofs.resting.EndingWorldsResting.is_at_rest.Goals as goal
 

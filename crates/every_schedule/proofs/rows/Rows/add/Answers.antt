@@ -1,9 +1,7 @@
-use Rattle.std.proofs.Common.{◌≡◌, [], ◌∷◌, ◌++◌, length, length-append, map, sym, ap, ap₂, ◌∙◌, subst, arith}
+use Rattle.std.proofs.{Common.{◌≡◌, [], ◌∷◌, ◌++◌, length, length-append, map, sym, ap, ap₂, ◌∙◌, subst, arith}, lemmas.Grind.common_steps}
 use Rattle.std.specs.Prelude.{List, ℕ}
-use Rattle.std.proofs.lemmas.Grind.{common_steps}
-use Rattle.every_schedule.specs.declared.rows.Head.{Head}
-use Rattle.every_schedule.specs.Private.Packed.{AreWithin, Packed, row_of}
-use Rattle.every_schedule.proofs.Packed.{on_err, rows_more, rows_with, within_added, within_more}
+use Rattle.every_schedule.{specs.{declared.rows.Head.Head, Private.Packed.{AreWithin, Packed, row_of}}, proofs.Packed.{on_err, rows_more, rows_with}}
+use Rattle.every_schedule.proofs.Packed.{within_added, within_more}
 use Rattle.every_schedule.proofs.rows.Rows.add.Goals as goal
 
 pub returns-in_err-push-clause-kept : goal.returns-in_err-push-clause-kept

@@ -1,5 +1,4 @@
-use Rattle.std.proofs.Common.{◌<◌, length, sym, subst, arith}
-use Rattle.std.proofs.lemmas.List.{length-map}
+use Rattle.std.proofs.{Common.{◌<◌, length, sym, subst, arith}, lemmas.List.length-map}
 use Rattle.every_schedule.specs.Private.Packed.{Packed, row_of}
 use Rattle.every_schedule.proofs.rows.Rows.fibers.Goals as goal
 

@@ -1,5 +1,4 @@
-use Rattle.std.proofs.Common.{◌≡◌, ◌<◌, length, sym, ap, ◌∙◌, arith}
-use Rattle.std.specs.Prelude.{Some}
+use Rattle.std.{proofs.Common.{◌≡◌, ◌<◌, length, sym, ap, ◌∙◌, arith}, specs.Prelude.Some}
 use Rattle.world_search.proofs.Lists.{get_low}
 use Rattle.every_schedule.proofs.Packed.{gone}
 use Rattle.every_schedule.proofs.rows.Rows.is.Goals as goal

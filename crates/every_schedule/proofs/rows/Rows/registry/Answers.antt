@@ -1,12 +1,6 @@
-use Rattle.std.proofs.Common.{◌≡◌, ◌<◌, length, sym, ap, ◌∙◌, subst, arith}
-use Rattle.std.specs.Prelude.{Some}
-use Rattle.std.specs.List.{slice_get}
-use Rattle.std.proofs.lemmas.Grind.{common_steps}
-use Rattle.std.proofs.lemmas.List.{length-map}
-use Rattle.std.proofs.lemmas.Option.{gets, same_Some}
-use Rattle.every_schedule.specs.Private.Numbered.{Numbers}
-use Rattle.every_schedule.specs.Private.Packed.{Packed, row_of}
-use Rattle.every_schedule.proofs.Numbered.{map_get}
+use Rattle.std.proofs.{Common.{◌≡◌, ◌<◌, length, sym, ap, ◌∙◌, subst, arith}, lemmas.{Grind.common_steps, List.length-map, Option.{gets, same_Some}}}
+use Rattle.std.specs.{Prelude.Some, List.slice_get}
+use Rattle.every_schedule.{specs.Private.{Numbered.Numbers, Packed.{Packed, row_of}}, proofs.Numbered.map_get}
 use Rattle.every_schedule.proofs.rows.Rows.registry.Goals as goal
 
 pub index-requires : goal.index-requires

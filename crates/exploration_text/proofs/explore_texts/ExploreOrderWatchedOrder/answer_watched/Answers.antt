@@ -1,6 +1,5 @@
 use Rattle.std.proofs.Common.{◌∙◌, ap, subst}
-use Rattle.exploration_text.specs.ExplorationText.{IsExplorationText, exploration_status}
-use Rattle.exploration_text.specs.Missing.{missing_of_exploration}
+use Rattle.exploration_text.specs.{ExplorationText.{IsExplorationText, exploration_status}, Missing.missing_of_exploration}
 use Rattle.exploration_text.proofs.explore_texts.ExploreOrderWatchedOrder.answer_watched.Goals as goal
 
 pub returns : goal.returns

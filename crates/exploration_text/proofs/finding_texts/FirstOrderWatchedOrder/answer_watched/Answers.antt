@@ -1,9 +1,6 @@
 use Rattle.std.proofs.Common.{◌∙◌, ap, inr, subst}
-use Rattle.derived_ops.specs.Expansion.{code_of}
-use Rattle.derived_ops.specs.Reading.{source_of}
-use Rattle.exploration_text.specs.ExplorationText.{IsExplorationText, exploration_status}
-use Rattle.exploration_text.specs.Findings.{IsFirst}
-use Rattle.exploration_text.specs.Missing.{missing_of_exploration}
+use Rattle.derived_ops.specs.{Expansion.code_of, Reading.source_of}
+use Rattle.exploration_text.specs.{ExplorationText.{IsExplorationText, exploration_status}, Findings.IsFirst, Missing.missing_of_exploration}
 use Rattle.exploration_text.proofs.finding_texts.FirstOrderWatchedOrder.answer_watched.Goals as goal
 
 pub returns-in_ok-missing_of_exploration-in-Explored : goal.returns-in_ok-missing_of_exploration-in-Explored

@@ -1,6 +1,5 @@
 use Rattle.std.proofs.Common.{◌∙◌, ap, subst}
-use Rattle.exploration_text.specs.Missing.{missing_of_sample}
-use Rattle.exploration_text.specs.SampleText.{IsSampleText, sample_status}
+use Rattle.exploration_text.specs.{Missing.missing_of_sample, SampleText.{IsSampleText, sample_status}}
 use Rattle.exploration_text.proofs.sample_texts.SampleOrderNotedOrder.noted_answer.Goals as goal
 
 pub returns : goal.returns

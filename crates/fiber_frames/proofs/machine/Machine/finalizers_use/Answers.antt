@@ -1,5 +1,4 @@
-use Rattle.std.proofs.Common.{◌≡◌, List, length, get_or, refl, ap, subst, arith}
-use Rattle.fiber_frames.specs.declared.frame.Pending.{Pending}
+use Rattle.fiber_frames.proofs.Prelude.{◌≡◌, List, length, get_or, refl, ap, subst, arith, Pending}
 use Rattle.fiber_frames.proofs.PathHits.{finals_are, pending_count, total_all, total_none, total_some}
 use Rattle.fiber_frames.proofs.machine.Machine.finalizers_use.Goals as goal
 

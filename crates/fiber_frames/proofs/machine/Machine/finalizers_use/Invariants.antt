@@ -1,7 +1,4 @@
-use Rattle.std.proofs.Common.{◌≡◌, take}
-use Rattle.fiber_frames.specs.declared.frame.Pending.{Pending}
-use Rattle.fiber_frames.specs.Frames.{finalizer_of}
-use Rattle.fiber_frames.specs.Hits.{tree_hits}
+use Rattle.fiber_frames.proofs.Prelude.{◌≡◌, take, Pending, finalizer_of, tree_hits}
 use Rattle.fiber_frames.proofs.PathHits.{total}
 use Rattle.fiber_frames.proofs.machine.Machine.finalizers_use.Given as goal
 

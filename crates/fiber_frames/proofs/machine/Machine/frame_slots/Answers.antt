@@ -1,14 +1,6 @@
-use Rattle.std.proofs.Common.{◌≡◌, ℕ, ◌+◌, List, pos, sym, subst}
-use Rattle.derived_ops.specs.declared.core_word.CoreWord.{CoreWord}
+use Rattle.fiber_frames.proofs.Prelude.{◌≡◌, ℕ, ◌+◌, List, pos, sym, subst, CoreWord, Tree, rest_of, tree_at, EnvEntry, Frame, close, env_of, step_of}
+use Rattle.fiber_frames.proofs.Prelude.{In_guarded, In_handle, In_let, In_seq, Names}
 use Rattle.derived_ops.specs.Tree as tree
-use Rattle.derived_ops.specs.Tree.{Tree}
-use Rattle.derived_ops.specs.Words.{rest_of, tree_at}
-use Rattle.fiber_frames.specs.declared.env.EnvEntry.{EnvEntry}
-use Rattle.fiber_frames.specs.declared.frame.Frame.{Frame}
-use Rattle.fiber_frames.specs.Env.{close, env_of}
-use Rattle.fiber_frames.specs.Frames.{step_of}
-use Rattle.fiber_frames.specs.Path.{In_guarded, In_handle, In_let, In_seq}
-use Rattle.fiber_frames.specs.SlotNames.{Names}
 use Rattle.fiber_frames.proofs.SlotSets.{names_ap}
 use Rattle.fiber_frames.proofs.machine.Machine.frame_slots.Goals as goal
 

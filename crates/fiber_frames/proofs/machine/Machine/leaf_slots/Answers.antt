@@ -1,14 +1,5 @@
-use Rattle.std.proofs.Common.{List, pos, sym, subst}
-use Rattle.derived_ops.specs.declared.core_word.CoreWord.{CoreWord}
+use Rattle.fiber_frames.proofs.Prelude.{List, pos, sym, subst, CoreWord, Tree, tree_at, EnvEntry, WordKind, close, env_of, leaf_of, Leaf, leaf_by, Names}
 use Rattle.derived_ops.specs.Tree as tree
-use Rattle.derived_ops.specs.Tree.{Tree}
-use Rattle.derived_ops.specs.Words.{tree_at}
-use Rattle.fiber_frames.specs.declared.env.EnvEntry.{EnvEntry}
-use Rattle.fiber_frames.specs.declared.kind.WordKind.{WordKind}
-use Rattle.fiber_frames.specs.Env.{close, env_of}
-use Rattle.fiber_frames.specs.Frames.{leaf_of}
-use Rattle.fiber_frames.specs.Leaf.{Leaf, leaf_by}
-use Rattle.fiber_frames.specs.SlotNames.{Names}
 use Rattle.fiber_frames.proofs.SlotSets.{leaf_word, names_ap}
 use Rattle.fiber_frames.proofs.machine.Machine.leaf_slots.Goals as goal
 

@@ -1,5 +1,4 @@
-use Rattle.std.proofs.Common.{◌≡◌, List, length, get_or, refl, ap, subst, arith}
-use Rattle.fiber_frames.specs.declared.frame.Frame.{Frame}
+use Rattle.fiber_frames.proofs.Prelude.{◌≡◌, List, length, get_or, refl, ap, subst, arith, Frame}
 use Rattle.fiber_frames.proofs.PathHits.{frame_count, path_is, total_all, total_none, total_some}
 use Rattle.fiber_frames.proofs.machine.Machine.path_uses.Goals as goal
 

@@ -1,8 +1,4 @@
-use Rattle.std.proofs.Common.{◌≡◌, take}
-use Rattle.fiber_frames.specs.declared.frame.Frame.{Frame}
-use Rattle.fiber_frames.specs.Frames.{leaf_of, step_of}
-use Rattle.fiber_frames.specs.Leaf.{leaf_in}
-use Rattle.fiber_frames.specs.Hits.{step_hits, tree_hits}
+use Rattle.fiber_frames.proofs.Prelude.{◌≡◌, take, Frame, leaf_of, step_of, leaf_in, step_hits, tree_hits}
 use Rattle.fiber_frames.proofs.PathHits.{total}
 use Rattle.fiber_frames.proofs.machine.Machine.path_uses.Given as goal
 

@@ -1,9 +1,4 @@
-use Rattle.std.proofs.Common.{List, subst}
-use Rattle.derived_ops.specs.declared.core_word.CoreWord.{CoreWord}
-use Rattle.derived_ops.specs.Words.{tree_at}
-use Rattle.fiber_frames.specs.declared.env.EnvEntry.{EnvEntry}
-use Rattle.fiber_frames.specs.Env.{close, env_of}
-use Rattle.fiber_frames.specs.SlotNames.{Names}
+use Rattle.fiber_frames.proofs.Prelude.{List, subst, CoreWord, tree_at, EnvEntry, close, env_of, Names}
 use Rattle.fiber_frames.proofs.machine.Machine.pending_slots.Goals as goal
 
 pub returns : goal.returns

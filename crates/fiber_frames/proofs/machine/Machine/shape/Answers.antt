@@ -1,8 +1,5 @@
-use Rattle.std.proofs.Common.{◌≡◌, ◌+◌, ℕ, suc, List, length, map, refl, ap, ap₂, ◌∙◌, arith, rules}
-use Rattle.fiber_frames.specs.declared.env.EnvEntry.{EnvEntry}
-use Rattle.fiber_frames.specs.declared.frame.Frame.{Frame}
-use Rattle.fiber_frames.specs.declared.machine.Machine.{Machine}
-use Rattle.fiber_frames.specs.Shapes.{entry_placed, frame_placed, path_masks, stage_placed}
+use Rattle.fiber_frames.proofs.Prelude.{◌≡◌, ◌+◌, ℕ, suc, List, length, map, refl, ap, ap₂, ◌∙◌, arith, rules, EnvEntry, Frame, Machine, entry_placed}
+use Rattle.fiber_frames.proofs.Prelude.{frame_placed, path_masks, stage_placed}
 use Rattle.fiber_frames.proofs.Shaping.{shape_unmarked}
 use Rattle.fiber_frames.proofs.machine.Machine.shape.Goals as goal
 

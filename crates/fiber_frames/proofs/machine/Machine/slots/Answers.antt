@@ -1,9 +1,4 @@
-use Rattle.std.proofs.Common.{List, length, get_or, ap, subst, arith}
-use Rattle.fiber_frames.specs.declared.env.EnvEntry.{EnvEntry}
-use Rattle.fiber_frames.specs.declared.frame.Frame.{Frame}
-use Rattle.fiber_frames.specs.declared.frame.Pending.{Pending}
-use Rattle.fiber_frames.specs.Frames.{finalizer_of, step_of}
-use Rattle.fiber_frames.specs.SlotNames.{Names}
+use Rattle.fiber_frames.proofs.Prelude.{List, length, get_or, ap, subst, arith, EnvEntry, Frame, Pending, finalizer_of, step_of, Names}
 use Rattle.fiber_frames.proofs.SlotSets.{names_first, names_next}
 use Rattle.fiber_frames.proofs.machine.Machine.slots.Goals as goal
 

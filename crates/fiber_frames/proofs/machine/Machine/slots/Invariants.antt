@@ -1,8 +1,4 @@
-use Rattle.std.proofs.Common.{List, map, take}
-use Rattle.fiber_frames.specs.declared.env.EnvEntry.{EnvEntry}
-use Rattle.fiber_frames.specs.Frames.{finalizer_of, leaf_of, step_of}
-use Rattle.fiber_frames.specs.Leaf.{leaf_in}
-use Rattle.fiber_frames.specs.SlotNames.{Names}
+use Rattle.fiber_frames.proofs.Prelude.{List, map, take, EnvEntry, finalizer_of, leaf_of, step_of, leaf_in, Names}
 use Rattle.fiber_frames.proofs.machine.Machine.slots.Given as goal
 
 -- the slots are those of the leaf and of the frames so far

@@ -1,8 +1,4 @@
-use Rattle.std.proofs.Common.{◌≡◌, sym, ap, ◌∙◌, inl, inr}
-use Rattle.effect_term.specs.declared.reply.Reply.TheVariants.{Done}
-use Rattle.fiber_frames.specs.Fiber.{Fiber, move_case, row_of, ask_in}
-use Rattle.fiber_frames.specs.Moves.{case_of}
-use Rattle.fiber_frames.specs.Machines.{fiber_in, state_of}
+use Rattle.fiber_frames.proofs.Prelude.{◌≡◌, sym, ap, ◌∙◌, inl, inr, Done, Fiber, move_case, row_of, ask_in, case_of, fiber_in, state_of}
 use Rattle.fiber_frames.proofs.CallsAndKinds.{ask_row, case_is}
 use Rattle.fiber_frames.proofs.machine.Machine.wanted.Goals as goal
 

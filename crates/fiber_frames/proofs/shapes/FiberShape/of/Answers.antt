@@ -1,7 +1,4 @@
-use Rattle.std.proofs.Common.{◌≡◌, ap, ◌∙◌, rules}
-use Rattle.fiber_frames.specs.Fiber.{Fiber, ask_of, child, move, outcome_of}
-use Rattle.fiber_frames.specs.Machines.{fiber_in}
-use Rattle.fiber_frames.specs.Unmarked.{unmarked}
+use Rattle.fiber_frames.proofs.Prelude.{◌≡◌, ap, ◌∙◌, rules, Fiber, ask_of, child, move, outcome_of, fiber_in, unmarked}
 use Rattle.fiber_frames.proofs.Unmarking.{ask_unmarked, child_unmarked, move_unmarked, unmarked_outcome}
 use Rattle.fiber_frames.proofs.shapes.FiberShape.of.Goals as goal
 

@@ -1,7 +1,5 @@
-use Rattle.std.proofs.Common.{ap, sym, ◌∙◌}
-use Rattle.fiber_frames.specs.Machines.{fiber_in}
+use Rattle.fiber_frames.proofs.Prelude.{ap, sym, ◌∙◌, fiber_in}
 use Rattle.fiber_frames.proofs.shapes.FiberShape.same.Goals as goal
 
 pub returns : goal.returns
-returns c = λ is.
-    sym c.self.view_is ∙ ap fiber_in (sym c.deref.ensures) ∙ c.same.ensures is ∙ ap fiber_in c.deref-2.ensures ∙ c.other.view_is
+returns c = λ is. sym c.self.view_is ∙ ap fiber_in (sym c.deref.ensures) ∙ c.same.ensures is ∙ ap fiber_in c.deref-2.ensures ∙ c.other.view_is

@@ -1,11 +1,8 @@
 use Rattle.std.proofs.Common.{◌+◌, subst, sym}
-use Rattle.fiber_frames.specs.declared.ask.Ask.TheVariants as ask
-use Rattle.fiber_poll.specs.Private.Told.{IsAsked, Made}
-use Rattle.fiber_poll.specs.Tasks.{TaskView}
-use Rattle.fiber_poll.proofs.Turnings.{Loops, loop_asked, loop_bears, loop_begins, loop_goes, loop_tells}
-use Rattle.fiber_poll.proofs.task.FiberTask.go.Goals.{in-Silent+in_ok-end-in-Silent+in-Plain}
-use Rattle.fiber_poll.proofs.task.FiberTask.go.Goals.{in-Look+in_ok-end-in-Look+in-Plain-2}
+use Rattle.fiber_poll.{specs.{Private.Told.{IsAsked, Made}, Tasks.TaskView}, proofs.Turnings.{Loops, loop_asked, loop_bears, loop_begins, loop_goes}}
+use Rattle.fiber_poll.proofs.{Turnings.loop_tells, task.FiberTask.go.Goals.{in-Silent+in_ok-end-in-Silent+in-Plain, in-Look+in_ok-end-in-Look+in-Plain-2}}
 use Rattle.fiber_poll.proofs.task.FiberTask.go.Goals.{in_default+in_ok-end-in_default+in-Plain-3}
+use Rattle.fiber_frames.specs.declared.ask.Ask.TheVariants as ask
 use Rattle.fiber_poll.proofs.task.FiberTask.go.Goals as goal
 
 pub loop-made-init : goal.loop-made-init

@@ -1,7 +1,5 @@
 use Rattle.std.proofs.Common.{◌-◌}
-use Rattle.fiber_poll.specs.Private.Told.{IsAsked}
-use Rattle.fiber_poll.proofs.Births.{here_bears, here_fits, here_moved}
-use Rattle.fiber_poll.proofs.Steps.{looked_task}
+use Rattle.fiber_poll.{specs.Private.Told.IsAsked, proofs.{Births.{here_bears, here_fits, here_moved}, Steps.looked_task}}
 use Rattle.fiber_poll.proofs.task.FiberTask.start.Goals as goal
 
 pub invariant_of-self : goal.invariant_of-self

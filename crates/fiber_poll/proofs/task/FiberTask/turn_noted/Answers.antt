@@ -1,11 +1,7 @@
 use Rattle.std.proofs.Common.{◌≡◌, ◌∙◌, sym, subst}
+use Rattle.fiber_frames.specs.{Fiber.ask_of, Leading.{IsGoing, way_of}}
+use Rattle.fiber_poll.{specs.Tasks.{IsTask, TaskView}, proofs.{Outcomes.{not_over, over_asked}, Staying.stays_of, Turnings.{broken_here, over_here}}}
 use Rattle.fiber_frames.specs.declared.ask.Ask.TheVariants as ask
-use Rattle.fiber_frames.specs.Fiber.{ask_of}
-use Rattle.fiber_frames.specs.Leading.{IsGoing, way_of}
-use Rattle.fiber_poll.specs.Tasks.{IsTask, TaskView}
-use Rattle.fiber_poll.proofs.Outcomes.{not_over, over_asked}
-use Rattle.fiber_poll.proofs.Staying.{stays_of}
-use Rattle.fiber_poll.proofs.Turnings.{broken_here, over_here}
 use Rattle.fiber_poll.proofs.task.FiberTask.turn_noted.Goals as goal
 
 pub returns-in-Over-clause-turned : goal.returns-in-Over-clause-turned

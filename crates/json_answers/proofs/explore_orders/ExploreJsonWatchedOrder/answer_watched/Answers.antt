@@ -1,9 +1,7 @@
 use Rattle.std.proofs.Common.{◌∙◌, ap, subst}
 use Rattle.serde_json.specs.View.{view}
-use Rattle.exploration_text.specs.ExplorationText.{exploration_status}
-use Rattle.exploration_text.specs.Missing.{missing_of_exploration}
-use Rattle.json_answers.specs.ExplorationData.{IsExplorationData}
-use Rattle.json_answers.proofs.FoundPlain.{exploration_plain}
+use Rattle.exploration_text.specs.{ExplorationText.exploration_status, Missing.missing_of_exploration}
+use Rattle.json_answers.{specs.ExplorationData.IsExplorationData, proofs.FoundPlain.exploration_plain}
 use Rattle.json_answers.proofs.explore_orders.ExploreJsonWatchedOrder.answer_watched.Goals as goal
 
 pub value_answer-requires : goal.value_answer-requires

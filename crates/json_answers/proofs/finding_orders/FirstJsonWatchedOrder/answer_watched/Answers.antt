@@ -1,13 +1,8 @@
 use Rattle.std.proofs.Common.{◌∙◌, ap, inr, subst}
-use Rattle.derived_ops.specs.Expansion.{code_of}
-use Rattle.derived_ops.specs.Reading.{source_of}
+use Rattle.derived_ops.specs.{Expansion.code_of, Reading.source_of}
 use Rattle.serde_json.specs.View.{view}
-use Rattle.exploration_text.specs.ExplorationText.{exploration_status}
-use Rattle.exploration_text.specs.Findings.{IsFirst}
-use Rattle.exploration_text.specs.Missing.{missing_of_exploration}
-use Rattle.json_answers.specs.ExplorationData.{IsExplorationData}
-use Rattle.json_answers.proofs.FindingLemmas.{finding_plain}
-use Rattle.json_answers.proofs.FoundPlain.{exploration_plain}
+use Rattle.exploration_text.specs.{ExplorationText.exploration_status, Findings.IsFirst, Missing.missing_of_exploration}
+use Rattle.json_answers.{specs.ExplorationData.IsExplorationData, proofs.{FindingLemmas.finding_plain, FoundPlain.exploration_plain}}
 use Rattle.json_answers.proofs.finding_orders.FirstJsonWatchedOrder.answer_watched.Goals as goal
 
 pub value_answer-requires : goal.value_answer-requires

@@ -1,9 +1,7 @@
 use Rattle.std.proofs.Common.{◌∙◌, ap, subst}
 use Rattle.serde_json.specs.View.{view}
-use Rattle.exploration_text.specs.Missing.{missing_of_sample}
-use Rattle.exploration_text.specs.SampleText.{sample_status}
-use Rattle.json_answers.specs.SampleData.{IsSampleData}
-use Rattle.json_answers.proofs.FoundPlain.{sample_plain}
+use Rattle.exploration_text.specs.{Missing.missing_of_sample, SampleText.sample_status}
+use Rattle.json_answers.{specs.SampleData.IsSampleData, proofs.FoundPlain.sample_plain}
 use Rattle.json_answers.proofs.sample_orders.SampleJsonNotedOrder.noted_answer.Goals as goal
 
 pub value_answer-requires : goal.value_answer-requires

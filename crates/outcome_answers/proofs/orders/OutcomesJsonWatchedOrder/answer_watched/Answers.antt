@@ -1,7 +1,6 @@
 use Rattle.std.proofs.Common.{◌∙◌, true}
 use Rattle.serde_json.specs.View.{view}
-use Rattle.outcome_answers.proofs.BarePlain.{outcomes_plain}
-use Rattle.outcome_answers.proofs.Outcomes.{answered, spellable}
+use Rattle.outcome_answers.proofs.{BarePlain.outcomes_plain, Outcomes.{answered, spellable}}
 use Rattle.outcome_answers.proofs.orders.OutcomesJsonWatchedOrder.answer_watched.Goals as goal
 
 pub outcomes_json-requires : goal.outcomes_json-requires

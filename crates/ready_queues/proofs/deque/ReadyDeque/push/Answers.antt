@@ -1,8 +1,6 @@
 use Rattle.std.proofs.Common.{◌∷◌, []}
-use Rattle.ready_queues.specs.Moments.{PutLast}
+use Rattle.ready_queues.{specs.Moments.PutLast, proofs.{Ledgers.puts, Results.ok_of_first}}
 use Rattle.crossbeam_deque.specs.Handles.{worker_view}
-use Rattle.ready_queues.proofs.Ledgers.{puts}
-use Rattle.ready_queues.proofs.Results.{ok_of_first}
 use Rattle.ready_queues.proofs.deque.ReadyDeque.push.Goals as goal
 
 pub push_as-requires-clause-pushes : goal.push_as-requires-clause-pushes

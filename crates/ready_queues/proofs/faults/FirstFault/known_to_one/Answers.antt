@@ -1,5 +1,4 @@
-use Rattle.std.proofs.Common.{rules, ◌≡◌, Some}
-use Rattle.std.proofs.lemmas.List.Elements.{All-push}
+use Rattle.std.proofs.{Common.{rules, ◌≡◌, Some}, lemmas.List.Elements.All-push}
 use Rattle.cell_registry.specs.declared.limits.RunError.{RunError}
 use Rattle.ready_queues.specs.declared.faults.Learned.{Learned}
 use Rattle.ready_queues.proofs.faults.FirstFault.known_to_one.Goals as goal

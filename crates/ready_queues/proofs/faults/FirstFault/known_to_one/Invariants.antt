@@ -1,5 +1,4 @@
-use Rattle.std.proofs.Common.{◌≡◌}
-use Rattle.std.specs.Prelude.{All, Some}
+use Rattle.std.{proofs.Common.◌≡◌, specs.Prelude.{All, Some}}
 use Rattle.once_cell.specs.Once.{cell_name}
 use Rattle.ready_queues.proofs.faults.FirstFault.known_to_one.Given as goal
 

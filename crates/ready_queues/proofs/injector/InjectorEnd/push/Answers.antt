@@ -1,8 +1,6 @@
 use Rattle.std.proofs.Common.{◌∷◌, []}
-use Rattle.ready_queues.specs.Moments.{PutLast}
+use Rattle.ready_queues.{specs.Moments.PutLast, proofs.{Ledgers.puts, Results.ok_of}}
 use Rattle.crossbeam_deque.specs.Injected.{injector_view}
-use Rattle.ready_queues.proofs.Ledgers.{puts}
-use Rattle.ready_queues.proofs.Results.{ok_of}
 use Rattle.ready_queues.proofs.injector.InjectorEnd.push.Goals as goal
 
 pub push_as-requires-clause-rule : goal.push_as-requires-clause-rule

@@ -1,5 +1,4 @@
-use Rattle.std.proofs.Common.{sym, subst}
-use Rattle.std.proofs.lemmas.Result.{IfOk-weaker}
+use Rattle.std.proofs.{Common.{sym, subst}, lemmas.Result.IfOk-weaker}
 use Rattle.reasons.specs.Refusals.{IsTextReasons, program}
 use Rattle.reasons.proofs.text_reasons.TextReasonsReasons.reasons.Goals as goal
 

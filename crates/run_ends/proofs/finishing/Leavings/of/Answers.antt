@@ -1,7 +1,6 @@
 use Rattle.std.proofs.Common.{List, subst}
 use Rattle.fiber_poll.specs.Tasks.{TaskView}
-use Rattle.run_ends.specs.Private.Gathered.{AreRests}
-use Rattle.run_ends.proofs.Meeting.{each_home, left_by_number}
+use Rattle.run_ends.{specs.Private.Gathered.AreRests, proofs.Meeting.{each_home, left_by_number}}
 use Rattle.run_ends.proofs.finishing.Leavings.of.Goals as goal
 
 pub meet-requires : goal.meet-requires

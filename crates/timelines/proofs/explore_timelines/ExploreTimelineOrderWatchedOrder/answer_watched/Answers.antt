@@ -1,6 +1,5 @@
 use Rattle.std.proofs.Common.{◌∙◌, ap, subst}
-use Rattle.exploration_text.specs.ExplorationText.{exploration_status}
-use Rattle.exploration_text.specs.Missing.{missing_of_exploration}
+use Rattle.exploration_text.specs.{ExplorationText.exploration_status, Missing.missing_of_exploration}
 use Rattle.timelines.specs.ExploreTimelines.{IsToldExploration}
 use Rattle.timelines.proofs.explore_timelines.ExploreTimelineOrderWatchedOrder.answer_watched.Goals as goal
 

@@ -1,9 +1,7 @@
 use Rattle.std.proofs.Common.{◌≡◌, ◌∙◌, ◌<◌, ap, sym, subst, ℕ, Bool, List, false, get_or, All, Option}
 use lib.ListN.{get_elem?}
 use Rattle.fiber_poll.specs.Tasks.{TaskView}
-use Rattle.wait_bay.specs.Names.{Named, IsNamed}
-use Rattle.wait_bay.specs.Bays.{BayView}
-use Rattle.wait_bay.proofs.Remains.{earlier_taken, found_own, kept_below, kept_order, kept_task, later_full}
+use Rattle.wait_bay.{specs.{Names.{Named, IsNamed}, Bays.BayView}, proofs.Remains.{earlier_taken, found_own, kept_below, kept_order, kept_task, later_full}}
 use Rattle.wait_bay.proofs.bay.Bay.empty.Goals as goal
 
 pub loop-f-preserved : goal.loop-f-preserved

@@ -2,9 +2,7 @@ use Rattle.std.proofs.Common.{◌∙◌, ap, sym, subst, ℕ, Option, List, arit
 use mathlib.Core.Option.{none}
 use Rattle.atomic_table.specs.Table.{Allows, step}
 use Rattle.fiber_poll.specs.Tasks.{TaskView}
-use Rattle.wait_bay.specs.Bays.{BayView}
-use Rattle.wait_bay.specs.Rule.{KeepsTasks, ComesHome}
-use Rattle.wait_bay.proofs.Keeping.{returns_home}
+use Rattle.wait_bay.{specs.{Bays.BayView, Rule.{KeepsTasks, ComesHome}}, proofs.Keeping.returns_home}
 use Rattle.wait_bay.proofs.bay.Bay.give_back.Goals as goal
 
 pub store-requires : goal.store-requires

@@ -1,12 +1,9 @@
 use Rattle.std.proofs.Common.{◌≡◌, ◌∙◌, ap, sym, subst, ℕ, Option, Some, List, ◌∷◌, []}
 use Rattle.atomic_table.specs.Table.{Me, rest}
 use Rattle.fiber_poll.specs.Tasks.{TaskView}
-use Rattle.wait_bay.specs.declared.rule.Knowledge.{Knowledge}
-use Rattle.wait_bay.specs.Names.{Named, MayLie}
-use Rattle.wait_bay.specs.Bays.{BayView, SeatView}
-use Rattle.wait_bay.proofs.Keeping.{one_value, still_out}
-use Rattle.wait_bay.proofs.bay.Bay.lay.Goals as goal
+use Rattle.wait_bay.{specs.{declared.rule.Knowledge.Knowledge, Names.{Named, MayLie}, Bays.{BayView, SeatView}}, proofs.Keeping.{one_value, still_out}}
 use Rattle.wait_bay.proofs.bay.Bay.lay.Goals.{in-None, in-Some}
+use Rattle.wait_bay.proofs.bay.Bay.lay.Goals as goal
 
 pub exchange-back-requires : goal.exchange-back-requires
 exchange-back-requires c =

@@ -3,9 +3,7 @@ use mathlib.Core.Option.{none}
 use prog.Atomic.{either}
 use Rattle.atomic_table.specs.Table.{Allows, step}
 use Rattle.fiber_poll.specs.Tasks.{TaskView}
-use Rattle.wait_bay.specs.Bays.{BayView}
-use Rattle.wait_bay.specs.Rule.{KeepsTasks, GoesOut}
-use Rattle.wait_bay.proofs.Keeping.{goes}
+use Rattle.wait_bay.{specs.{Bays.BayView, Rule.{KeepsTasks, GoesOut}}, proofs.Keeping.goes}
 use Rattle.wait_bay.proofs.bay.Bay.take_out.Goals as goal
 
 pub compare_exchange-found-requires : goal.compare_exchange-found-requires
