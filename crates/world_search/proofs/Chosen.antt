@@ -1,5 +1,6 @@
 -- If the chosen entries at a world are those of a set of fibers that is apart, one of which leads to a smaller world, they get at least as far as any schedule.
-use Rattle.std.proofs.Common.{◌≡◌, ◌⊎◌, ℕ, zero, suc, ◌<◌, ◌≤◌, Bool, true, false, List, [], ◌∷◌, ◌++◌, length, Result, Ok, Err, refl, sym, ap, ◌∙◌, subst, arith, inl, inr, length-append}
+use Rattle.std.proofs.Common.{◌≡◌, ◌⊎◌, ℕ, zero, suc, ◌<◌, ◌≤◌, Bool, true, false, List, [], ◌∷◌, ◌++◌, length, Result, Ok, Err}
+use Rattle.std.proofs.Common.{refl, sym, ap, ◌∙◌, subst, arith, inl, inr, length-append}
 use Rattle.world_search.specs.Free.{AreEarly, Leads, Leaps}
 use Rattle.world_search.specs.Chosen.{AreApart, IsChosen, IsPart, Meet}
 use Rattle.world_search.specs.Chosen.IsChosen.{Part, Whole}
@@ -105,7 +106,8 @@ module _ {W E : Type 0} (step : W → ℕ → Result W E) where
 
     -- from the world behind a chosen entry
     reached_next : (w : W) (f : ℕ) (s : List ℕ) → chosen w f ≡ leap w f → (y : Result W E) → Leaps step Free y (leap w f) →
-        ((x : W) (v : W) (one : Comes step v (run step (Ok x) s) (length s)) → leap w f ≡ Ok v → Reached v (run step (Ok v) one.0)) → Reached w (run step y s)
+        ((x : W) (v : W) (one : Comes step v (run step (Ok x) s) (length s)) → leap w f ≡ Ok v → Reached v (run step (Ok v) one.0)) →
+        Reached w (run step y s)
     reached_next w f s made (Ok x) h rest =
         let one = ahead_led step Free free x h.0 h.1 s in
         let on = rest x h.0 one h.2 in (

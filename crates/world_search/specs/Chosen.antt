@@ -1,8 +1,9 @@
--- Chosen entries: a reduced system that makes, at some worlds, the entries of some fibers only. The entries of all others change nothing there.
+-- Chosen entries: a reduced system that makes, at some worlds, the entries of some fibers only. The entries of all
+-- others change nothing there.
 use Rattle.std.specs.Prelude.{◌≡◌, ◌⊎◌, ◌<◌, ℕ, Bool, true, false, Result, Ok, Err}
 
 module _ {W E : Type 0} (step : W → ℕ → Result W E) where
-  -- the move of fiber f, which leads to x, and the entry of fiber g lead to the same world in either order; a fault stays
+  -- the move of f, which leads to x, and the entry of g lead to the same world in either order; a fault stays
   abbrev pub Meet : ℕ → W → ℕ → Result W E → Type 0
   Meet f x g (Ok y) = (z : W) × (step y f ≡ Ok z) × (step x g ≡ Ok z)
   Meet f x g (Err e) = step x g ≡ Err e
@@ -13,8 +14,8 @@ module _ {W E : Type 0} (step : W → ℕ → Result W E) where
     pub stays : (w : W) (g : ℕ) (y : W) → Holds w → T g ≡ false → step w g ≡ Ok y → Holds y
     pub meet : (w : W) (f g : ℕ) (x : W) → Holds w → T f ≡ true → T g ≡ false → step w f ≡ Ok x →
         (step w g ≡ Ok w) ⊎ Meet f x g (step w g)
-    pub faults : (w : W) (f g : ℕ) (e : E) (y : W) → Holds w → T f ≡ true → T g ≡ false → step w f ≡ Err e → step w g ≡ Ok y →
-        step y f ≡ Err e
+    pub faults : (w : W) (f g : ℕ) (e : E) (y : W) → Holds w → T f ≡ true → T g ≡ false → step w f ≡ Err e →
+        step w g ≡ Ok y → step y f ≡ Err e
 
   module _ (leap chosen : W → ℕ → Result W E) (size : W → ℕ) where
     -- at this world only the entries of T are made, which is apart; one of them, the seed's, leads to a smaller world
