@@ -9,6 +9,7 @@ pub mod Packed
 pub mod Knowing
 pub mod Turning
 pub mod Standing
+pub mod Going
 pub mod Alikeness
 pub mod Entering
 pub mod OwnCalls

@@ -21,6 +21,7 @@ use Rattle.world_search.specs.Lists.{IsMore}
 use Rattle.world_search.proofs.Lists.{all_from, get_end, get_low, more_get, more_more, more_same, set_other, set_same}
 use Rattle.every_schedule.specs.declared.turns.Turn.{Turn}
 use Rattle.every_schedule.specs.Places.{Place, bared, moves_at, placed, stepped}
+use Rattle.every_schedule.specs.Private.Going.{forgot}
 use Rattle.every_schedule.specs.Private.Numbered.{AreAt, IsAt, picked}
 use Rattle.every_schedule.specs.Private.Standing.{IsOnward, IsSame, Stand, here}
 use Rattle.every_schedule.specs.Private.Turning.{IsChild, IsMoved}
@@ -176,9 +177,6 @@ moves_there gs f (Some g) e m = slice_get_within gs f g e
 -- ---- an entry
 abbrev pub at_place : PlainView → List Fiber → Place
 at_place r gs = record { limits = r.limits; world = world_of gs r.state }
-
-abbrev pub forgot : PlainView → PlainView
-forgot r = record r { state = without_waits r.state }
 
 module _ (old : PlainView) (gs : List Fiber) (f : ℕ) (g : Fiber) (all : AllFit (world_of gs old.state)) (lawful : IsPlain old)
     (at : slice_get gs f ≡ Some g) where

@@ -4,8 +4,9 @@ pub mod Keeping
 pub mod Numbered
 pub mod Packed
 pub mod Turning
+pub mod Going
 pub mod Knowing
+pub mod Seen
 pub mod Standing
 pub mod Reporting
 pub mod Trails
-pub mod Seen

@@ -85,9 +85,8 @@ impl CoreWorlds {
         ensures faults { IfOk result (λ s. s.faults ≡ []) }
     {
         let first = CoreWorld::first(alloc, program, limits)?;
-        let mut current = Current::new(alloc, first)?;
-        let registry = current.number()?;
-        let rows = Rows::first(alloc, registry, current.numbers())?;
+        let current = Current::new(alloc, first)?;
+        let rows = Rows::first(alloc, current.number(), current.numbers())?;
         Ok(CoreWorlds {
             alloc,
             limits,
@@ -188,8 +187,8 @@ impl CoreWorlds {
             Ok(()) => {}
             Err(fault) => return fault_met(&mut self.faults, fault),
         }
-        let registry = self.current.number()?;
-        self.rows.keep(registry, self.current.numbers(), most)
+        self.rows
+            .keep(self.current.number(), self.current.numbers(), most)
     }
 }
 

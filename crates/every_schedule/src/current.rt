@@ -4,7 +4,7 @@ ghost use Rattle.std.specs.Prelude.{IfErr, IfOk, OnErr, OnOk, Some, Ok as GoesWe
 ghost use Rattle.std.specs.List.{All, slice_get};
 ghost use Rattle.std.specs.Option.{option_to_list};
 ghost use Rattle.cell_registry.specs.declared.limits.Limits.{Limits as TheLimits};
-ghost use Rattle.cell_registry.specs.Plain.{IsPlain};
+ghost use Rattle.cell_registry.specs.Plain.{IsPlain, PlainView};
 ghost use Rattle.fiber_frames.specs.Fiber.{Fiber, ask_of, move, waits_alone};
 ghost use Rattle.fiber_frames.specs.Uses.{is_some, uses_in};
 ghost use Rattle.fiber_frames.specs.Moves.{moved};
@@ -15,12 +15,14 @@ ghost use Rattle.scheduled_core.specs.Private.Moving.{Refuses, Replied, children
 ghost use Rattle.world_search.specs.Lists.{IsMore};
 ghost use Rattle.every_schedule.specs.Places.{moves_at, stepped};
 ghost use Rattle.every_schedule.specs.Private.Numbered.{AreAt, IsWorld, IsWorldOf};
-ghost use Rattle.every_schedule.specs.Private.Standing.{IsNumbered, IsOnward, IsSame, here};
+ghost use Rattle.every_schedule.specs.Private.Going.{AreGone, IsGone, IsStopped, MayGo, forgot};
+ghost use Rattle.every_schedule.specs.Private.Standing.{IsOnward, IsSame, here};
 ghost use Rattle.every_schedule.specs.Private.Knowing.{AreKnownOf, IsOwned};
 ghost use Rattle.every_schedule.specs.Private.Turning.{AreTurned, IsChild, IsMoved, IsSaid, MayTurn, reply_of};
 
 use crate::core_world::CoreWorld;
 use crate::known::{Known, Owned};
+use crate::moves::{Gone, Moves, Went};
 use crate::pool::{Pool, Pooled};
 use crate::turns::{Said, Turn, Turns, reply_said, told};
 use cell_registry::{Limits, PlainRegistry, RunError};
@@ -36,6 +38,8 @@ pub(crate) struct States {
     fibers: Pool<Config>,
     registries: Pool<PlainRegistry>,
     turns: Turns,
+    // Moves of fibers from one world to another.
+    moves: Moves,
     // What is known of each of the first states of fibers.
     known: Vec<Known>,
 }
@@ -46,9 +50,8 @@ pub(crate) struct Current {
     alloc: Global,
     states: States,
     numbers: Vec<u32>,
-    registry: PlainRegistry,
-    // The number of the registry, if it is known.
-    at: Option<u32>,
+    // The number of the registry.
+    at: u32,
     // The rival of each fiber: the place of the last one found that can use what the fiber's next move uses.
     rivals: Vec<usize>,
 }
@@ -61,7 +64,8 @@ impl Model for Current {
     ghost use Rattle.fiber_frames.specs.contracts.ask.Look as the_look;
     ghost use Rattle.fiber_frames.specs.contracts.mark.Mark as the_mark;
     ghost use Rattle.every_schedule.specs.Sizes.{capped};
-    ghost use Rattle.every_schedule.specs.Private.Standing.{IsNumbered, Stand};
+    ghost use Rattle.every_schedule.specs.Private.Going.{AreGone};
+    ghost use Rattle.every_schedule.specs.Private.Standing.{Stand, registry_at};
     ghost use Rattle.every_schedule.specs.Private.Knowing.{AreKnownOf};
     ghost use Rattle.every_schedule.specs.Private.Turning.{AreTurned};
 
@@ -73,7 +77,7 @@ impl Model for Current {
       fibers = s.states.fibers.items.items;
       registries = s.states.registries.items.items;
       numbers = s.numbers.items;
-      registry = s.registry;
+      registry = registry_at s.states.registries.items.items s.at;
       bytes = capped (s.states.fibers.bytes + s.states.registries.bytes);
     } };
 
@@ -81,7 +85,8 @@ impl Model for Current {
         All (λ n. n < length s.states.fibers.items.items) s.numbers.items ×
         AreTurned s.states.fibers.items.items s.states.turns.kept.items ×
         AreKnownOf s.states.fibers.items.items s.states.known.items ×
-        IsNumbered s.states.registries.items.items s.registry s.at };
+        s.at < length s.states.registries.items.items ×
+        AreGone s.states.fibers.items.items s.states.registries.items.items s.states.moves.slots.items };
 }
 
 impl Current {
@@ -96,40 +101,30 @@ impl Current {
             fibers: Pool::new(alloc),
             registries: Pool::new(alloc),
             turns: Turns::new(alloc),
+            moves: Moves::new(alloc),
             known: Vec::new(alloc),
         };
         let (fibers, registry) = first.into_parts();
         let numbers = number_all(alloc, fibers.as_slice(), &mut states.fibers)?;
         know_all(alloc, &states.fibers, registry.limits(), &mut states.known)?;
         let rivals = vec![in alloc; 0; usize::from(registry.limits().fibers)]?;
+        let at = states.registries.number(registry)?;
         Ok(Current {
             alloc,
             states,
             numbers,
-            registry,
-            at: None,
+            at,
             rivals,
         })
     }
 
-    /// Returns the number of the registry, and keeps the registry if it is new.
-    pub(crate) fn number(&mut self) -> Result<u32, AllocError>
-        ensures onward { IsOnward self.old self.new }
-        ensures here { here self.new ≡ here self.old }
-        ensures numbers { self.new.numbers ≡ self.old.numbers }
-        ensures row { IfOk result (λ it. IsWorldOf self.new.fibers self.new.registries
-            record { registry = it; fibers = self.new.numbers } (here self.old)) }
+    /// The number of the registry.
+    #[inline(always)]
+    pub(crate) fn number(&self) -> u32
+        ensures { IsWorldOf self.now.fibers self.now.registries
+            record { registry = result; fibers = self.now.numbers } (here self.now) }
     {
-        match self.at {
-            Some(number) => return Ok(number),
-            None => {}
-        }
-        let number = self
-            .states
-            .registries
-            .number_of(self.alloc, &self.registry)?;
-        self.at = Some(number);
-        Ok(number)
+        self.at
     }
 
     /// The numbers of its fibers' states.
@@ -148,15 +143,9 @@ impl Current {
         ensures here { OnOk result (IsWorldOf self.old.fibers self.old.registries
             record { registry = registry; fibers = fibers.now } (here self.new)) }
     {
-        load(
-            self.alloc,
-            &self.states.registries,
-            registry,
-            &mut self.registry,
-            &mut self.at,
-        )?;
         self.numbers.clear();
         self.numbers.extend_from_slice(fibers)?;
+        self.at = registry;
         Ok(())
     }
 
@@ -174,16 +163,12 @@ impl Current {
         }
         let place = usize::from(fiber);
         let state = self.numbers[place];
-        let config = &self.states.fibers.items[state as usize];
-        self.at = None;
-        let said = match replied(config, &mut self.registry, fiber) {
-            Ok(said) => said,
+        let gone = match gone_by(self.alloc, &mut self.states, self.at, state, fiber) {
+            Ok(gone) => gone,
             Err(fault) => return Err(fault),
         };
-        let limits = self.registry.limits();
-        let turn = turn_of(self.alloc, &mut self.states, limits, state, said)?;
-        self.registry.forget_waits();
-        put(&mut self.numbers, place, turn)?;
+        put(&mut self.numbers, place, gone.turn)?;
+        self.at = gone.registry;
         Ok(())
     }
 
@@ -293,7 +278,7 @@ impl Current {
     pub(crate) fn registry(&self) -> &PlainRegistry
         ensures { result.now ≡ record { limits = (here self.now).limits; state = (here self.now).world.cells } }
     {
-        &self.registry
+        &self.states.registries.items[self.at as usize]
     }
 
     /// About how many bytes the states take.
@@ -322,28 +307,109 @@ impl Current {
     }
 }
 
-// Replaces the registry by the one of this number, unless `at` is this number already.
-fn load(
+// Returns where the move of this fiber leads, in a world with this registry. Makes the move only if it isn't kept.
+#[inline(always)]
+fn gone_by(
     alloc: Global,
-    pool: &Pool<PlainRegistry>,
-    number: u32,
-    registry: &mut PlainRegistry,
-    at: &mut Option<u32>,
-) -> Result<(), AllocError>
-    requires number { number < length pool.now.items.items }
-    requires known { IsNumbered pool.now.items.items registry.old at.old }
-    ensures known { IsNumbered pool.now.items.items registry.new at.new }
-    ensures loaded { OnOk result (slice_get pool.now.items.items number ≡ Some registry.new) }
+    states: &mut States,
+    at: u32,
+    state: u32,
+    fiber: u16,
+) -> Result<Gone, RunError>
+    requires registry { at < length states.old.registries.items.items }
+    requires state { state < length states.old.fibers.items.items }
+    requires may { (r : PlainView) (g : Fiber) → slice_get states.old.registries.items.items at ≡ Some r →
+        slice_get states.old.fibers.items.items state ≡ Some g → MayGo r g fiber }
+    requires turns { AreTurned states.old.fibers.items.items states.old.turns.kept.items }
+    requires known { AreKnownOf states.old.fibers.items.items states.old.known.items }
+    requires moves { AreGone states.old.fibers.items.items states.old.registries.items.items
+        states.old.moves.slots.items }
+    ensures fibers { IsMore states.old.fibers.items.items states.new.fibers.items.items }
+    ensures registries { IsMore states.old.registries.items.items states.new.registries.items.items }
+    ensures turns { AreTurned states.new.fibers.items.items states.new.turns.kept.items }
+    ensures known { AreKnownOf states.new.fibers.items.items states.new.known.items }
+    ensures moves { AreGone states.new.fibers.items.items states.new.registries.items.items
+        states.new.moves.slots.items }
+    ensures gone { IfOk result (IsGone states.new.fibers.items.items states.new.registries.items.items
+        at state fiber) }
+    ensures stops { IfErr result (λ e. (e ≡ RunError.NoMemory) ⊎
+        IsStopped states.old.fibers.items.items states.old.registries.items.items at state fiber e) }
 {
-    if let Some(known) = *at {
-        if known == number {
-            return Ok(());
-        }
+    match states.moves.find(at, state, fiber) {
+        Some(gone) => Ok(gone),
+        None => go(alloc, states, at, state, fiber),
     }
-    let loaded = pool.items[number as usize].again(alloc)?;
-    *registry = loaded;
-    *at = Some(number);
-    Ok(())
+}
+
+// Makes the move of this fiber, in a world with this registry, and keeps it. Returns where it leads.
+fn go(
+    alloc: Global,
+    states: &mut States,
+    at: u32,
+    state: u32,
+    fiber: u16,
+) -> Result<Gone, RunError>
+    requires registry { at < length states.old.registries.items.items }
+    requires state { state < length states.old.fibers.items.items }
+    requires may { (r : PlainView) (g : Fiber) → slice_get states.old.registries.items.items at ≡ Some r →
+        slice_get states.old.fibers.items.items state ≡ Some g → MayGo r g fiber }
+    requires turns { AreTurned states.old.fibers.items.items states.old.turns.kept.items }
+    requires known { AreKnownOf states.old.fibers.items.items states.old.known.items }
+    requires moves { AreGone states.old.fibers.items.items states.old.registries.items.items
+        states.old.moves.slots.items }
+    ensures fibers { IsMore states.old.fibers.items.items states.new.fibers.items.items }
+    ensures registries { IsMore states.old.registries.items.items states.new.registries.items.items }
+    ensures turns { AreTurned states.new.fibers.items.items states.new.turns.kept.items }
+    ensures known { AreKnownOf states.new.fibers.items.items states.new.known.items }
+    ensures moves { AreGone states.new.fibers.items.items states.new.registries.items.items
+        states.new.moves.slots.items }
+    ensures gone { IfOk result (IsGone states.new.fibers.items.items states.new.registries.items.items
+        at state fiber) }
+    ensures stops { IfErr result (λ e. (e ≡ RunError.NoMemory) ⊎
+        IsStopped states.old.fibers.items.items states.old.registries.items.items at state fiber e) }
+{
+    let mut registry = states.registries.items[at as usize].again(alloc)?;
+    let said = match replied(&states.fibers.items[state as usize], &mut registry, fiber) {
+        Ok(said) => said,
+        Err(fault) => return Err(fault),
+    };
+    let to = led(alloc, &mut *states, registry, state, said)?;
+    states.moves.keep(Went {
+        registry: at,
+        state,
+        fiber,
+        to,
+    })?;
+    Ok(to)
+}
+
+// Makes the move of this state under this reply, after which the registry is this one. Returns where it leads.
+fn led(
+    alloc: Global,
+    states: &mut States,
+    mut registry: PlainRegistry,
+    state: u32,
+    said: Said,
+) -> Result<Gone, AllocError>
+    requires state { state < length states.old.fibers.items.items }
+    requires said { IsSaid said }
+    requires may { (g : Fiber) → slice_get states.old.fibers.items.items state ≡ Some g → MayTurn g (reply_of said) }
+    requires turns { AreTurned states.old.fibers.items.items states.old.turns.kept.items }
+    requires known { AreKnownOf states.old.fibers.items.items states.old.known.items }
+    ensures fibers { IsMore states.old.fibers.items.items states.new.fibers.items.items }
+    ensures registries { IsMore states.old.registries.items.items states.new.registries.items.items }
+    ensures turns { AreTurned states.new.fibers.items.items states.new.turns.kept.items }
+    ensures known { AreKnownOf states.new.fibers.items.items states.new.known.items }
+    ensures moves { states.new.moves ≡ states.old.moves }
+    ensures turned { IfOk result (λ to. IsMoved states.new.fibers.items.items state (reply_of said) to.turn) }
+    ensures kept { IfOk result (λ to. slice_get states.new.registries.items.items to.registry ≡
+        Some (forgot registry)) }
+{
+    let limits = registry.limits();
+    let turn = turn_of(alloc, &mut *states, limits, state, said)?;
+    registry.forget_waits();
+    let registry = states.registries.number(registry)?;
+    Ok(Gone { registry, turn })
 }
 
 // Makes the call of a fiber's next move, and returns the reply. The reply to a move without a call is `Done`.
@@ -396,6 +462,7 @@ fn turn_of(
     requires known { AreKnownOf states.old.fibers.items.items states.old.known.items }
     ensures fibers { IsMore states.old.fibers.items.items states.new.fibers.items.items }
     ensures registries { states.new.registries ≡ states.old.registries }
+    ensures moves { states.new.moves ≡ states.old.moves }
     ensures turns { AreTurned states.new.fibers.items.items states.new.turns.kept.items }
     ensures known { AreKnownOf states.new.fibers.items.items states.new.known.items }
     ensures turned { IfOk result (λ turn. IsMoved states.new.fibers.items.items state (reply_of said) turn) }

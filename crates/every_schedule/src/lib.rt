@@ -31,6 +31,7 @@ mod fair_endings;
 mod faults;
 mod known;
 mod leaping;
+mod moves;
 mod own_moves;
 mod pool;
 mod reduced_worlds;

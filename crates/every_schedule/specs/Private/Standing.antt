@@ -1,12 +1,13 @@
 -- The world at which entries are made: the numbers of its fibers' states, and its registry.
 use Rattle.std.specs.Prelude.{◌≡◌, ℕ, List, Option, Some, None}
 use Rattle.std.specs.List.{slice_get}
-use Rattle.cell_registry.specs.Plain.{PlainView}
+use Rattle.cell_registry.specs.Plain.{PlainView, new_plain}
 use Rattle.fiber_frames.specs.Fiber.{Fiber}
 use Rattle.scheduled_core.specs.Fitting.{world_of}
 use Rattle.world_search.specs.Lists.{IsMore}
 use Rattle.every_schedule.specs.Places.{Place}
 use Rattle.every_schedule.specs.Private.Numbered.{picked}
+use Rattle.every_schedule.specs.Private.Seen.{no_limits}
 
 -- the kept states of fibers and registries, the numbers of the world's fibers, its registry, and the bytes counted for
 -- the states
@@ -32,7 +33,10 @@ pub record IsSame (old new : Stand) : Type 0 where
   pub registries : new.registries ≡ old.registries
   pub here : here new ≡ here old
 
--- the registry is the kept one of this number, if a number is known
-abbrev pub IsNumbered : List PlainView → PlainView → Option ℕ → Type 0
-IsNumbered rs r None = Unit {0}
-IsNumbered rs r (Some n) = slice_get rs n ≡ Some r
+-- the registry of this number, or one without fibers if there is none
+abbrev pub registry_or : Option PlainView → PlainView
+registry_or (Some r) = r
+registry_or None = new_plain no_limits
+
+abbrev pub registry_at : List PlainView → ℕ → PlainView
+registry_at rs n = registry_or (slice_get rs n)

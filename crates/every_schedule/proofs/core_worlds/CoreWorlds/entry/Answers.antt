@@ -60,15 +60,11 @@ invariant_of-self-2 c =
     let qs = c.leap.new.current.registries in
     let mg : IsMore fs gs = subst (λ (l : List Fiber). IsMore l gs) c.go_to.ensures.fibers c.leap.ensures.onward.fibers in
     let mq : IsMore rs qs = subst (λ (l : List PlainView). IsMore l qs) c.go_to.ensures.registries c.leap.ensures.onward.registries in
-    let fs' = c.number.new.self.fibers in
-    let rs' = c.number.new.self.registries in
-    let mf = more_more fs gs fs' mg c.number.ensures.onward.fibers in
-    let mr = more_more rs qs rs' mq c.number.ensures.onward.registries in
-    let n : Numbers = record { registry = c.in_ok-registry.registry; fibers = c.numbers.result.now } in
+    let n : Numbers = record { registry = c.number.result; fibers = c.numbers.result.now } in
     let next = here c.leap.new.current in
-    let is_next : IsWorldOf fs' rs' n next = subst (λ (l : List ℕ). IsWorldOf fs' rs' record { registry = c.in_ok-registry.registry; fibers = l } next) (sym c.numbers.ensures) c.in_ok-registry.ensures.row in
+    let is_next : IsWorldOf gs qs n next = subst (λ (l : List ℕ). IsWorldOf gs qs record { registry = c.number.result; fibers = l } next) (sym c.numbers.ensures) c.number.ensures in
     let rows' = c.keep.new.self.rows in
-    rows_hold k fs fs' rs rs' mf mr rows c.self.invariant c.args.world m row now is_now
+    rows_hold k fs gs rs qs mg mq rows c.self.invariant c.args.world m row now is_now
     c.args.at_once c.args.fiber n next c.in-Ok.ensures.goes is_next c.in-Ok.ensures.fits rows' c.keep.ensures.adds
 
 pub invariant_of-self-in-Err : goal.invariant_of-self-in-Err
@@ -105,17 +101,13 @@ returns-clause-worlds c =
     let qs = c.leap.new.current.registries in
     let mg : IsMore fs gs = subst (λ (l : List Fiber). IsMore l gs) c.go_to.ensures.fibers c.leap.ensures.onward.fibers in
     let mq : IsMore rs qs = subst (λ (l : List PlainView). IsMore l qs) c.go_to.ensures.registries c.leap.ensures.onward.registries in
-    let fs' = c.number.new.self.fibers in
-    let rs' = c.number.new.self.registries in
-    let mf = more_more fs gs fs' mg c.number.ensures.onward.fibers in
-    let mr = more_more rs qs rs' mq c.number.ensures.onward.registries in
-    let n : Numbers = record { registry = c.in_ok-registry.registry; fibers = c.numbers.result.now } in
+    let n : Numbers = record { registry = c.number.result; fibers = c.numbers.result.now } in
     let next = here c.leap.new.current in
-    let is_next : IsWorldOf fs' rs' n next = subst (λ (l : List ℕ). IsWorldOf fs' rs' record { registry = c.in_ok-registry.registry; fibers = l } next) (sym c.numbers.ensures) c.in_ok-registry.ensures.row in
+    let is_next : IsWorldOf gs qs n next = subst (λ (l : List ℕ). IsWorldOf gs qs record { registry = c.number.result; fibers = l } next) (sym c.numbers.ensures) c.number.ensures in
     let rows' = c.keep.new.self.rows in
     let places : map (place_of k fs rs) rows ≡ c.args.self.now.places = ap (λ (x : Kept). x.places) c.self.view_is in
-    subst (λ l. IsMore l (map (place_of k fs' rs') rows')) places
-    (places_hold k fs fs' rs rs' mf mr rows c.self.invariant c.args.world m row now is_now
+    subst (λ l. IsMore l (map (place_of k gs qs) rows')) places
+    (places_hold k fs gs rs qs mg mq rows c.self.invariant c.args.world m row now is_now
     c.args.at_once c.args.fiber n next c.in-Ok.ensures.goes is_next c.in-Ok.ensures.fits rows' c.keep.ensures.adds)
 
 pub returns-clause-faults : goal.returns-clause-faults
@@ -139,17 +131,13 @@ returns-clause-lands c =
     let qs = c.leap.new.current.registries in
     let mg : IsMore fs gs = subst (λ (l : List Fiber). IsMore l gs) c.go_to.ensures.fibers c.leap.ensures.onward.fibers in
     let mq : IsMore rs qs = subst (λ (l : List PlainView). IsMore l qs) c.go_to.ensures.registries c.leap.ensures.onward.registries in
-    let fs' = c.number.new.self.fibers in
-    let rs' = c.number.new.self.registries in
-    let mf = more_more fs gs fs' mg c.number.ensures.onward.fibers in
-    let mr = more_more rs qs rs' mq c.number.ensures.onward.registries in
-    let n : Numbers = record { registry = c.in_ok-registry.registry; fibers = c.numbers.result.now } in
+    let n : Numbers = record { registry = c.number.result; fibers = c.numbers.result.now } in
     let next = here c.leap.new.current in
-    let is_next : IsWorldOf fs' rs' n next = subst (λ (l : List ℕ). IsWorldOf fs' rs' record { registry = c.in_ok-registry.registry; fibers = l } next) (sym c.numbers.ensures) c.in_ok-registry.ensures.row in
+    let is_next : IsWorldOf gs qs n next = subst (λ (l : List ℕ). IsWorldOf gs qs record { registry = c.number.result; fibers = l } next) (sym c.numbers.ensures) c.number.ensures in
     let rows' = c.keep.new.self.rows in
     let places : map (place_of k fs rs) rows ≡ c.args.self.now.places = ap (λ (x : Kept). x.places) c.self.view_is in
     IfOk-weaker c.keep.result _ _
-    (λ it kept. λ w at. lands k fs fs' rs rs' mf mr rows c.self.invariant c.args.world m row now is_now
+    (λ it kept. λ w at. lands k fs gs rs qs mg mq rows c.self.invariant c.args.world m row now is_now
     c.args.at_once c.args.fiber n next c.in-Ok.ensures.goes is_next c.in-Ok.ensures.fits rows' c.keep.ensures.adds s.faults it kept w
     (ap (λ l. slice_get l c.args.world) places ∙ at)) c.keep.ensures.kept
 
@@ -169,18 +157,14 @@ returns-clause-room c =
     let qs = c.leap.new.current.registries in
     let mg : IsMore fs gs = subst (λ (l : List Fiber). IsMore l gs) c.go_to.ensures.fibers c.leap.ensures.onward.fibers in
     let mq : IsMore rs qs = subst (λ (l : List PlainView). IsMore l qs) c.go_to.ensures.registries c.leap.ensures.onward.registries in
-    let fs' = c.number.new.self.fibers in
-    let rs' = c.number.new.self.registries in
-    let mf = more_more fs gs fs' mg c.number.ensures.onward.fibers in
-    let mr = more_more rs qs rs' mq c.number.ensures.onward.registries in
-    let n : Numbers = record { registry = c.in_ok-registry.registry; fibers = c.numbers.result.now } in
+    let n : Numbers = record { registry = c.number.result; fibers = c.numbers.result.now } in
     let next = here c.leap.new.current in
-    let is_next : IsWorldOf fs' rs' n next = subst (λ (l : List ℕ). IsWorldOf fs' rs' record { registry = c.in_ok-registry.registry; fibers = l } next) (sym c.numbers.ensures) c.in_ok-registry.ensures.row in
+    let is_next : IsWorldOf gs qs n next = subst (λ (l : List ℕ). IsWorldOf gs qs record { registry = c.number.result; fibers = l } next) (sym c.numbers.ensures) c.number.ensures in
     let rows' = c.keep.new.self.rows in
     let places : map (place_of k fs rs) rows ≡ c.args.self.now.places = ap (λ (x : Kept). x.places) c.self.view_is in
     IfOk-weaker c.keep.result _ _
-    (λ it few. subst (λ l. length (map (place_of k fs' rs') rows') ≤ max c.args.most (length l)) places
-    (room_kept (place_of k fs rs) (place_of k fs' rs') rows rows' c.args.most few)) c.keep.ensures.room
+    (λ it few. subst (λ l. length (map (place_of k gs qs) rows') ≤ max c.args.most (length l)) places
+    (room_kept (place_of k fs rs) (place_of k gs qs) rows rows' c.args.most few)) c.keep.ensures.room
 
 pub returns-clause-next : goal.returns-clause-next
 returns-clause-next c =
@@ -198,18 +182,14 @@ returns-clause-next c =
     let qs = c.leap.new.current.registries in
     let mg : IsMore fs gs = subst (λ (l : List Fiber). IsMore l gs) c.go_to.ensures.fibers c.leap.ensures.onward.fibers in
     let mq : IsMore rs qs = subst (λ (l : List PlainView). IsMore l qs) c.go_to.ensures.registries c.leap.ensures.onward.registries in
-    let fs' = c.number.new.self.fibers in
-    let rs' = c.number.new.self.registries in
-    let mf = more_more fs gs fs' mg c.number.ensures.onward.fibers in
-    let mr = more_more rs qs rs' mq c.number.ensures.onward.registries in
-    let n : Numbers = record { registry = c.in_ok-registry.registry; fibers = c.numbers.result.now } in
+    let n : Numbers = record { registry = c.number.result; fibers = c.numbers.result.now } in
     let next = here c.leap.new.current in
-    let is_next : IsWorldOf fs' rs' n next = subst (λ (l : List ℕ). IsWorldOf fs' rs' record { registry = c.in_ok-registry.registry; fibers = l } next) (sym c.numbers.ensures) c.in_ok-registry.ensures.row in
+    let is_next : IsWorldOf gs qs n next = subst (λ (l : List ℕ). IsWorldOf gs qs record { registry = c.number.result; fibers = l } next) (sym c.numbers.ensures) c.number.ensures in
     let rows' = c.keep.new.self.rows in
     let places : map (place_of k fs rs) rows ≡ c.args.self.now.places = ap (λ (x : Kept). x.places) c.self.view_is in
     IfOk-weaker c.keep.result _ _
-    (λ it next. subst (λ l. IsNext (length l) (length (map (place_of k fs' rs') rows')) c.args.most it) places
-    (next_kept (place_of k fs rs) (place_of k fs' rs') rows rows' c.args.most it next)) c.keep.ensures.next
+    (λ it next. subst (λ l. IsNext (length l) (length (map (place_of k gs qs) rows')) c.args.most it) places
+    (next_kept (place_of k fs rs) (place_of k gs qs) rows rows' c.args.most it next)) c.keep.ensures.next
 
 pub returns-in-Err-clause-worlds : goal.returns-in-Err-clause-worlds
 returns-in-Err-clause-worlds c =
@@ -297,51 +277,6 @@ returns-in-Err-clause-next c =
     (λ it next. subst (λ l. IsNext (length l) (length (map (place_of k gs qs) rows)) c.args.most it) places
     (next_kept (place_of k fs rs) (place_of k gs qs) rows rows c.args.most it (next (length rows) c.args.most)))
     c.fault_met.ensures.next
-
-pub invariant_of-self-in_err-registry : goal.invariant_of-self-in_err-registry
-invariant_of-self-in_err-registry c =
-    let s = c.self.inside in
-    let k = s.limits in
-    let fs = s.current.fibers in
-    let rs = s.current.registries in
-    let rows = s.rows.rows in
-    let found = row_at (place_of s.limits s.current.fibers s.current.registries) s.rows.rows c.args.world (subst (λ (x : Kept). c.args.world < length x.places) (sym c.self.view_is) c.requires) in
-    let m = found.0 in
-    let row = found.1 in
-    let now = here c.go_to.new.self in
-    let is_now : IsWorldOf fs rs m now = subst (λ (n : Numbers). IsWorldOf fs rs n now) (sym (gone c.registry.result c.fibers.result.now m (c.registry.ensures m row) (c.fibers.ensures m row))) c.in_ok-go_to.ensures.here in
-    let gs = c.leap.new.current.fibers in
-    let qs = c.leap.new.current.registries in
-    let mg : IsMore fs gs = subst (λ (l : List Fiber). IsMore l gs) c.go_to.ensures.fibers c.leap.ensures.onward.fibers in
-    let mq : IsMore rs qs = subst (λ (l : List PlainView). IsMore l qs) c.go_to.ensures.registries c.leap.ensures.onward.registries in
-    let fs' = c.number.new.self.fibers in
-    let rs' = c.number.new.self.registries in
-    let mf = more_more fs gs fs' mg c.number.ensures.onward.fibers in
-    let mr = more_more rs qs rs' mq c.number.ensures.onward.registries in
-    rows_stay k fs fs' rs rs' mf mr rows c.self.invariant c.args.world m row now is_now
-
-pub returns-in_err-registry-clause-worlds : goal.returns-in_err-registry-clause-worlds
-returns-in_err-registry-clause-worlds c =
-    let s = c.self.inside in
-    let k = s.limits in
-    let fs = s.current.fibers in
-    let rs = s.current.registries in
-    let rows = s.rows.rows in
-    let found = row_at (place_of s.limits s.current.fibers s.current.registries) s.rows.rows c.args.world (subst (λ (x : Kept). c.args.world < length x.places) (sym c.self.view_is) c.requires) in
-    let m = found.0 in
-    let row = found.1 in
-    let now = here c.go_to.new.self in
-    let is_now : IsWorldOf fs rs m now = subst (λ (n : Numbers). IsWorldOf fs rs n now) (sym (gone c.registry.result c.fibers.result.now m (c.registry.ensures m row) (c.fibers.ensures m row))) c.in_ok-go_to.ensures.here in
-    let gs = c.leap.new.current.fibers in
-    let qs = c.leap.new.current.registries in
-    let mg : IsMore fs gs = subst (λ (l : List Fiber). IsMore l gs) c.go_to.ensures.fibers c.leap.ensures.onward.fibers in
-    let mq : IsMore rs qs = subst (λ (l : List PlainView). IsMore l qs) c.go_to.ensures.registries c.leap.ensures.onward.registries in
-    let fs' = c.number.new.self.fibers in
-    let rs' = c.number.new.self.registries in
-    let mf = more_more fs gs fs' mg c.number.ensures.onward.fibers in
-    let mr = more_more rs qs rs' mq c.number.ensures.onward.registries in
-    let places : map (place_of k fs rs) rows ≡ c.args.self.now.places = ap (λ (x : Kept). x.places) c.self.view_is in
-    subst (λ l. IsMore l (map (place_of k fs' rs') rows)) places (places_stay k fs fs' rs rs' mf mr rows c.self.invariant c.args.world m row now is_now)
 
 pub returns-in_err-go_to-clause-worlds : goal.returns-in_err-go_to-clause-worlds
 returns-in_err-go_to-clause-worlds c =

@@ -77,6 +77,7 @@ invariant_of-self c =
       known_set fs s.states.known.items c.index-fiber.result.now c.index.result.now c.uses-2.new.self
           (omega arith) state c.uses-2.ensures.known c.self.invariant.2,
       c.self.invariant.3,
+      c.self.invariant.4,
     )
 
 pub returns-clause-uses : goal.returns-clause-uses
