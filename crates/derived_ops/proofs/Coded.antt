@@ -1,17 +1,12 @@
 -- The expansion of a closed, well-kinded program names no fiber, ref or deferred but by the slot of a binder of its kind.
-use Rattle.std.proofs.Common.{◌≡◌, ℕ, zero, suc, ◌+◌, List, [], ◌∷◌, ◌++◌, length, get_or, Some, refl, sym}
-use Rattle.std.proofs.Common.{subst, arith, slice_get, append_assoc, length-append}
-use Rattle.std.specs.Prelude.{pos}
-use Rattle.derived_ops.specs.Codes.{IsCode}
-use Rattle.derived_ops.specs.Expansion.{awaits, both_side, bracket_case, cancels_both, ended, expansion, guarantee, pair_race, race_side, runs_side, slot_at}
-use Rattle.derived_ops.specs.Reading.{seq_of, source_of}
-use Rattle.derived_ops.specs.Source.{Source}
+use Rattle.derived_ops.proofs.Prelude.{◌≡◌, ℕ, zero, suc, ◌+◌, List, [], ◌∷◌, ◌++◌, length, get_or, Some, refl, sym, subst, arith, slice_get, append_assoc}
+use Rattle.derived_ops.proofs.Prelude.{length-append, pos, IsCode, awaits, both_side, bracket_case, cancels_both, ended, expansion, guarantee, pair_race}
+use Rattle.derived_ops.proofs.Prelude.{race_side, runs_side, slot_at, seq_of, source_of, Source, Act, Complete, If0, Number, Open_slot, Slot, Tree, Row_of-Term}
+use Rattle.derived_ops.proofs.Prelude.{Term, end_of-Term, more_of-Term}
 use Rattle.derived_ops.specs.Source as word
-use Rattle.derived_ops.specs.Tree.{Act, Complete, If0, Number, Open_slot, Slot, Tree}
 use Rattle.effect_term.specs.Kinds.{AllWellKinded, WellKinded}
 use Rattle.effect_term.specs.declared.term.Kind.{Kind}
 use Rattle.effect_term.specs.declared.term.Kind.TheVariants as kind
-use Rattle.effect_term.specs.declared.term.Term.{Row_of-Term, Term, end_of-Term, more_of-Term}
 use Rattle.effect_term.specs.declared.term.Term.TheVariants as term
 use Rattle.derived_ops.specs.Naming.{A_deferred, A_fiber, A_ref, Given, Named, No_handle, Place}
 
@@ -216,10 +211,7 @@ module _ (b : Given) where
         hf,
         (
           (q, q),
-          (
-            (named-awaits s1 p (c + 1) g (omega arith) up, (up, ((omega arith, omega arith), ((ref2, tt), (tt, (tt, tt)))))),
-            ((up, tt), (hg, (tt, tt))),
-          ),
+          ((named-awaits s1 p (c + 1) g (omega arith) up, (up, ((omega arith, omega arith), ((ref2, tt), (tt, (tt, tt)))))), ((up, tt), (hg, (tt, tt)))),
         ),
       )
 
@@ -306,11 +298,9 @@ module _ (b : Given) where
         let five = long s4 No_handle in
         let six = long s2 No_handle in
         let seven = long s3 No_handle in
-        let hx : Named b (under s2 No_handle) (expansion m (d + 3) (source_of x)) =
-        fx g m (under s2 No_handle) (d + 3) (omega arith)
+        let hx : Named b (under s2 No_handle) (expansion m (d + 3) (source_of x)) = fx g m (under s2 No_handle) (d + 3) (omega arith)
         (scope_up g m s2 (No_handle ∷ []) (scope_up g m s1 (A_deferred ∷ []) (scope_up g m s (No_handle ∷ []) h))) wx in
-        let hy : Named b (under s3 No_handle) (expansion m (d + 4) (source_of y)) =
-        fy g m (under s3 No_handle) (d + 4) (omega arith)
+        let hy : Named b (under s3 No_handle) (expansion m (d + 4) (source_of y)) = fy g m (under s3 No_handle) (d + 4) (omega arith)
         (scope_up g m s3 (No_handle ∷ []) (scope_up g m s2 (A_fiber ∷ []) (scope_up g m s1 (A_deferred ∷ []) (scope_up g m s (No_handle ∷ []) h)))) wy in
         let f3 : At s3 (d + 2) A_fiber = here s2 A_fiber (d + 2) (omega arith) in
         let g4 : At s4 (d + 3) A_fiber = here s3 A_fiber (d + 3) (omega arith) in
@@ -381,18 +371,11 @@ module _ (b : Given) where
 
   mutual
     named-expansion : (t : Term) → Expands t
-    named-expansion (term.Pure v) g m s d q h w = tt
-    named-expansion (term.Raise v) g m s d q h w = tt
     named-expansion (term.Let' _ e _ k) g m s d q h w = (q, (named-expansion e g m s d q h w.0, bound g m s d q h kind.Value k (named-expansion k) w.1))
     named-expansion (term.Seq' _ x _ y _ more) g m s d q h w =
         named-seq g m s d q h (source_of x) (source_of y) more (named-expansion x g m s d q h w.0) (named-expansion y g m s d q h w.1) w.2
     named-expansion (term.Handle' _ e _ k) g m s d q h w = (q, (named-expansion e g m s d q h w.0, bound g m s d q h kind.Value k (named-expansion k) w.1))
     named-expansion (term.If0' v _ x _ y) g m s d q h w = (named-expansion x g m s d q h w.1, named-expansion y g m s d q h w.2)
-    named-expansion (term.Add v u) g m s d q h w = tt
-    named-expansion (term.Say v) g m s d q h w = tt
-    named-expansion term.Cede g m s d q h w = tt
-    named-expansion term.Never g m s d q h w = tt
-    named-expansion term.Canceled g m s d q h w = tt
     named-expansion (term.Uncancelable' _ e) g m s d q h w = (q, bound g m s d q h kind.Poll e (named-expansion e) w)
     named-expansion (term.Poll' p _ e) g m s d q h w = named-expansion e g m s d q h w.1
     named-expansion (term.OnCancel' _ e _ fin) g m s d q h w = (named-expansion e g m s d q h w.0, named-expansion fin g m s d q h w.1)
@@ -401,10 +384,7 @@ module _ (b : Given) where
       h.at f.slot kind.Fiber w.0.0 real_fiber,
       (
         (q, q),
-        (
-          bound g m s d q h kind.Value x (named-expansion x) w.1,
-          (bound g m s d q h kind.Value y (named-expansion y) w.2, named-expansion c g m s d q h w.3),
-        ),
+        (bound g m s d q h kind.Value x (named-expansion x) w.1, (bound g m s d q h kind.Value y (named-expansion y) w.2, named-expansion c g m s d q h w.3)),
       ),
     )
     named-expansion (term.Cancel f) g m s d q h w = h.at f.slot kind.Fiber w.0 real_fiber
@@ -440,6 +420,7 @@ module _ (b : Given) where
     named-expansion (term.Race' _ x _ y) g m s d q h w = named-race g m s d q h x y (named-expansion x) (named-expansion y) w.0 w.1
     named-expansion (term.Both' _ x _ y _ k) g m s d q h w =
         named-both g m s d q h x y k (named-expansion x) (named-expansion y) (named-expansion k) w.0 w.1 w.2
+    named-expansion _ g m s d q h w = tt
 
     named-seq : (g : List Kind) (m : List ℕ) (s : List Place) (d : ℕ) → d ≡ length s → Scope g m s → (x y : Source) {n : _} (more : Row_of-Term n) →
         Named b s (expansion m d x) → Named b s (expansion m d y) → AllWellKinded g more → Named b s (expansion m d (seq_of x y more))
@@ -449,5 +430,4 @@ module _ (b : Given) where
 -- ---- codes
 pub named_code : (b : Given) (t : Tree) → IsCode t → Named b [] t
 unfolding IsCode
-named_code b t (p, k, e) =
-    subst (Named b []) (sym e) (named-expansion b p [] [] [] 0 refl (record { even = tt; at = λ v k e r. cc }) k.closed)
+named_code b t (p, k, e) = subst (Named b []) (sym e) (named-expansion b p [] [] [] 0 refl (record { even = tt; at = λ v k e r. cc }) k.closed)

@@ -1,78 +1,56 @@
 -- The words and masks of a program's expansion, as they are counted on the program.
-use Rattle.std.proofs.Common.{◌≡◌, ℕ, ◌+◌, ◌≤◌, List, [], ◌∷◌, ◌++◌, refl, ap, ◌∙◌, arith}
-use Rattle.std.specs.Prelude.{max}
-use Rattle.effect_term.specs.declared.term.Term.{Term, Row_of-Term, end_of-Term, more_of-Term}
+use Rattle.derived_ops.proofs.Prelude.{◌≡◌, ℕ, ◌+◌, ◌≤◌, List, [], ◌∷◌, ◌++◌, refl, ap, ◌∙◌, arith, max, Term, Row_of-Term, end_of-Term, more_of-Term}
+use Rattle.derived_ops.proofs.Prelude.{expansion_size_of, expansion_sizes_of, Tree, Source, source_of, seq_of, bracket_case, expansion, code_of, IsCode, words}
+use Rattle.derived_ops.proofs.Prelude.{masks}
 use Rattle.effect_term.specs.declared.term.Term.TheVariants as term
-use Rattle.effect_term.specs.ExpansionSize.{expansion_size_of, expansion_sizes_of}
 use Rattle.effect_term.specs.Masks.{masks_of, most_masks_of}
-use Rattle.derived_ops.specs.Tree.{Tree}
-use Rattle.derived_ops.specs.Source.{Source}
-use Rattle.derived_ops.specs.Reading.{source_of, seq_of}
-use Rattle.derived_ops.specs.Expansion.{bracket_case, expansion, code_of}
-use Rattle.derived_ops.specs.Codes.{IsCode}
-use Rattle.derived_ops.specs.Counts.{words, masks}
 
 -- ---- words
 mutual
   -- of a term, and of a `seq` of two parts and these
   pub words_expansion : (t : Term) (m : List ℕ) (d : ℕ) → words (expansion m d (source_of t)) ≡ expansion_size_of t
-  words_expansion (term.Pure v) m d = refl
-  words_expansion (term.Raise v) m d = refl
   words_expansion (term.Let' _ e _ k) m d = omega (arith, words_expansion e m d, words_expansion k (m ++ d ∷ []) (d + 1))
   words_expansion (term.Seq' _ a _ b _ more) m d = omega (arith, words_seq m d (source_of a) (source_of b) more, words_expansion a m d, words_expansion b m d)
   words_expansion (term.Handle' _ e _ h) m d = omega (arith, words_expansion e m d, words_expansion h (m ++ d ∷ []) (d + 1))
   words_expansion (term.If0' v _ s _ e) m d = omega (arith, words_expansion s m d, words_expansion e m d)
-  words_expansion (term.Add v w) m d = refl
-  words_expansion (term.Say v) m d = refl
-  words_expansion term.Cede m d = refl
-  words_expansion term.Never m d = refl
-  words_expansion term.Canceled m d = refl
   words_expansion (term.Uncancelable' _ e) m d = omega (arith, words_expansion e (m ++ d ∷ []) (d + 1))
   words_expansion (term.Poll' p _ e) m d = omega (arith, words_expansion e m d)
   words_expansion (term.OnCancel' _ e _ fin) m d = omega (arith, words_expansion e m d, words_expansion fin m d)
   words_expansion (term.Start' _ e _ k) m d = omega (arith, words_expansion e m d, words_expansion k (m ++ d ∷ []) (d + 1))
   words_expansion (term.Join' f _ s _ e _ c) m d =
       omega (arith, words_expansion s (m ++ d ∷ []) (d + 1), words_expansion e (m ++ d ∷ []) (d + 1), words_expansion c m d)
-  words_expansion (term.Cancel f) m d = refl
   words_expansion (term.Ref' v _ k) m d = omega (arith, words_expansion k (m ++ d ∷ []) (d + 1))
-  words_expansion (term.Get r) m d = refl
-  words_expansion (term.Set r v) m d = refl
-  words_expansion (term.Modify r v) m d = refl
   words_expansion (term.Deferred' _ k) m d = omega (arith, words_expansion k (m ++ d ∷ []) (d + 1))
-  words_expansion (term.Complete c v) m d = refl
-  words_expansion (term.Await c) m d = refl
   words_expansion (term.Repeat' v _ e) m d = omega (arith, words_expansion e m d)
   words_expansion (term.Forever' _ e) m d = omega (arith, words_expansion e m d)
   words_expansion (term.Guarantee' _ e _ fin) m d = omega (arith, words_expansion e m (d + 1), words_expansion fin m (d + 1), words_expansion fin m (d + 2))
-  words_expansion (term.Bracket' _ acq _ body _ rel) m d =
-      omega (
-        arith,
-        words_expansion acq m (d + 1),
-        words_expansion body (m ++ (d + 1) ∷ []) (d + 3),
-        words_expansion rel (m ++ (d + 1) ∷ []) (d + 4),
-        words_expansion rel (m ++ (d + 1) ∷ []) (d + 3),
-      )
-  words_expansion (term.BracketCase' _ acq _ body _ rs _ re _ rc) m d =
-      omega (
-        arith,
-        words_expansion acq m (d + 1),
-        words_expansion body (m ++ (d + 1) ∷ []) (d + 3),
-        words_expansion rs ((m ++ (d + 1) ∷ []) ++ (d + 3) ∷ []) (d + 4),
-        words_expansion re ((m ++ (d + 1) ∷ []) ++ (d + 3) ∷ []) (d + 4),
-        words_expansion rc (m ++ (d + 1) ∷ []) (d + 3),
-      )
-  words_expansion (term.BracketFull' _ acq _ body _ rs _ re _ rc) m d =
-      omega (
-        arith,
-        words_expansion acq (m ++ d ∷ []) (d + 1),
-        words_expansion body (m ++ (d + 1) ∷ []) (d + 3),
-        words_expansion rs ((m ++ (d + 1) ∷ []) ++ (d + 3) ∷ []) (d + 4),
-        words_expansion re ((m ++ (d + 1) ∷ []) ++ (d + 3) ∷ []) (d + 4),
-        words_expansion rc (m ++ (d + 1) ∷ []) (d + 3),
-      )
+  words_expansion (term.Bracket' _ acq _ body _ rel) m d = omega (
+    arith,
+    words_expansion acq m (d + 1),
+    words_expansion body (m ++ (d + 1) ∷ []) (d + 3),
+    words_expansion rel (m ++ (d + 1) ∷ []) (d + 4),
+    words_expansion rel (m ++ (d + 1) ∷ []) (d + 3),
+  )
+  words_expansion (term.BracketCase' _ acq _ body _ rs _ re _ rc) m d = omega (
+    arith,
+    words_expansion acq m (d + 1),
+    words_expansion body (m ++ (d + 1) ∷ []) (d + 3),
+    words_expansion rs ((m ++ (d + 1) ∷ []) ++ (d + 3) ∷ []) (d + 4),
+    words_expansion re ((m ++ (d + 1) ∷ []) ++ (d + 3) ∷ []) (d + 4),
+    words_expansion rc (m ++ (d + 1) ∷ []) (d + 3),
+  )
+  words_expansion (term.BracketFull' _ acq _ body _ rs _ re _ rc) m d = omega (
+    arith,
+    words_expansion acq (m ++ d ∷ []) (d + 1),
+    words_expansion body (m ++ (d + 1) ∷ []) (d + 3),
+    words_expansion rs ((m ++ (d + 1) ∷ []) ++ (d + 3) ∷ []) (d + 4),
+    words_expansion re ((m ++ (d + 1) ∷ []) ++ (d + 3) ∷ []) (d + 4),
+    words_expansion rc (m ++ (d + 1) ∷ []) (d + 3),
+  )
   words_expansion (term.Race' _ a _ b) m d = omega (arith, words_expansion a m (d + 3), words_expansion b m (d + 4))
   words_expansion (term.Both' _ a _ b _ k) m d =
       omega (arith, words_expansion a m (d + 4), words_expansion b m (d + 5), words_expansion k ((m ++ (d + 1) ∷ []) ++ (d + 2) ∷ []) (d + 3))
+  words_expansion _ m d = refl
 
   pub words_seq : (m : List ℕ) (d : ℕ) (a b : Source) {n : _} (more : Row_of-Term n) →
       words (expansion m d (seq_of a b more)) ≡ 1 + words (expansion m d a) + words (expansion m d b) + expansion_sizes_of more
@@ -128,31 +106,18 @@ both_most a b k = rw (pair_most a b, zero_max k) (omega arith)
 mutual
   -- of a term, and of a `seq` of two parts and these
   pub masks_expansion : (t : Term) (m : List ℕ) (d : ℕ) → masks (expansion m d (source_of t)) ≡ masks_of t
-  masks_expansion (term.Pure v) m d = refl
-  masks_expansion (term.Raise v) m d = refl
   masks_expansion (term.Let' _ e _ k) m d = rw (masks_expansion e m d, masks_expansion k (m ++ d ∷ []) (d + 1)) refl
   masks_expansion (term.Seq' _ a _ b _ more) m d = masks_seq m d (source_of a) (source_of b) more ∙ (rw (masks_expansion a m d, masks_expansion b m d) refl)
   masks_expansion (term.Handle' _ e _ h) m d = rw (masks_expansion e m d, masks_expansion h (m ++ d ∷ []) (d + 1)) refl
   masks_expansion (term.If0' v _ s _ e) m d = rw (masks_expansion s m d, masks_expansion e m d) refl
-  masks_expansion (term.Add v w) m d = refl
-  masks_expansion (term.Say v) m d = refl
-  masks_expansion term.Cede m d = refl
-  masks_expansion term.Never m d = refl
-  masks_expansion term.Canceled m d = refl
   masks_expansion (term.Uncancelable' _ e) m d = rw (masks_expansion e (m ++ d ∷ []) (d + 1)) refl
   masks_expansion (term.Poll' p _ e) m d = rw (masks_expansion e m d) refl
   masks_expansion (term.OnCancel' _ e _ fin) m d = rw (masks_expansion e m d, masks_expansion fin m d) refl
   masks_expansion (term.Start' _ e _ k) m d = rw (masks_expansion e m d, masks_expansion k (m ++ d ∷ []) (d + 1)) refl
   masks_expansion (term.Join' f _ s _ e _ c) m d =
       rw (masks_expansion s (m ++ d ∷ []) (d + 1), masks_expansion e (m ++ d ∷ []) (d + 1), masks_expansion c m d) refl
-  masks_expansion (term.Cancel f) m d = refl
   masks_expansion (term.Ref' v _ k) m d = rw (masks_expansion k (m ++ d ∷ []) (d + 1)) refl
-  masks_expansion (term.Get r) m d = refl
-  masks_expansion (term.Set r v) m d = refl
-  masks_expansion (term.Modify r v) m d = refl
   masks_expansion (term.Deferred' _ k) m d = rw (masks_expansion k (m ++ d ∷ []) (d + 1)) refl
-  masks_expansion (term.Complete c v) m d = refl
-  masks_expansion (term.Await c) m d = refl
   masks_expansion (term.Repeat' v _ e) m d = rw (masks_expansion e m d) refl
   masks_expansion (term.Forever' _ e) m d = rw (masks_expansion e m d) refl
   masks_expansion (term.Guarantee' _ e _ fin) m d =
@@ -193,6 +158,7 @@ mutual
   masks_expansion (term.Both' _ a _ b _ k) m d =
       rw (masks_expansion a m (d + 4), masks_expansion b m (d + 5), masks_expansion k ((m ++ (d + 1) ∷ []) ++ (d + 2) ∷ []) (d + 3))
       (both_most (masks_of a) (masks_of b) (masks_of k))
+  masks_expansion _ m d = refl
 
   pub masks_seq : (m : List ℕ) (d : ℕ) (a b : Source) {n : _} (more : Row_of-Term n) →
       masks (expansion m d (seq_of a b more)) ≡ max (masks (expansion m d a)) (max (masks (expansion m d b)) (most_masks_of more))

@@ -1,18 +1,13 @@
 -- In an expansion the slot of each binder is the number of binders around it.
-use Rattle.std.proofs.Common.{◌≡◌, ℕ, ◌+◌, pos, List, [], ◌∷◌, ◌++◌, refl, subst, sym, arith}
-use Rattle.derived_ops.specs.Codes.{IsCode}
-use Rattle.derived_ops.specs.Expansion.{guarantee, bracket_case, ended, cancels_both, runs_side, pair_race, race_side, both_side, race, both, expansion}
-use Rattle.derived_ops.specs.Levels.{Levelled}
-use Rattle.derived_ops.specs.Reading.{source_of}
+use Rattle.derived_ops.proofs.Prelude.{◌≡◌, ℕ, ◌+◌, pos, List, [], ◌∷◌, ◌++◌, refl, subst, sym, arith, IsCode, guarantee, bracket_case, ended, cancels_both}
+use Rattle.derived_ops.proofs.Prelude.{runs_side, pair_race, race_side, both_side, race, both, expansion, Levelled, source_of, Source, Number, Slot, Open_slot}
+use Rattle.derived_ops.proofs.Prelude.{Complete, Tree, Act, If0}
 use Rattle.derived_ops.specs.Source as word
-use Rattle.derived_ops.specs.Source.{Source}
-use Rattle.derived_ops.specs.Tree.{Number, Slot, Open_slot, Complete, Tree, Act, If0}
 
 -- ---- derived words, by their parts
 levelled-guarantee : (n d : ℕ) (e a b c : Tree) → d ≡ n → Levelled (n + 1) e → Levelled (n + 1) a → Levelled (n + 1 + 1) b → Levelled (n + 1 + 1) c →
     Levelled n (guarantee d e a b c)
-levelled-guarantee n d e a b c h he ha hb hc =
-    (h, (omega arith, ((omega arith, ((he, ha), ((omega arith, (hb, tt)), tt))), (hc, tt))))
+levelled-guarantee n d e a b c h he ha hb hc = (h, (omega arith, ((omega arith, ((he, ha), ((omega arith, (hb, tt)), tt))), (hc, tt))))
 
 levelled-bracket_case : (n d : ℕ) (acq body rs re rc : Tree) → d ≡ n → Levelled (n + 1) acq → Levelled (n + 1 + 1 + 1) body →
     Levelled (n + 1 + 1 + 1 + 1) rs → Levelled (n + 1 + 1 + 1 + 1) re → Levelled (n + 1 + 1 + 1) rc → Levelled n (bracket_case d acq body rs re rc)
@@ -43,9 +38,7 @@ levelled-ended : (n c f : ℕ) → c ≡ n → Levelled n (ended c f)
 levelled-ended n c f h = ((h, h), (tt, (tt, tt)))
 
 levelled-runs_side : (n c d z : ℕ) (e : Tree) → c ≡ n → Levelled (n + 1) e → Levelled n (runs_side c d z e)
-levelled-runs_side n c d z e h he =
-    let done = Act (Complete (Open_slot d) (Number (pos z))) in
-    levelled-guarantee n c e done done done h he tt tt tt
+levelled-runs_side n c d z e h he = let done = Act (Complete (Open_slot d) (Number (pos z))) in levelled-guarantee n c e done done done h he tt tt tt
 
 levelled-cancels_both : (n p : ℕ) → p + 4 ≡ n → Levelled n (cancels_both p)
 levelled-cancels_both n p h =
@@ -61,26 +54,19 @@ levelled-pair_race n p a b s h ha hb hs = (
       levelled-runs_side (n + 1) (p + 2) (p + 1) 0 a (omega arith) ha,
       (
         omega arith,
-        (
-          levelled-runs_side (n + 1 + 1) (p + 3) (p + 1) 1 b (omega arith) hb,
-          (omega arith, ((tt, levelled-cancels_both (n + 1 + 1 + 1) p (omega arith)), hs)),
-        ),
+        (levelled-runs_side (n + 1 + 1) (p + 3) (p + 1) 1 b (omega arith) hb, (omega arith, ((tt, levelled-cancels_both (n + 1 + 1 + 1) p (omega arith)), hs))),
       ),
     ),
   ),
 )
 
 levelled-race_side : (n p c f g : ℕ) → c ≡ n → Levelled n (race_side p c f g)
-levelled-race_side n p c f g h =
-    ((h, h), ((tt, tt), ((tt, tt), ((levelled-ended n c g h, tt), ((h, h), (tt, (tt, (tt, tt))))))))
+levelled-race_side n p c f g h = ((h, h), ((tt, tt), ((tt, tt), ((levelled-ended n c g h, tt), ((h, h), (tt, (tt, (tt, tt))))))))
 
 levelled-both_side : (n p r c f g second first : ℕ) → c ≡ n → Levelled n (both_side p r c f g second first)
 levelled-both_side n p r c f g second first h = (
   (h, h),
-  (
-    ((levelled-ended (n + 1) (c + 1) g (omega arith), tt), ((omega arith, omega arith), ((tt, tt), (tt, (tt, tt))))),
-    ((tt, tt), (tt, (tt, tt))),
-  ),
+  (((levelled-ended (n + 1) (c + 1) g (omega arith), tt), ((omega arith, omega arith), ((tt, tt), (tt, (tt, tt))))), ((tt, tt), (tt, (tt, tt)))),
 )
 
 levelled-race : (n d : ℕ) (a b : Tree) → d ≡ n → Levelled (n + 1 + 1 + 1) a → Levelled (n + 1 + 1 + 1 + 1) b → Levelled n (race d a b)

@@ -1,3 +1,4 @@
+pub mod Prelude
 pub mod Coded
 pub mod Codes
 pub mod Counts

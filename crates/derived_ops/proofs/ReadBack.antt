@@ -1,20 +1,13 @@
 -- The term that is read from the words that a term was written with is that term.
-use Rattle.std.proofs.Common.{◌≡◌, ◌≤◌, ◌<◌, ℕ, suc, ◌+◌, ◌*◌, ◌^◌, Bool, true, false, ◌&&◌, List, [], ◌∷◌, ◌++◌, refl, sym, ap, ap₂, ◌∙◌, arith}
-use Rattle.derived_ops.specs.declared.core_word.CoreWord.{CoreWord}
-use Rattle.derived_ops.specs.Cores.{action_in_core, bracket_mark_of, maker_in_core, turns_in_core, value_in_core}
-use Rattle.derived_ops.specs.Counts.{words}
-use Rattle.derived_ops.specs.Expansion.{expansion}
-use Rattle.derived_ops.specs.Levels.{Levelled}
-use Rattle.derived_ops.specs.Private.Writing.{before, distance, size, stored_action, stored_handle, stored_mark, stored_maker, stored_mask, stored_rest}
-use Rattle.derived_ops.specs.Private.Writing.{stored_turns, stored_value}
+use Rattle.derived_ops.proofs.Prelude.{◌≡◌, ◌≤◌, ◌<◌, ℕ, suc, ◌+◌, ◌*◌, ◌^◌, Bool, true, false, ◌&&◌, List, [], ◌∷◌, ◌++◌, refl, sym, ap, ap₂, ◌∙◌, arith}
+use Rattle.derived_ops.proofs.Prelude.{CoreWord, action_in_core, bracket_mark_of, maker_in_core, turns_in_core, value_in_core, words, expansion, Levelled}
+use Rattle.derived_ops.proofs.Prelude.{before, distance, size, stored_action, stored_handle, stored_mark, stored_maker, stored_mask, stored_rest, stored_turns}
+use Rattle.derived_ops.proofs.Prelude.{stored_value, Source, Operand, Number, Slot, Handle, Known, Open_slot, Mask, Named, Pair, Action, Add, Say, Request}
+use Rattle.derived_ops.proofs.Prelude.{Ending, Get, Set, Modify, Complete, Await, Bracket_mark, Acquired, Maker, New_ref, New_deferred, Turns, Times, Always}
+use Rattle.derived_ops.proofs.Prelude.{Rest, Last, More, Tree, Pure, Raise, Act, Note, Cancel, Let, Seq, Handled, If0, Join, Make, Start, Loop, Uncancelable}
+use Rattle.derived_ops.proofs.Prelude.{Poll, On_cancel, rest_of, tree_at}
 use Rattle.derived_ops.specs.Source as source
-use Rattle.derived_ops.specs.Source.{Source}
 use Rattle.derived_ops.specs.Tree as tree
-use Rattle.derived_ops.specs.Tree.{Operand, Number, Slot, Handle, Known, Open_slot, Mask, Named, Pair, Action, Add, Say, Cede, Never, Canceled, Request}
-use Rattle.derived_ops.specs.Tree.{Ending, Get, Set, Modify, Complete, Await, Bracket_mark, Acquired, Releasing, Released, Maker, New_ref, New_deferred}
-use Rattle.derived_ops.specs.Tree.{Turns, Times, Always, Rest, Last, More, Tree, Pure, Raise, Act, Note, Cancel, Let, Seq, Handled, If0, Join, Make}
-use Rattle.derived_ops.specs.Tree.{Start, Loop, Uncancelable, Poll, On_cancel}
-use Rattle.derived_ops.specs.Words.{rest_of, tree_at}
 
 -- ---- what has words: no number in the place of a name, and no form that only a running fiber has
 abbrev handle_has : Handle → Bool
@@ -78,9 +71,6 @@ mask_back (Pair f m) e = absurd (cc)
 action_back : (a : Action) → action_has a ≡ true → action_in_core (stored_action a) ≡ a
 action_back (Add v w) e = ap₂ Add (value_back v) (value_back w)
 action_back (Say v) e = ap Say (value_back v)
-action_back Cede e = refl
-action_back Never e = refl
-action_back Canceled e = refl
 action_back (Request f) e = absurd (cc)
 action_back (Ending f) e = absurd (cc)
 action_back (Get r) e = ap Get (handle_back r e)
@@ -88,11 +78,11 @@ action_back (Set r v) e = ap₂ Set (handle_back r e) (value_back v)
 action_back (Modify r v) e = ap₂ Modify (handle_back r e) (value_back v)
 action_back (Complete d v) e = ap₂ Complete (handle_back d e) (value_back v)
 action_back (Await d) e = ap Await (handle_back d e)
+action_back _ e = refl
 
 mark_back : (h : Bracket_mark) → bracket_mark_of (stored_mark h) ≡ h
 mark_back Acquired = refl
-mark_back Releasing = refl
-mark_back Released = refl
+mark_back _ = refl
 
 maker_back : (m : Maker) → maker_in_core (stored_maker m) ≡ m
 maker_back (New_ref v) = ap New_ref (value_back v)
@@ -108,11 +98,6 @@ rest_back More = refl
 
 -- ---- reading past the words of a term
 tree_past : (t : Tree) (ws : List CoreWord) (i n : ℕ) → tree_at (before t ws) (size t + i) n ≡ tree_at ws i n
-tree_past (Pure v) ws i n = let e : 1 + i ≡ suc i = omega arith in rw e refl
-tree_past (Raise v) ws i n = let e : 1 + i ≡ suc i = omega arith in rw e refl
-tree_past (Act a) ws i n = let e : 1 + i ≡ suc i = omega arith in rw e refl
-tree_past (Note h q) ws i n = let e : 1 + i ≡ suc i = omega arith in rw e refl
-tree_past (Cancel f) ws i n = let e : 1 + i ≡ suc i = omega arith in rw e refl
 tree_past (Let e x k) ws i n =
     let h : 1 + (size e + size k) + i ≡ suc (size e + (size k + i)) = omega arith in
     rw h (tree_past e (before k ws) (size k + i) n ∙ tree_past k ws i n)
@@ -142,11 +127,11 @@ tree_past (On_cancel e k) ws i n =
 tree_past (tree.Masked m e) ws i n = let h : 0 + i ≡ i = omega arith in rw h refl
 tree_past (tree.Polled q e) ws i n = let h : 0 + i ≡ i = omega arith in rw h refl
 tree_past (tree.Guarded e k) ws i n = let h : 0 + i ≡ i = omega arith in rw h refl
+tree_past _ ws i n = let e : 1 + i ≡ suc i = omega arith in rw e refl
 
 -- at the distance that is stored stands the next part
 tree_next : (t : Tree) (ws : List CoreWord) (n : ℕ) → size t < 2 ^ 32 → tree_at (before t ws) (distance (size t)) n ≡ tree_at ws 0 n
-tree_next t ws n l =
-    let h : distance (size t) ≡ size t + 0 = omega (arith, l) in ap (λ i. tree_at (before t ws) i n) h ∙ tree_past t ws 0 n
+tree_next t ws n l = let h : distance (size t) ≡ size t + 0 = omega (arith, l) in ap (λ i. tree_at (before t ws) i n) h ∙ tree_past t ws 0 n
 
 tree_third : (s t : Tree) (ws : List CoreWord) (n : ℕ) → size s + size t < 2 ^ 32 →
     tree_at (before s (before t ws)) (distance (size s + size t)) n ≡ tree_at ws 0 n
@@ -186,11 +171,9 @@ tree_before (Join f x a y b c) n ws z l s =
     let ws_all = before a (before b (before c ws)) in
     let first : tree_at ws_all 0 (n + 1) ≡ a =
     tree_before a (n + 1) (before b (before c ws)) (omega (arith, z)) l.1.0 (one_of (has_words a) (has_words b && has_words c) later) in
-    let second : tree_at ws_all (distance (size a)) (n + 1) ≡ b =
-    tree_next a (before b (before c ws)) (n + 1) (omega (arith, z)) ∙
+    let second : tree_at ws_all (distance (size a)) (n + 1) ≡ b = tree_next a (before b (before c ws)) (n + 1) (omega (arith, z)) ∙
     tree_before b (n + 1) (before c ws) (omega (arith, z)) l.1.1.0 (one_of (has_words b) (has_words c) last) in
-    let third : tree_at ws_all (distance (size a + size b)) n ≡ c =
-    tree_third a b (before c ws) n (omega (arith, z)) ∙
+    let third : tree_at ws_all (distance (size a + size b)) n ≡ c = tree_third a b (before c ws) n (omega (arith, z)) ∙
     tree_before c n ws (omega (arith, z)) l.1.1.1 (other_of (has_words b) (has_words c) last) in
     let handle : Open_slot (stored_handle f) ≡ f = handle_back f (one_of (handle_has f) (has_words a && (has_words b && has_words c)) s) in
     ap₂ (λ g u. Join g n u n (tree_at ws_all (distance (size a)) (n + 1)) (tree_at ws_all (distance (size a + size b)) n)) handle first ∙
@@ -212,17 +195,10 @@ tree_before (On_cancel e k) n ws z l s =
     ap₂ (λ a b. On_cancel a b) (tree_before e n (before k ws) (omega (arith, z)) l.0 (one_of (has_words e) (has_words k) s))
     (tree_next e (before k ws) n (omega (arith, z)) ∙
     tree_before k n ws (omega (arith, z)) l.1 (other_of (has_words e) (has_words k) s))
-tree_before (tree.Masked m e) n ws z l s = absurd (cc)
-tree_before (tree.Polled q e) n ws z l s = absurd (cc)
-tree_before (tree.Guarded e k) n ws z l s = absurd (cc)
+tree_before _ n ws z l s = absurd (cc)
 
 -- ---- a term has at most twice as many words as are counted: a `seq` of many parts is counted once
 pub size_counted : (t : Tree) → size t + 1 ≤ 2 * words t
-size_counted (Pure v) = omega arith
-size_counted (Raise v) = omega arith
-size_counted (Act a) = omega arith
-size_counted (Note h q) = omega arith
-size_counted (Cancel f) = omega arith
 size_counted (Let e x k) = omega (arith, size_counted e, size_counted k)
 size_counted (Seq Last e k) = omega (arith, size_counted e, size_counted k)
 size_counted (Seq More e k) = omega (arith, size_counted e, size_counted k)
@@ -235,9 +211,7 @@ size_counted (Loop n k) = omega (arith, size_counted k)
 size_counted (Uncancelable x k) = omega (arith, size_counted k)
 size_counted (Poll q k) = omega (arith, size_counted k)
 size_counted (On_cancel e k) = omega (arith, size_counted e, size_counted k)
-size_counted (tree.Masked m k) = omega arith
-size_counted (tree.Polled q k) = omega arith
-size_counted (tree.Guarded e k) = omega arith
+size_counted _ = omega arith
 
 -- ---- an expansion has words
 pub expansion_has : (m : List ℕ) (d : ℕ) (t : Source) → has_words (expansion m d t) ≡ true
@@ -249,14 +223,12 @@ expansion_has m d (source.Uncancelable e) = expansion_has (m ++ d ∷ []) (d + 1
 expansion_has m d (source.Poll p e) = expansion_has m d e
 expansion_has m d (source.On_cancel e fin) = rw (expansion_has m d e, expansion_has m d fin) refl
 expansion_has m d (source.Start e k) = rw (expansion_has m d e, expansion_has (m ++ d ∷ []) (d + 1) k) refl
-expansion_has m d (source.Join f s e c) =
-    rw (expansion_has (m ++ d ∷ []) (d + 1) s, expansion_has (m ++ d ∷ []) (d + 1) e, expansion_has m d c) refl
+expansion_has m d (source.Join f s e c) = rw (expansion_has (m ++ d ∷ []) (d + 1) s, expansion_has (m ++ d ∷ []) (d + 1) e, expansion_has m d c) refl
 expansion_has m d (source.Ref v k) = expansion_has (m ++ d ∷ []) (d + 1) k
 expansion_has m d (source.Deferred k) = expansion_has (m ++ d ∷ []) (d + 1) k
 expansion_has m d (source.Repeat v e) = expansion_has m d e
 expansion_has m d (source.Forever e) = expansion_has m d e
-expansion_has m d (source.Guarantee e fin) =
-    rw (expansion_has m (d + 1) e, expansion_has m (d + 1) fin, expansion_has m (d + 2) fin) refl
+expansion_has m d (source.Guarantee e fin) = rw (expansion_has m (d + 1) e, expansion_has m (d + 1) fin, expansion_has m (d + 2) fin) refl
 expansion_has m d (source.Bracket acq body rel) =
     let x = m ++ (d + 1) ∷ [] in
     rw (expansion_has m (d + 1) acq, expansion_has x (d + 3) body, expansion_has x (d + 4) rel, expansion_has x (d + 3) rel) refl

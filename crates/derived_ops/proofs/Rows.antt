@@ -1,13 +1,8 @@
 -- The further parts of a `seq`, read at the items of their `Vec`.
-use Rattle.std.proofs.Common.{◌≡◌, ℕ, ◌+◌, ◌≤◌, ◌<◌, zero, suc, List, [], ◌∷◌, map, length, get_or, ap, refl, arith}
-use Rattle.effect_term.specs.declared.term.Term.{Term, Row_of-Term, end_of-Term, more_of-Term, items-the_row-Term}
-use Rattle.effect_term.specs.ExpansionSize.{expansion_size_of, expansion_sizes_of, total_expansion_size}
-use Rattle.derived_ops.specs.Expansion.{expansion}
-use Rattle.derived_ops.specs.Private.Sequences.{sources_in_order, trees_in_order}
-use Rattle.derived_ops.specs.Reading.{source_of, seq_of}
+use Rattle.derived_ops.proofs.Prelude.{◌≡◌, ℕ, ◌+◌, ◌≤◌, ◌<◌, zero, suc, List, [], ◌∷◌, map, length, get_or, ap, refl, arith, Term, Row_of-Term, end_of-Term}
+use Rattle.derived_ops.proofs.Prelude.{more_of-Term, items-the_row-Term, expansion_size_of, expansion_sizes_of, total_expansion_size, expansion}
+use Rattle.derived_ops.proofs.Prelude.{sources_in_order, trees_in_order, source_of, seq_of, Source, Seq, More}
 use Rattle.derived_ops.specs.Source as word
-use Rattle.derived_ops.specs.Source.{Source}
-use Rattle.derived_ops.specs.Tree.{Seq, More}
 
 pub seq_of-row : (m : _) (a b : Source) (row : Row_of-Term m) → seq_of a b row ≡ sources_in_order a b (items-the_row-Term m row)
 seq_of-row _ a b end_of-Term = refl

@@ -1,12 +1,8 @@
 -- Expansions worked by hand, by computing. A comment has the same in text.
-use Rattle.std.proofs.Common.{◌≡◌, ℕ, pos, refl}
-use Rattle.derived_ops.specs.Tree.{Number, Slot, Open_slot, Named, Add, Say, Never, Canceled, Get, Set}
-use Rattle.derived_ops.specs.Tree.{Complete, Await, Bracket_mark, Acquired, Releasing, Released, New_ref}
-use Rattle.derived_ops.specs.Tree.{New_deferred, Last, More, Tree, Pure, Raise, Act, Note, Cancel, Let, Seq}
-use Rattle.derived_ops.specs.Tree.{Handled, If0, Join, Make, Start, Uncancelable, Poll, On_cancel}
+use Rattle.derived_ops.proofs.Prelude.{◌≡◌, ℕ, pos, refl, Number, Slot, Open_slot, Named, Add, Say, Never, Canceled, Get, Set, Complete, Await, Bracket_mark}
+use Rattle.derived_ops.proofs.Prelude.{Acquired, Releasing, Released, New_ref, New_deferred, Last, More, Tree, Pure, Raise, Act, Note, Cancel, Let, Seq}
+use Rattle.derived_ops.proofs.Prelude.{Handled, If0, Join, Make, Start, Uncancelable, Poll, On_cancel, Source, code_of}
 use Rattle.derived_ops.specs.Source as word
-use Rattle.derived_ops.specs.Source.{Source}
-use Rattle.derived_ops.specs.Expansion.{code_of}
 
 abbrev say : ℕ → Source
 say n = word.Say (Number (pos n))

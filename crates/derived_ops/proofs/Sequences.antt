@@ -1,12 +1,9 @@
 -- The words of a sequence, part by part from the last one on.
-use Rattle.std.proofs.Common.{◌≡◌, ◌<◌, ℕ, zero, suc, ◌+◌, List, [], ◌∷◌, length, get_or, drop, map, refl, ap, arith}
-use Rattle.derived_ops.specs.declared.core_word.CoreWord.{CoreWord}
+use Rattle.derived_ops.proofs.Prelude.{◌≡◌, ◌<◌, ℕ, zero, suc, ◌+◌, List, [], ◌∷◌, length, get_or, drop, map, refl, ap, arith, CoreWord, rest_before}
+use Rattle.derived_ops.proofs.Prelude.{trees_behind, trees_in_order, trees_of, before, distance, size, stored_rest, Tree, Seq}
 use Rattle.derived_ops.specs.declared.core_word.CoreWord.TheVariants as word
 use Rattle.derived_ops.specs.declared.core_word.Rest.{Rest}
 use Rattle.derived_ops.specs.declared.core_word.Rest.TheVariants as rest
-use Rattle.derived_ops.specs.Private.Sequences.{rest_before, trees_behind, trees_in_order, trees_of}
-use Rattle.derived_ops.specs.Private.Writing.{before, distance, size, stored_rest}
-use Rattle.derived_ops.specs.Tree.{Tree, Seq}
 
 pub in_order_is : (a b : Tree) (ts : List Tree) → trees_in_order a b ts ≡ Seq (rest_before ts) a (trees_behind b ts)
 in_order_is a b [] = refl
@@ -24,10 +21,9 @@ last_before f (y ∷ xs) (suc i) x l e ws = last_before f xs i x (omega (arith, 
 pub part_before : {X : Type 0} (f : X → Tree) (xs : List X) (i : ℕ) (x : X) (r : Rest) → suc i < length xs → x ≡ get_or xs i x →
     r ≡ stored_rest (rest_before (drop (suc (suc i)) (map f xs))) → (ws : List CoreWord) →
     word.Seq r (distance (size (f x))) ∷ before (f x) (before (trees_of (drop (suc i) (map f xs))) ws) ≡ before (trees_of (drop i (map f xs))) ws
-part_before f [] i x r l e h ws = absurd (omega (arith, l))
-part_before f (y ∷ []) i x r l e h ws = absurd (omega (arith, l))
 part_before f (y ∷ z ∷ xs) zero x r l e h ws = rw (e, h) refl
 part_before f (y ∷ z ∷ xs) (suc i) x r l e h ws = part_before f (z ∷ xs) i x r (omega (arith, l)) e h ws
+part_before f _ i x r l e h ws = absurd (omega (arith, l))
 
 pub more_left : {X : Type 0} (f : X → Tree) (xs : List X) (i : ℕ) → i < length xs → rest.More ≡ stored_rest (rest_before (drop i (map f xs)))
 more_left f [] i l = absurd (omega (arith, l))

@@ -1,5 +1,6 @@
 -- What is stored for what stands in a code is that.
-use Rattle.std.proofs.Common.{◌≡◌, refl}
+use Rattle.derived_ops.proofs.Prelude.{◌≡◌, refl, action_in_core, maker_in_core, turns_in_core, value_in_core, stored_action, stored_maker, stored_turns}
+use Rattle.derived_ops.proofs.Prelude.{stored_value}
 use Rattle.derived_ops.specs.declared.core_term.Operand.{Operand}
 use Rattle.derived_ops.specs.declared.core_term.Operand.TheVariants as operand
 use Rattle.derived_ops.specs.declared.core_term.Action.{Action}
@@ -8,8 +9,6 @@ use Rattle.derived_ops.specs.declared.core_term.Maker.{Maker}
 use Rattle.derived_ops.specs.declared.core_term.Maker.TheVariants as maker
 use Rattle.derived_ops.specs.declared.core_term.Turns.{Turns}
 use Rattle.derived_ops.specs.declared.core_term.Turns.TheVariants as turns
-use Rattle.derived_ops.specs.Cores.{action_in_core, maker_in_core, turns_in_core, value_in_core}
-use Rattle.derived_ops.specs.Private.Writing.{stored_action, stored_maker, stored_turns, stored_value}
 
 pub stored_value_of : (v : Operand) → stored_value (value_in_core v) ≡ v
 stored_value_of (operand.Number z) = refl

@@ -1,10 +1,8 @@
 -- Forms as they are written from the left to the right.
-use Rattle.std.proofs.Common.{◌≡◌, ℕ, List, [], ◌∷◌, ◌++◌, codes, sym, ap, ◌∙◌, append_assoc}
+use Rattle.derived_ops.proofs.Prelude.{◌≡◌, ℕ, List, [], ◌∷◌, ◌++◌, codes, sym, ap, ◌∙◌, append_assoc, action_text, core_text, form, spaced, text_in}
+use Rattle.derived_ops.proofs.Prelude.{value_text, maker_text, turns_text, Action, Complete, Operand, Open_slot, Maker, New_ref, New_deferred, Turns, Times}
+use Rattle.derived_ops.proofs.Prelude.{Always, Tree, Rest, More, Seq, Join, Make, Loop, Uncancelable}
 use Rattle.std.specs.Fmt.{decimal}
-use Rattle.derived_ops.specs.CoreText.{action_text, core_text, form, spaced, text_in, value_text}
-use Rattle.derived_ops.specs.Private.Heads.{maker_text, turns_text}
-use Rattle.derived_ops.specs.Tree.{Action, Complete, Operand, Open_slot, Maker, New_ref, New_deferred, Turns}
-use Rattle.derived_ops.specs.Tree.{Times, Always, Tree, Rest, More, Seq, Join, Make, Loop, Uncancelable}
 
 complete-written : (s : ℕ) (v : List ℕ) → codes "(complete d" ++ (decimal s ++ (codes " " ++ (v ++ codes ")"))) ≡
     form (codes "complete" ∷ (codes "d" ++ decimal s) ∷ v ∷ [])
@@ -32,8 +30,7 @@ join-tail : (n : ℕ) (s e c : List ℕ) → s ++ ((codes " v" ++ decimal n) ++ 
     spaced (s ∷ (codes "v" ++ decimal n) ∷ e ∷ c ∷ []) ++ codes ")"
 join-tail n s e c = simp append_assoc
 
-join-fiber : (f : ℕ) (x : List ℕ) → (codes "(join f" ++ decimal f) ++ (codes " " ++ (x ++ codes ")")) ≡
-    form (codes "join" ∷ (codes "f" ++ decimal f) ∷ x ∷ [])
+join-fiber : (f : ℕ) (x : List ℕ) → (codes "(join f" ++ decimal f) ++ (codes " " ++ (x ++ codes ")")) ≡ form (codes "join" ∷ (codes "f" ++ decimal f) ∷ x ∷ [])
 join-fiber f x = simp append_assoc
 
 join-slot : (n : ℕ) (x : List ℕ) → (codes " v" ++ decimal n) ++ (codes " " ++ (x ++ codes ")")) ≡
@@ -42,8 +39,7 @@ join-slot n x = simp append_assoc
 
 join-head : (f n : ℕ) (x : List ℕ) → (codes "(join f" ++ decimal f) ++ ((codes " v" ++ decimal n) ++ (codes " " ++ (x ++ codes ")"))) ≡
     form (codes "join" ∷ (codes "f" ++ decimal f) ∷ (codes "v" ++ decimal n) ∷ x ∷ [])
-join-head f n x =
-    ap (λ u. (codes "(join f" ++ decimal f) ++ u) (join-slot n x) ∙ join-fiber f (spaced ((codes "v" ++ decimal n) ∷ x ∷ []))
+join-head f n x = ap (λ u. (codes "(join f" ++ decimal f) ++ u) (join-slot n x) ∙ join-fiber f (spaced ((codes "v" ++ decimal n) ∷ x ∷ []))
 
 join-written : (f n : ℕ) (s e c : List ℕ) → (codes "(join f" ++ decimal f) ++ ((codes " v" ++ decimal n) ++ ((codes " " ++ s) ++
     ((codes " v" ++ decimal n) ++ ((codes " " ++ e) ++ (codes " " ++ (c ++ codes ")")))))) ≡

@@ -1,9 +1,4 @@
-use Rattle.std.proofs.Common.{◌≡◌, ◌∙◌, [], ap, rules}
-use Rattle.derived_ops.specs.Counts.{masks, words}
-use Rattle.derived_ops.specs.Expansion.{expansion}
-use Rattle.derived_ops.specs.Private.Writing.{before}
-use Rattle.derived_ops.specs.Reading.{source_of}
-use Rattle.derived_ops.specs.Words.{tree_of}
+use Rattle.derived_ops.proofs.Prelude.{◌≡◌, ◌∙◌, [], ap, rules, masks, words, expansion, before, source_of, tree_of}
 use Rattle.derived_ops.proofs.Codes.{is_code, words_few, words_read}
 use Rattle.derived_ops.proofs.Counts.{masks_code, words_code}
 use Rattle.derived_ops.proofs.code.expand.Goals as goal

@@ -1,10 +1,5 @@
-use Rattle.std.proofs.Common.{◌≡◌, ◌≤◌, ◌<◌, ◌+◌, ◌++◌, ◌∙◌, ap, sym, length, Some, None, codes, rules, arith}
-use Rattle.std.proofs.lemmas.Result.{on_ok_weaker}
-use Rattle.derived_ops.specs.CoreText.{core_text, text_in}
-use Rattle.derived_ops.specs.Private.Heads.{further}
-use Rattle.derived_ops.specs.Cores.{maker_in_core}
-use Rattle.derived_ops.specs.Tree.{Join, Make, Open_slot, Seq, Uncancelable}
-use Rattle.derived_ops.specs.Words.{rest_of, second, third, tree_at, word_at, word_tree}
+use Rattle.derived_ops.proofs.Prelude.{◌≡◌, ◌≤◌, ◌<◌, ◌+◌, ◌++◌, ◌∙◌, ap, sym, length, Some, None, codes, rules, arith, on_ok_weaker, core_text, text_in}
+use Rattle.derived_ops.proofs.Prelude.{further, maker_in_core, Join, Make, Open_slot, Seq, Uncancelable, rest_of, second, third, tree_at, word_at, word_tree}
 use Rattle.derived_ops.proofs.Texts.{join-pushed, made-pushed, sequence-more, uncancelable-pushed}
 use Rattle.derived_ops.proofs.Words.{last_at, more_at, tree_inside, tree_past_end}
 use Rattle.derived_ops.proofs.core_text.+printing.Goals as goal
@@ -34,8 +29,7 @@ push_sequence-loop-rest-preserved t c =
     let j = c.in-Some.next in
     let goes : further l (word_at ws i) ≡ Some (r, j) = search rules in
     let more = more_at ws i n l r j goes in
-    let all =
-    c.args.text.now.items ++ core_text (Seq (rest_of c.args.left) (tree_at ws c.args.first n) (tree_at ws c.args.second n)) in record {
+    let all = c.args.text.now.items ++ core_text (Seq (rest_of c.args.left) (tree_at ws c.args.first n) (tree_at ws c.args.second n)) in record {
       order = omega (arith, c.loop-rest.invariant.order);
       written =
           sequence-more all c.loop-rest.text.items c.push_part-in-Some.new.text.items (tree_at ws i n) (tree_at ws (i + 1) n) (tree_at ws (i + 1 + j) n)

@@ -1,7 +1,4 @@
-use Rattle.std.proofs.Common.{◌≡◌, ◌≤◌, ◌+◌, ◌*◌, ◌-◌, ◌++◌, length, codes}
-use Rattle.derived_ops.specs.CoreText.{core_text, text_in}
-use Rattle.derived_ops.specs.Tree.{Seq}
-use Rattle.derived_ops.specs.Words.{rest_of, tree_at}
+use Rattle.derived_ops.proofs.Prelude.{◌≡◌, ◌≤◌, ◌+◌, ◌*◌, ◌-◌, ◌++◌, length, codes, core_text, text_in, Seq, rest_of, tree_at}
 use Rattle.derived_ops.proofs.core_text.+printing.Given as goal
 
 abbrev pub decreases-push_word_at : goal.decreases-push_word_at

@@ -1,6 +1,4 @@
-use Rattle.std.proofs.Common.{ap}
-use Rattle.std.proofs.lemmas.Result.{on_ok_weaker}
-use Rattle.derived_ops.specs.Cores.{action_in_core, value_in_core}
+use Rattle.derived_ops.proofs.Prelude.{ap, on_ok_weaker, action_in_core, value_in_core}
 use Rattle.derived_ops.proofs.Texts.{complete-pushed}
 use Rattle.derived_ops.proofs.core_text.push_action.Goals as goal
 

@@ -1,13 +1,8 @@
-use Rattle.std.proofs.Common.{◌≡◌, ◌<◌, ◌∙◌, ◌+◌, ◌-◌, ◌∷◌, List, ℕ, suc, length, drop, map, ap, subst, sym, rules, arith}
-use Rattle.std.proofs.lemmas.Result.{on_ok_weaker}
-use Rattle.effect_term.specs.declared.term.Term.{Term}
+use Rattle.derived_ops.proofs.Prelude.{◌≡◌, ◌<◌, ◌∙◌, ◌+◌, ◌-◌, ◌∷◌, List, ℕ, suc, length, drop, map, ap, subst, sym, rules, arith, on_ok_weaker, Term}
+use Rattle.derived_ops.proofs.Prelude.{expansion, race, runs_side, rest_before, trees_of, part_tree, before, distance, race_before, size, stored_rest}
+use Rattle.derived_ops.proofs.Prelude.{source_of}
 use Rattle.derived_ops.specs.declared.core_word.CoreWord.TheVariants as word
 use Rattle.derived_ops.specs.declared.core_term.Maker.TheVariants as maker
-use Rattle.derived_ops.specs.Expansion.{expansion, race, runs_side}
-use Rattle.derived_ops.specs.Private.Sequences.{rest_before, trees_of}
-use Rattle.derived_ops.specs.Private.Shapes.{part_tree}
-use Rattle.derived_ops.specs.Private.Writing.{before, distance, race_before, size, stored_rest}
-use Rattle.derived_ops.specs.Reading.{source_of}
 use Rattle.derived_ops.proofs.Rows.{total-at}
 use Rattle.derived_ops.proofs.Sequences.{more_left, part_before}
 use Rattle.derived_ops.proofs.expansion.Expansion.+expansion.Goals as goal
@@ -44,9 +39,7 @@ behind-loop-i-preserved t c =
           ap (λ k. word.Seq r (distance (size (f old.slots.items x))) ∷ before (f old.slots.items x) (before (trees_of (drop k trees)) old.words)) next ∙
           part_before (f old.slots.items) xs i x r inside c.index-more-i.is
           (c.loop-i.invariant.rest ∙ ap (λ k. stored_rest (rest_before (drop k trees))) later) old.words;
-      rest =
-          more_left (f old.slots.items) xs (suc i) inside ∙
-          ap (λ k. stored_rest (rest_before (drop k trees))) (let e : suc i ≡ i + 1 = omega arith in e);
+      rest = more_left (f old.slots.items) xs (suc i) inside ∙ ap (λ k. stored_rest (rest_before (drop k trees))) (let e : suc i ≡ i + 1 = omega arith in e);
     }
 
 pub pair_race-returns-clause-words : goal.pair_race-returns-clause-words

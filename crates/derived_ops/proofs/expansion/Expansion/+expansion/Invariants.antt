@@ -1,10 +1,5 @@
-use Rattle.std.proofs.Common.{◌≡◌, ◌+◌, ◌*◌, map, drop}
-use Rattle.effect_term.specs.ExpansionSize.{expansion_size_of, total_expansion_size}
-use Rattle.derived_ops.specs.Expansion.{expansion}
-use Rattle.derived_ops.specs.Private.Sequences.{rest_before, trees_of}
-use Rattle.derived_ops.specs.Private.Shapes.{size_at, size_of_end, size_of_ends}
-use Rattle.derived_ops.specs.Private.Writing.{before, stored_rest}
-use Rattle.derived_ops.specs.Reading.{source_of}
+use Rattle.derived_ops.proofs.Prelude.{◌≡◌, ◌+◌, ◌*◌, map, drop, expansion_size_of, total_expansion_size, expansion, rest_before, trees_of, size_at}
+use Rattle.derived_ops.proofs.Prelude.{size_of_end, size_of_ends, before, stored_rest, source_of}
 use Rattle.derived_ops.proofs.expansion.Expansion.+expansion.Given as goal
 
 abbrev pub decreases-part : goal.decreases-part
@@ -26,8 +21,7 @@ abbrev pub decreases-behind : goal.decreases-behind
 decreases-behind l = 16 * (expansion_size_of l.second.now + total_expansion_size l.more.now) + 2
 
 abbrev pub decreases-sequence : goal.decreases-sequence
-decreases-sequence l =
-    16 * (expansion_size_of l.first.now + expansion_size_of l.second.now + total_expansion_size l.more.now) + 3
+decreases-sequence l = 16 * (expansion_size_of l.first.now + expansion_size_of l.second.now + total_expansion_size l.more.now) + 3
 
 abbrev pub decreases-end : goal.decreases-end
 decreases-end l = 16 * size_of_end l.end + 2

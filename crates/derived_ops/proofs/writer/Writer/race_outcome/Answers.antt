@@ -1,9 +1,6 @@
-use Rattle.std.proofs.Common.{◌∙◌, ◌+◌, ◌∷◌, ap}
-use Rattle.std.proofs.lemmas.Result.{on_ok_weaker}
+use Rattle.derived_ops.proofs.Prelude.{◌∙◌, ◌+◌, ◌∷◌, ap, on_ok_weaker, race_side, before}
 use Rattle.derived_ops.specs.declared.core_term.Operand.TheVariants as operand
 use Rattle.derived_ops.specs.declared.core_word.CoreWord.TheVariants as word
-use Rattle.derived_ops.specs.Expansion.{race_side}
-use Rattle.derived_ops.specs.Private.Writing.{before}
 use Rattle.derived_ops.proofs.writer.Writer.race_outcome.Goals as goal
 
 pub returns : goal.returns
