@@ -16,7 +16,7 @@ use crate::replay_order::obey_replay;
 use crate::run_order::obey_run;
 use crate::sample_order::obey_sample;
 use crate::seek_order::obey_seek;
-use crate::test_order::{Screens, obey_terms, obey_test};
+use crate::test_order::{obey_terms, obey_test};
 use crate::unmark_order::obey_unmark;
 use clap::error::ErrorKind;
 use clap::{ArgMatches, Error};
@@ -56,7 +56,7 @@ fn usage<O: TextOut, E: TextOut>(alloc: Global, error: &Error, out: &mut O, err:
 fn obey_request<R, I, O, E>(
     rt: &R,
     request: Request<'_>,
-    screens: Screens,
+    colors: bool,
     input: &mut I,
     out: &mut O,
     err: &mut E,
@@ -88,7 +88,7 @@ where
         Request::Run(running) => obey_run(rt, rt.alloc(), running, input, out, err),
         Request::Sample(sampling) => obey_sample(rt.alloc(), sampling, input, out, err),
         Request::Compare(comparing) => obey_compare(rt, rt.alloc(), comparing, out, err),
-        Request::Test(testing) => obey_test(rt, rt.alloc(), testing, screens, out, err),
+        Request::Test(testing) => obey_test(rt, rt.alloc(), testing, colors, out, err),
         Request::Terms(translating) => obey_terms(rt, rt.alloc(), translating, out, err),
     }
 }
@@ -109,12 +109,12 @@ fn refuse_request<E: TextOut>(alloc: Global, matches: &ArgMatches<'_>, err: &mut
 /// `Status::Succeeded` for help or the version, `Status::Usage` if the words or the schedule are wrong, and
 /// `Status::Fault` if memory ran out or a device failed.
 ///
-/// Help and the version go to `out`, what is wrong with the words to `err`, both in `clap`'s words. `screens` is
-/// what the devices are, which `test` asks for.
+/// Help and the version go to `out`, what is wrong with the words to `err`, both in `clap`'s words. `colors` is whether
+/// verdicts have colours if the words leave that open.
 pub fn command<'a, R, S, I, O, E>(
     rt: &R,
     words: &'a [S],
-    screens: Screens,
+    colors: bool,
     input: &mut I,
     out: &mut O,
     err: &mut E,
@@ -142,7 +142,7 @@ where
     };
     match all.try_get_matches_from(words) {
         Ok(matches) => match request_of(alloc, &matches) {
-            Ok(Some(request)) => obey_request(rt, request, screens, input, out, err),
+            Ok(Some(request)) => obey_request(rt, request, colors, input, out, err),
             Ok(None) => refuse_request(alloc, &matches, err),
             Err(_) => tell_fault(TextFault::NoMemory, err),
         },

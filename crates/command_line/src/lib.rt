@@ -28,4 +28,3 @@ mod watched_forms;
 
 pub use cli::command;
 pub use command_words::refuse_words;
-pub use test_order::Screens;

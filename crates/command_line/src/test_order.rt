@@ -5,7 +5,7 @@ ghost use Rattle.command_line.specs.Tests.{IsTestStatus, are_colored};
 ghost use Rattle.text_io.specs.Text.{OnlyOutFaults, is_write_fault};
 
 use command_words::{Coloring, TestForm, Testing, Translating};
-use model_suites::{Board, Progress, ProgressForm, Suite, SuiteForm, SuiteOrder, Told};
+use model_suites::{Board, Suite, SuiteForm, SuiteOrder, Told};
 use outcome_trace::{Status, TextFault, TextOut, ToWrite, tell_fault, write_text};
 use std::alloc::{AllocError, Global};
 use std::rt::Files;
@@ -16,13 +16,13 @@ use std::{fs, thread};
 
 /// Tests the models of files. Returns `Status::Succeeded` if all passed, `Status::Errored` if one failed or there is
 /// none, `Status::Unended` if none failed and one is undecided, `Status::Refused` if a file has a fault, which is
-/// written to `err`, and `Status::Fault` if a device failed or memory ran out. While models are explored, progress goes
-/// to `err` if the words ask for it or `err` is a terminal.
+/// written to `err`, and `Status::Fault` if a device failed or memory ran out. `colors` is whether verdicts have
+/// colours if the words leave that open.
 pub fn obey_test<R: Files + Clock + Threads + Wait + Sync, O: TextOut, E: TextOut>(
     rt: &R,
     alloc: Global,
     testing: Testing<'_>,
-    screens: Screens,
+    colors: bool,
     out: &mut O,
     err: &mut E,
 ) -> Status
@@ -42,7 +42,6 @@ pub fn obey_test<R: Files + Clock + Threads + Wait + Sync, O: TextOut, E: TextOu
         jobs,
         form,
         color,
-        progress,
     } = testing;
     let reports = Reports { junit, html };
     let order = SuiteOrder {
@@ -53,37 +52,15 @@ pub fn obey_test<R: Files + Clock + Threads + Wait + Sync, O: TextOut, E: TextOu
         form: suite_form(form),
         junit: junit.is_some(),
         html: html.is_some(),
-        color: has_colors(color, screens.colors),
+        color: has_colors(color, colors),
     };
     let Ok(suite) = Suite::open(rt, alloc, order, files.as_slice()) else {
         return tell_fault(TextFault::NoMemory, err);
     };
     if suite.faults().is_empty() {
-        let shown = progress_form(progress, screens.terminal);
-        let mut progress = Progress::new(alloc, shown, rt, err);
-        test_suite(rt, &suite, job_count(rt, jobs), reports, out, &mut progress)
+        test_suite(rt, &suite, job_count(rt, jobs), reports, out, err)
     } else {
         refuse_suite(&suite, err)
-    }
-}
-
-/// What the streams of a command are.
-#[derive(Clone, Copy)]
-pub struct Screens {
-    /// Whether verdicts have colours if the words leave that open.
-    pub colors: bool,
-    /// Whether standard error is a terminal.
-    pub terminal: bool,
-}
-
-// How progress is shown: in place on a terminal, in lines elsewhere if it is asked for.
-fn progress_form(asked: bool, terminal: bool) -> ProgressForm {
-    if terminal {
-        ProgressForm::InPlace
-    } else if asked {
-        ProgressForm::Lines
-    } else {
-        ProgressForm::Nothing
     }
 }
 
@@ -149,27 +126,27 @@ fn test_suite<R: Files + Clock + Threads + Wait + Sync, O: TextOut, E: TextOut>(
     jobs: usize,
     reports: Reports<'_>,
     out: &mut O,
-    progress: &mut Progress<'_, '_, R, E>,
+    err: &mut E,
 ) -> Status
-    requires { (O.seen out.old).failed ≡ false }
+    requires out { (O.seen out.old).failed ≡ false }
+    requires err { (E.seen err.old).failed ≡ false }
     ensures whole { result ≢ Status.Fault → (O.seen out.new).failed ≡ false }
     ensures status { IsTestStatus result }
 {
     let mut told = suite.told();
-    match write_models(rt, suite, jobs, &mut told, out, &mut *progress) {
-        Ok(()) => end_suite(rt, suite, told, reports, out, progress),
-        Err(fault) => progress.tell_fault(fault),
+    match write_models(rt, suite, jobs, &mut told, out) {
+        Ok(()) => end_suite(rt, suite, told, reports, out, err),
+        Err(fault) => tell_fault(fault, err),
     }
 }
 
 // Tests the models, and writes the report of each as soon as those before it are written.
-fn write_models<R: Clock + Threads + Wait + Sync, O: TextOut, E: TextOut>(
+fn write_models<R: Clock + Threads + Wait + Sync, O: TextOut>(
     rt: &R,
     suite: &Suite<'_>,
     jobs: usize,
     told: &mut Told,
     out: &mut O,
-    progress: &mut Progress<'_, '_, R, E>,
 ) -> Result<(), TextFault>
     requires { (O.seen out.old).failed ≡ false }
     ensures failed { (O.seen out.new).failed ≡ is_write_fault result }
@@ -182,78 +159,70 @@ fn write_models<R: Clock + Threads + Wait + Sync, O: TextOut, E: TextOut>(
         return Err(TextFault::NoMemory);
     };
     match write_text(opening.as_slice(), out) {
-        Ok(()) => {
-            let jobs = jobs.min(suite.len());
-            write_jobs(rt, suite, &board, jobs, told, out, progress)
-        }
+        Ok(()) => write_jobs(rt, suite, &board, jobs.min(suite.len()), told, out),
         Err(fault) => Err(fault),
     }
 }
 
-// The same, after the opening is written. This thread tests models, too, unless it shows progress.
-fn write_jobs<R: Clock + Threads + Wait + Sync, O: TextOut, E: TextOut>(
+// The same, after the opening is written. This thread tests models, too.
+fn write_jobs<R: Clock + Threads + Wait + Sync, O: TextOut>(
     rt: &R,
     suite: &Suite<'_>,
     board: &Board,
     jobs: usize,
     told: &mut Told,
     out: &mut O,
-    progress: &mut Progress<'_, '_, R, E>,
 ) -> Result<(), TextFault>
     requires { (O.seen out.old).failed ≡ false }
     ensures failed { (O.seen out.new).failed ≡ is_write_fault result }
     ensures only { OnlyOutFaults result }
 {
-    let threads = progress.threads(jobs);
-    if threads == 0 {
-        return write_tested(rt, suite, board, told, out, progress);
+    if jobs < 2 {
+        return write_tested(rt, suite, board, told, out);
     }
+    let threads = jobs - 1;
     let mut others = || suite.help(rt, board, threads);
     let mut own = || -> Result<(), TextFault>
         requires { (O.seen out.now).failed ≡ false }
         ensures { ((O.seen out.exit.now).failed ≡ is_write_fault result) × OnlyOutFaults result }
-    { write_tested(rt, suite, board, told, out, progress) };
+    { write_tested(rt, suite, board, told, out) };
     let (_, written) = join_mut(rt, &mut others, &mut own);
     written
 }
 
 // Writes the report of each model in its turn. If a write fails, no more models are taken.
-fn write_tested<R: Clock + Wait, O: TextOut, E: TextOut>(
+fn write_tested<R: Clock + Wait, O: TextOut>(
     rt: &R,
     suite: &Suite<'_>,
     board: &Board,
     told: &mut Told,
     out: &mut O,
-    progress: &mut Progress<'_, '_, R, E>,
 ) -> Result<(), TextFault>
     requires { (O.seen out.old).failed ≡ false }
     ensures failed { (O.seen out.new).failed ≡ is_write_fault result }
     ensures only { OnlyOutFaults result }
 {
-    let written = write_each(rt, suite, board, told, out, &mut *progress);
-    progress.erase();
+    let written = write_each(rt, suite, board, told, out);
     board.close();
     written
 }
 
 // Writes the report of each model in its turn.
-fn write_each<R: Clock + Wait, O: TextOut, E: TextOut>(
+fn write_each<R: Clock + Wait, O: TextOut>(
     rt: &R,
     suite: &Suite<'_>,
     board: &Board,
     told: &mut Told,
     out: &mut O,
-    progress: &mut Progress<'_, '_, R, E>,
 ) -> Result<(), TextFault>
     requires { (O.seen out.old).failed ≡ false }
     ensures failed { (O.seen out.new).failed ≡ is_write_fault result }
     ensures only { OnlyOutFaults result }
 {
     for index in 0..suite.len() {
-        let Ok(text) = tell_next(rt, suite, board, told, index, &mut *progress) else {
+        let Ok(text) = tell_next(rt, suite, board, told, index) else {
             return Err(TextFault::NoMemory);
         };
-        progress.erase();
         match write_text(text.as_slice(), out) {
             Ok(()) => {}
             Err(fault) => return Err(fault),
@@ -263,46 +232,48 @@ fn write_each<R: Clock + Wait, O: TextOut, E: TextOut>(
 }
 
 // The text that is printed as soon as a model is tested.
-fn tell_next<R: Clock + Wait, E: TextOut>(
+fn tell_next<R: Clock + Wait>(
     rt: &R,
     suite: &Suite<'_>,
     board: &Board,
     told: &mut Told,
     index: usize,
-    progress: &mut Progress<'_, '_, R, E>,
 ) -> Result<Vec<u8>, AllocError> {
-    let tested = suite.tested(rt, board, index, progress)?;
+    let tested = suite.tested(rt, board, index)?;
     suite.tell(told, tested)
 }
 
 // Writes what is printed after all models, and the reports that are asked for.
 #[tactic(auto, using(crate::proofs::TestLemmas::suite_status))]
-fn end_suite<R: Files + Clock, O: TextOut, E: TextOut>(
+fn end_suite<R: Files, O: TextOut, E: TextOut>(
     rt: &R,
     suite: &Suite<'_>,
     told: Told,
     reports: Reports<'_>,
     out: &mut O,
-    progress: &mut Progress<'_, '_, R, E>,
+    err: &mut E,
 ) -> Status
-    requires { (O.seen out.old).failed ≡ false }
+    requires out { (O.seen out.old).failed ≡ false }
+    requires err { (E.seen err.old).failed ≡ false }
     ensures whole { result ≢ Status.Fault → (O.seen out.new).failed ≡ false }
     ensures status { IsTestStatus result }
 {
     let mut told = told;
     let Ok(text) = suite.ending(&mut told) else {
-        return progress.tell_fault(TextFault::NoMemory);
+        return tell_fault(TextFault::NoMemory, err);
     };
     let Ok(missing) = suite.missing() else {
-        return progress.tell_fault(TextFault::NoMemory);
+        return tell_fault(TextFault::NoMemory, err);
     };
-    progress.write(missing.as_slice());
     match write_text(text.as_slice(), out) {
         Ok(()) => match write_reports(rt, &told, reports) {
-            Ok(()) => told.status(),
-            Err(fault) => tell_report(fault, progress),
+            Ok(()) => {
+                let _ = write_text(missing.as_slice(), err);
+                told.status()
+            }
+            Err(fault) => tell_report(fault, err),
         },
-        Err(fault) => progress.tell_fault(fault),
+        Err(fault) => tell_fault(fault, err),
     }
 }
 
@@ -359,17 +330,36 @@ fn write_file<R: Files>(
 }
 
 // Writes the line of a report's fault, after the path if the file failed.
-fn tell_report<C: Clock, E: TextOut>(
-    report: ReportFault<'_>,
-    progress: &mut Progress<'_, '_, C, E>,
-) -> Status
+fn tell_report<E: TextOut>(report: ReportFault<'_>, err: &mut E) -> Status
+    requires { (E.seen err.old).failed ≡ false }
     ensures { result ≡ Status.Fault }
 {
-    if let TextFault::WriteFault(_) = report.fault {
-        progress.write(report.path.as_bytes());
-        progress.write(b": ");
+    match report.fault {
+        TextFault::WriteFault(_) => tell_file(report.path, report.fault, err),
+        _ => tell_fault(report.fault, err),
     }
-    progress.tell_fault(report.fault)
+}
+
+// Writes the line of a fault after the path of a file. If `err` fails, nothing more is written.
+fn tell_file<E: TextOut>(path: &str, fault: TextFault, err: &mut E) -> Status
+    requires { (E.seen err.old).failed ≡ false }
+    ensures { result ≡ Status.Fault }
+{
+    match write_text(path.as_bytes(), err) {
+        Ok(()) => tell_separated(fault, err),
+        Err(_) => Status::Fault,
+    }
+}
+
+// Writes the line of a fault after a colon.
+fn tell_separated<E: TextOut>(fault: TextFault, err: &mut E) -> Status
+    requires { (E.seen err.old).failed ≡ false }
+    ensures { result ≡ Status.Fault }
+{
+    match write_text(b": ", err) {
+        Ok(()) => tell_fault(fault, err),
+        Err(_) => Status::Fault,
+    }
 }
 
 /// Prints the terms of the models of a file. Returns `Status::Succeeded`, `Status::Refused` if the file has a fault,

@@ -1,18 +1,12 @@
 //! What a command line writes, and its status.
 
-use command_line::{Screens, command};
+use command_line::command;
 use outcome_trace::{FromRead, ToWrite};
 use std::io::{Read, Write};
 use std::rt::Files;
 use std::sync::Wait;
 use std::thread::Threads;
 use std::time::Clock;
-
-/// Devices that are no terminals.
-pub const NO_TERMINAL: Screens = Screens {
-    colors: false,
-    terminal: false,
-};
 
 /// A replay that is long enough for short programs to end.
 pub const LONG: &[&str] = &["fiber_cli", "replay", "--schedule", "0*99"];
@@ -35,7 +29,7 @@ pub fn told<
     let status = command(
         rt,
         words,
-        NO_TERMINAL,
+        false,
         &mut FromRead::new(input),
         &mut ToWrite::new(out),
         &mut ToWrite::new(&mut err),

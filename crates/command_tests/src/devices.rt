@@ -1,6 +1,6 @@
 //! Command lines with devices that give or take little at a time, and that fail.
 
-use crate::answers::{LONG, NO_TERMINAL, answered, told};
+use crate::answers::{LONG, answered, told};
 use command_line::command;
 use outcome_trace::{FromRead, ToWrite};
 use std::alloc::{AllocError, Global};
@@ -251,7 +251,7 @@ fn keeps_the_status_where_a_usage_fault_cannot_be_told(rt: HostRuntime) {
     let status = command(
         &rt,
         &["fiber_cli", "walk"],
-        NO_TERMINAL,
+        false,
         &mut FromRead::new(b"(pure 7)".as_slice()),
         &mut ToWrite::new(&mut out),
         &mut ToWrite::new(Narrow {

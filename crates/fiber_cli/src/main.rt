@@ -3,7 +3,7 @@
 //! `command_line` obeys the words.
 #![tactic(auto)]
 
-use command_line::{Screens, command, refuse_words};
+use command_line::{command, refuse_words};
 use outcome_trace::{FromRead, TextFault, ToWrite, tell_fault};
 use std::alloc::AllocError;
 use std::env;
@@ -36,15 +36,12 @@ fn main(rt: HostRuntime) -> ExitCode {
             return ExitCode::from(status.code());
         }
     };
-    let screens = Screens {
-        colors: rt.stdout().is_terminal() && !is_set(&rt, "NO_COLOR"),
-        terminal: rt.stderr().is_terminal(),
-    };
+    let colors = rt.stdout().is_terminal() && !is_set(&rt, "NO_COLOR");
     let status = match words {
         Ok(words) => command(
             &rt,
             words.as_slice(),
-            screens,
+            colors,
             &mut input,
             &mut out,
             &mut err,

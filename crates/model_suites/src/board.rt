@@ -6,7 +6,6 @@ use crate::tested::Became;
 use std::alloc::{AllocError, Global};
 use std::sync::atomic::{AtomicUsize, Ordering};
 use std::sync::{Condvar, Mutex, Wait};
-use std::time::{Clock, Duration};
 
 /// A board on which threads leave the results of models, by their numbers. At most one thread claims each model.
 #[derive(Drop)]
@@ -15,8 +14,6 @@ pub struct Board {
     count: usize,
     // The number of the first model that no thread has claimed.
     next: AtomicUsize,
-    // For each model, 0 if it isn't being explored, else 1 more than the number of worlds that its search has found.
-    exploring: Vec<AtomicUsize>,
     // The results that were left and not yet taken.
     left: Mutex<Left>,
     // Notifies threads that a result was left.
@@ -36,15 +33,12 @@ impl Board {
     /// Returns a board for `count` models.
     pub(crate) fn new(alloc: Global, count: usize) -> Result<Board, AllocError> {
         let mut found = Vec::new(alloc);
-        let mut exploring = Vec::new(alloc);
         for _ in 0..count {
             found.push(None)?;
-            exploring.push(AtomicUsize::new(0))?;
         }
         Ok(Board {
             count,
             next: AtomicUsize::new(0),
-            exploring,
             left: Mutex::new(Left {
                 found,
                 lacks_memory: false,
@@ -65,34 +59,9 @@ impl Board {
         }
     }
 
-    /// Whether a thread has claimed the model of this number, or the board is closed.
-    pub(crate) fn is_claimed(&self, index: usize) -> bool {
-        index < self.next.load(Ordering::SeqCst)
-    }
-
     /// Closes the board: no model can be claimed any more.
     pub fn close(&self) {
         self.next.store(self.count, Ordering::SeqCst);
-    }
-
-    /// Notes that a model is being explored, and the number of worlds that its search has found.
-    pub(crate) fn note(&self, index: usize, worlds: usize) {
-        if let Some(place) = self.exploring.get(index) {
-            place.store(worlds.saturating_add(1), Ordering::SeqCst);
-        }
-    }
-
-    /// Notes that a model is no longer being explored.
-    pub(crate) fn rest(&self, index: usize) {
-        if let Some(place) = self.exploring.get(index) {
-            place.store(0, Ordering::SeqCst);
-        }
-    }
-
-    /// The number of worlds that the search of a model has found. None if the model isn't being explored.
-    pub(crate) fn worlds(&self, index: usize) -> Option<usize> {
-        let noted = self.exploring.get(index)?.load(Ordering::SeqCst);
-        noted.checked_sub(1)
     }
 
     /// Leaves the result of a model, or that memory ran out.
@@ -104,17 +73,6 @@ impl Board {
     /// Whether the result of a model is here.
     pub(crate) fn has<R: Wait>(&self, rt: &R, index: usize) -> bool {
         self.left.lock(rt).has(index)
-    }
-
-    /// Waits at most a second until the result of a model is here or a thread ran out of memory. Returns whether one of
-    /// the two has happened.
-    pub(crate) fn waits_a_second<R: Clock + Wait>(&self, rt: &R, index: usize) -> bool {
-        let left = self.left.lock(rt);
-        let second = Duration::from_secs(1);
-        let (_left, waited) = self
-            .changed
-            .wait_timeout_while(rt, left, second, |left| left.lacks(index));
-        !waited.timed_out()
     }
 
     /// Waits until the result of a model is here, and takes it. `AllocError` if a thread ran out of memory.

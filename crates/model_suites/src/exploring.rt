@@ -4,11 +4,9 @@ ghost use Rattle.std.specs.Prelude.{◌≡◌, IfOk};
 ghost use Rattle.model_runs.specs.Verdicts.{worst};
 
 use crate::board::Board;
-use crate::progress::Progress;
 use crate::suite::{Models, SuiteForm};
 use crate::tested::{Became, Explored, Tested};
-use crate::watching::Noting;
-use model_runs::{ModelResult, SearchBounds, run_model_watched};
+use model_runs::{ModelResult, SearchBounds, TimeLimit, run_model_watched};
 use model_terms::{Refused, Source};
 use model_text::Model;
 use std::alloc::{AllocError, Global};
@@ -16,17 +14,12 @@ use std::sync::Wait;
 use std::thread;
 use std::thread::Threads;
 use std::time::{Clock, Instant};
-use text_io::TextOut;
-
-// The greatest number of seconds for which a thread that waits for a model shows progress.
-const MOST_SECONDS: usize = 10_000_000;
 
 // Explores the model of this number, unless models are only listed.
 fn explore<C: Clock>(
     clock: &C,
     alloc: Global,
     models: &Models<'_>,
-    board: &Board,
     index: usize,
 ) -> Result<Became, AllocError> {
     let Some(entry) = models.entries.get(index) else {
@@ -42,29 +35,28 @@ fn explore<C: Clock>(
     match models.order.form {
         SuiteForm::List => Ok(Became::Listed),
         SuiteForm::Report | SuiteForm::Json | SuiteForm::Tap => {
-            board.note(index, 0);
-            let begun = Instant::now(clock).ok();
-            let mut noting = Noting {
-                clock,
-                begun,
-                seconds: models.order.seconds,
-                stopped: false,
-                board,
-                index,
-            };
-            let found = run_model_watched(alloc, &file.source, &entry.model, bounds, &mut noting);
-            board.rest(index);
-            became_of(found, milliseconds_since(clock, begun))
+            let seconds = models.order.seconds;
+            explore_model(clock, alloc, &file.source, &entry.model, bounds, seconds)
         }
     }
 }
 
-// What became of a model whose exploration took this number of milliseconds.
-fn became_of(found: Result<ModelResult, Refused>, milliseconds: u64) -> Result<Became, AllocError>
-    requires { IfOk found (λ it. it.verdict ≡ worst it.claims.items) }
-{
-    match found {
-        Ok(result) => Ok(Became::Explored(explored(result, milliseconds))),
+// Explores and judges a model, within this number of seconds if one is given.
+fn explore_model<C: Clock>(
+    clock: &C,
+    alloc: Global,
+    source: &Source,
+    model: &Model,
+    bounds: SearchBounds,
+    seconds: Option<u64>,
+) -> Result<Became, AllocError> {
+    let mut limit = TimeLimit::new(clock, seconds);
+    let begun = limit.begun;
+    match run_model_watched(alloc, source, model, bounds, &mut limit) {
+        Ok(result) => {
+            let milliseconds = milliseconds_since(clock, begun);
+            Ok(Became::Explored(explored(result, milliseconds)))
+        }
         Err(Refused::NoMemory) => Err(AllocError),
         Err(Refused::Fault(fault)) => Ok(Became::Refused(fault)),
     }
@@ -100,7 +92,7 @@ fn help<R: Clock + Wait>(rt: &R, alloc: Global, models: &Models<'_>, board: &Boa
         let Some(index) = board.claim() else {
             return;
         };
-        board.put(rt, index, explore(rt, alloc, models, board, index));
+        board.put(rt, index, explore(rt, alloc, models, index));
     }
 }
 
@@ -116,67 +108,40 @@ pub(crate) fn help_all<R: Clock + Threads + Wait + Sync>(
 }
 
 /// Returns the result of the model of this number, from the board or by exploring the model. While another thread
-/// explores the model, the calling thread explores others, and then waits. If it shows progress, it explores a model
-/// only if no other thread does.
-pub(crate) fn tested_at<R: Clock + Wait, E: TextOut>(
+/// explores the model, the calling thread explores others, and then waits.
+pub(crate) fn tested_at<R: Clock + Wait>(
     rt: &R,
     alloc: Global,
     models: &Models<'_>,
     board: &Board,
     index: usize,
-    progress: &mut Progress<'_, '_, R, E>,
 ) -> Result<Tested, AllocError>
     ensures { IfOk result (λ it. it.index ≡ index) }
 {
-    let became = became_at(rt, alloc, models, board, index, progress)?;
+    let became = became_at(rt, alloc, models, board, index)?;
     Ok(Tested { index, became })
 }
 
 // Returns this result without the number of the model.
-fn became_at<R: Clock + Wait, E: TextOut>(
+fn became_at<R: Clock + Wait>(
     rt: &R,
     alloc: Global,
     models: &Models<'_>,
     board: &Board,
     index: usize,
-    progress: &mut Progress<'_, '_, R, E>,
 ) -> Result<Became, AllocError> {
     for _ in 0..models.entries.len() {
-        wait_showing(rt, models, board, index, &mut *progress);
         if board.has(rt, index) {
             return board.take(rt, index);
         }
         let Some(free) = board.claim() else {
             return board.take(rt, index);
         };
-        let found = explore(rt, alloc, models, board, free);
+        let found = explore(rt, alloc, models, free);
         if free == index {
             return found;
         }
         board.put(rt, free, found);
     }
     board.take(rt, index)
-}
-
-// Waits until the result of a model is on the board, and shows progress each second. Returns at once if no progress is
-// shown, and after a second if no thread has claimed the model.
-fn wait_showing<R: Clock + Wait, E: TextOut>(
-    rt: &R,
-    models: &Models<'_>,
-    board: &Board,
-    index: usize,
-    progress: &mut Progress<'_, '_, R, E>,
-) {
-    if !progress.is_shown() {
-        return;
-    }
-    for _ in 0..MOST_SECONDS {
-        if board.waits_a_second(rt, index) {
-            return;
-        }
-        progress.tell(models, board);
-        if !board.is_claimed(index) {
-            return;
-        }
-    }
 }

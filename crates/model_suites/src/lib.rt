@@ -3,24 +3,20 @@
 //! This crate uses the results of models (`model_runs`), their reports (`model_reports`), and the files of the system.
 //! [`Suite::open`] finds all faults of all files before any model is explored. Then one thread, or several that share a
 //! [`Board`], explore each model ([`Suite::help`], [`Suite::tested`]), and [`Suite::tell`] reports the models in the
-//! order of the files. Meanwhile [`Progress`] shows which models are being explored. The crate promises that the status
-//! follows from the verdicts of the models ([`Told::status`]), and that each verdict is the worst of its model's
-//! claims' verdicts. Tests show what is printed.
+//! order of the files. The crate promises that the status follows from the verdicts of the models ([`Told::status`]),
+//! and that each verdict is the worst of its model's claims' verdicts. Tests show what is printed.
 #![tactic(auto)]
 
 mod board;
 mod exploring;
-mod progress;
 mod reading;
 mod statuses;
 mod suite;
 mod terms;
 mod tested;
 mod told;
-mod watching;
 
 pub use board::Board;
-pub use progress::{Progress, ProgressForm};
 pub use reading::LONGEST;
 pub use statuses::status_of;
 pub use suite::{Suite, SuiteForm, SuiteOrder};

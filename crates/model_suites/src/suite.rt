@@ -5,7 +5,6 @@ ghost use Rattle.model_suites.specs.Statuses.{verdict_in};
 
 use crate::board::Board;
 use crate::exploring::{help_all, tested_at};
-use crate::progress::Progress;
 use crate::reading::{ReadProblem, read_path};
 use crate::terms::push_terms;
 use crate::tested::Tested;
@@ -22,7 +21,6 @@ use std::rt::Files;
 use std::sync::Wait;
 use std::thread::Threads;
 use std::time::Clock;
-use text_io::TextOut;
 
 /// The form of what is printed.
 #[derive(Clone, Copy, PartialEq, Eq, Debug)]
@@ -173,18 +171,17 @@ impl<'a> Suite<'a> {
     }
 
     /// Returns the result of the model of this number, from the board or by exploring the model. While another thread
-    /// explores the model, the calling thread explores others, and then waits. Meanwhile it shows progress. Each model
-    /// is asked for once. `AllocError` if memory runs out.
-    pub fn tested<R: Clock + Wait, E: TextOut>(
+    /// explores the model, the calling thread explores others, and then waits. Each model is asked for once.
+    /// `AllocError` if memory runs out.
+    pub fn tested<R: Clock + Wait>(
         &self,
         rt: &R,
         board: &Board,
         index: usize,
-        progress: &mut Progress<'_, '_, R, E>,
     ) -> Result<Tested, AllocError>
         ensures { IfOk result (λ it. it.index ≡ index) }
     {
-        tested_at(rt, self.alloc, &self.models, board, index, progress)
+        tested_at(rt, self.alloc, &self.models, board, index)
     }
 
     /// Adds the result of a model, and returns what is printed of the model at once. Models are added in the order of
