@@ -6,7 +6,7 @@ use Rattle.fiber_frames.specs.Fiber.{Fiber}
 use Rattle.scheduled_core.specs.{Core.{World, entered}, Fitting.AllFit, declared.report.Report.Report}
 use Rattle.world_search.{specs.{declared.landings.Entered.Entered, Landings.{EntersAt, IsNext}, Lists.IsMore}, proofs.Lists.more_same}
 use Rattle.every_schedule.specs.{declared.leaping.AtOnce.AtOnce, Places.{Place, placed, report_at, stepped}, Reduced.{after_own, behind, leapt, leapt_by}}
-use Rattle.every_schedule.specs.{Reduced.{or_stays, own_of, pushed, pushed_once, swept}, Private.{Keeping.IsKept, Numbered.{AreAt, AreWorlds, IsWorld}}}
+use Rattle.every_schedule.specs.{Reduced.{moved_on, or_stays, own_of, pushed, pushed_once, swept}, Private.{Keeping.IsKept, Numbered.{AreAt, AreWorlds, IsWorld}}}
 use Rattle.every_schedule.{specs.Private.{Numbered.{IsWorldOf, MayAdd, Numbers, picked, place_of}, Reporting.{AreAlike, AreOther}}, proofs.Bare.step_limits}
 use Rattle.every_schedule.proofs.{Bare.unborn_stays, Alikeness.{alike_reports, other_reports, same_lists}, Numbered.{is_place, map_get, one_world, picked_is}}
 use Rattle.every_schedule.proofs.Numbered.{places_added, places_more, rows_added, world_is, worlds_more}
@@ -30,10 +30,15 @@ once_limits p (Some f) = by (stepped p f) refl
     by (Ok q) e = stepped_limits p f q e
     by (Err d) e = refl
 
+moved_on_limits : (b : AtOnce) (n f : ℕ) (p : Place) → (moved_on b n f p).limits ≡ p.limits
+unfolding moved_on
+moved_on_limits b zero f p = refl
+moved_on_limits b (suc n) f p = moved_on_limits b n f (after_own p (own_of b p f)) ∙ once_limits p (own_of b p f)
+
 swept_limits : (b : AtOnce) (n : ℕ) (p : Place) → (swept b n p).limits ≡ p.limits
 unfolding swept
 swept_limits b zero p = refl
-swept_limits b (suc n) p = swept_limits b n (after_own p (own_of b p n)) ∙ once_limits p (own_of b p n)
+swept_limits b (suc n) p = swept_limits b n (moved_on b b.most n p) ∙ moved_on_limits b b.most n p
 
 pushed_limits : (b : AtOnce) (n : ℕ) (p : Place) → (pushed b n p).limits ≡ p.limits
 unfolding pushed
@@ -42,8 +47,8 @@ pushed_limits b (suc n) p = pushed_limits b n (pushed_once b p) ∙ swept_limits
 
 behind_limits : (n : AtOnce) (p : Place) (f : ℕ) (y : Result Place RunError) (q : Place) → stepped p f ≡ y → behind n y ≡ Ok q → q.limits ≡ p.limits
 behind_limits n p f (Ok x) q is e =
-    let same : pushed n n.most x ≡ q = cc in
-    ap (λ (r : Place). r.limits) (sym same) ∙ pushed_limits n n.most x ∙ stepped_limits p f x is
+    let same : pushed n n.rounds x ≡ q = cc in
+    ap (λ (r : Place). r.limits) (sym same) ∙ pushed_limits n n.rounds x ∙ stepped_limits p f x is
 behind_limits n p f (Err d) q is e = absurd (cc)
 
 leapt_limits : (n : AtOnce) (p : Place) (f : ℕ) (q : Place) (o : Option Fiber) → leapt_by n p f o ≡ Ok q → q.limits ≡ p.limits

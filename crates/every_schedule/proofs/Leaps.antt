@@ -15,7 +15,7 @@ use Rattle.every_schedule.specs.Explored.{HasMove}
 use Rattle.every_schedule.specs.Places.{Place, moves_at, stepped, wants}
 use Rattle.every_schedule.specs.declared.leaping.AtOnce.{AtOnce}
 use Rattle.every_schedule.specs.Reduced.{IsMade, after_own, behind, has_birth, has_own, if_own, is_made, is_own, is_own_at_once, leapt, leapt_by}
-use Rattle.every_schedule.specs.Reduced.{may_be, none_at_once, or_stays, own_of, pushed, pushed_once, swept}
+use Rattle.every_schedule.specs.Reduced.{may_be, moved_on, none_at_once, or_stays, own_of, pushed, pushed_once, swept}
 use Rattle.every_schedule.proofs.Bare.{idle_stays, own_from, unborn_stays}
 use Rattle.every_schedule.proofs.EarlyMoves.{birth_from, birth_moves, made_early}
 use Rattle.every_schedule.proofs.OwnKept.{or_cases}
@@ -112,23 +112,47 @@ module _ (b : AtOnce) (p : Place) where
   led_from q f true e on = led_once q f (stepped p f) e refl on
   led_from q f false e on = on
 
+-- ---- several own moves of one fiber
+moved_on_more : (b : AtOnce) (n f : ℕ) (p : Place) → moved_on b (suc n) f p ≡ moved_on b n f (after_own p (own_of b p f))
+unfolding moved_on
+moved_on_more b n f p = refl
+
+pub moved_on_none : (b : AtOnce) (f : ℕ) (p : Place) → moved_on b 0 f p ≡ p
+unfolding moved_on
+moved_on_none b f p = refl
+
+pub moved_on_next : (b : AtOnce) (n m f : ℕ) (p q : Place) → n ≡ suc m → q ≡ after_own p (own_of b p f) → moved_on b n f p ≡ moved_on b m f q
+moved_on_next b n m f p q e h = ap (λ i. moved_on b i f p) e ∙ moved_on_more b m f p ∙ ap (moved_on b m f) (sym h)
+
+-- a fiber without an own move has none later
+pub moved_on_stays : (b : AtOnce) (n f : ℕ) (p : Place) → after_own p (own_of b p f) ≡ p → moved_on b n f p ≡ p
+unfolding moved_on
+moved_on_stays b zero f p e = refl
+moved_on_stays b (suc n) f p e = ap (moved_on b n f) e ∙ moved_on_stays b n f p e
+
+moved_on_leads : (b : AtOnce) (n f : ℕ) (p q : Place) → Leads stepped (IsMade b) (moved_on b n f p) q → Leads stepped (IsMade b) p q
+unfolding moved_on
+moved_on_leads b zero f p q on = on
+moved_on_leads b (suc n) f p q on =
+    led_from b p q f (is_made b p.world f) refl (moved_on_leads b n f (after_own p (own_of b p f)) q on)
+
 -- ---- the own moves of several fibers
 pub swept_none : (b : AtOnce) (p : Place) → swept b 0 p ≡ p
 unfolding swept
 swept_none b p = refl
 
-swept_more : (b : AtOnce) (n : ℕ) (p : Place) → swept b (suc n) p ≡ swept b n (after_own p (own_of b p n))
+swept_more : (b : AtOnce) (n : ℕ) (p : Place) → swept b (suc n) p ≡ swept b n (moved_on b b.most n p)
 unfolding swept
 swept_more b n p = refl
 
-pub swept_next : (b : AtOnce) (n m : ℕ) (p q : Place) → n ≡ suc m → q ≡ after_own p (own_of b p m) → swept b n p ≡ swept b m q
+pub swept_next : (b : AtOnce) (n m : ℕ) (p q : Place) → n ≡ suc m → q ≡ moved_on b b.most m p → swept b n p ≡ swept b m q
 swept_next b n m p q e h = ap (λ i. swept b i p) e ∙ swept_more b m p ∙ ap (swept b m) (sym h)
 
 swept_leads : (b : AtOnce) (n : ℕ) (p q : Place) → Leads stepped (IsMade b) (swept b n p) q → Leads stepped (IsMade b) p q
 unfolding swept
 swept_leads b zero p q on = on
 swept_leads b (suc n) p q on =
-    led_from b p q n (is_made b p.world n) refl (swept_leads b n (after_own p (own_of b p n)) q on)
+    moved_on_leads b b.most n p q (swept_leads b n (moved_on b b.most n p) q on)
 
 pushed_leads : (b : AtOnce) (n : ℕ) (p : Place) → Leads stepped (IsMade b) p (pushed b n p)
 unfolding pushed
@@ -136,7 +160,7 @@ pushed_leads b zero p = Here p p refl
 pushed_leads b (suc n) p = swept_leads b (length p.world.fibers) p (pushed b n (pushed_once b p)) (pushed_leads b n (pushed_once b p))
 
 behind_leaps : (n : AtOnce) (y : Result Place RunError) → Leaps stepped (IsMade n) y (behind n y)
-behind_leaps n (Ok q) = (pushed n n.most q, pushed_leads n n.most q, refl)
+behind_leaps n (Ok q) = (pushed n n.rounds q, pushed_leads n n.rounds q, refl)
 behind_leaps n (Err e) = refl
 
 leaps_by : (n : AtOnce) (p : Place) (f : ℕ) (o : Option Fiber) → slice_get p.world.fibers f ≡ o →
@@ -156,7 +180,7 @@ pub leapt_rests : (n : AtOnce) (p : Place) (f : ℕ) → length p.world.fibers �
 leapt_rests n p f past = ap (leapt_by n p f) (slice_get_past p.world.fibers f past)
 
 -- the entry of a born fiber is followed by own moves
-pub leapt_goes : (n : AtOnce) (p : Place) (f : ℕ) (q r : Place) → f < length p.world.fibers → stepped p f ≡ Ok q → r ≡ pushed n n.most q →
+pub leapt_goes : (n : AtOnce) (p : Place) (f : ℕ) (q r : Place) → f < length p.world.fibers → stepped p f ≡ Ok q → r ≡ pushed n n.rounds q →
     leapt n p f ≡ Ok r
 leapt_goes n p f q r low goes is =
     let born = get_low p.world.fibers f low in

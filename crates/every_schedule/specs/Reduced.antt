@@ -162,23 +162,28 @@ abbrev pub after_own : Place → Option ℕ → Place
 after_own p None = p
 after_own p (Some f) = or_stays p (stepped p f)
 
--- one such move of each of the first n fibers that has one, the last fiber first
+-- at most n such moves of fiber f, one after another
+unfoldable pub moved_on : AtOnce → ℕ → ℕ → Place → Place
+moved_on m zero f p = p
+moved_on m (suc n) f p = moved_on m n f (after_own p (own_of m p f))
+
+-- such moves of each of the first n fibers, at most `most` of each, the last fiber first
 unfoldable pub swept : AtOnce → ℕ → Place → Place
 swept m zero p = p
-swept m (suc n) p = swept m n (after_own p (own_of m p n))
+swept m (suc n) p = swept m n (moved_on m m.most n p)
 
--- one such move of each fiber that has one
+-- a round: such moves of each fiber
 abbrev pub pushed_once : AtOnce → Place → Place
 pushed_once m p = swept m (length p.world.fibers) p
 
--- at most n such moves of each fiber
+-- n rounds
 unfoldable pub pushed : AtOnce → ℕ → Place → Place
 pushed m zero p = p
 pushed m (suc n) p = pushed m n (pushed_once m p)
 
 -- where an entry has led, followed by such moves
 abbrev pub behind : AtOnce → Result Place RunError → Result Place RunError
-behind n (Ok q) = Ok (pushed n n.most q)
+behind n (Ok q) = Ok (pushed n n.rounds q)
 behind n (Err e) = Err e
 
 abbrev pub leapt_by : AtOnce → Place → ℕ → Option Fiber → Result Place RunError
@@ -189,21 +194,22 @@ leapt_by n p f (Some g) = behind n (stepped p f)
 abbrev pub leapt : AtOnce → Place → ℕ → Result Place RunError
 leapt n p f = leapt_by n p f (slice_get p.world.fibers f)
 
--- up to 100 own moves and births of each fiber
+-- up to 100 own moves and births of each fiber, in 10 rounds
 abbrev pub hundred : AtOnce
-hundred = record { most = 100; stores = true; births = true }
+hundred = record { rounds = 10; most = 10; stores = true; births = true }
 
--- up to 100 own moves of each fiber
+-- up to 100 own moves of each fiber, one in a round
 abbrev pub hundred_own : AtOnce
-hundred_own = record { most = 100; stores = true; births = false }
+hundred_own = record { rounds = 100; most = 1; stores = true; births = false }
 
--- up to 100 own moves and births of each fiber, none of which sets or changes a ref
+-- up to 100 own moves and births of each fiber, none of which sets or changes a ref, in 10
+-- rounds
 abbrev pub hundred_still : AtOnce
-hundred_still = record { most = 100; stores = false; births = true }
+hundred_still = record { rounds = 10; most = 10; stores = false; births = true }
 
 -- no own moves
 abbrev pub none_at_once : AtOnce
-none_at_once = record { most = 0; stores = true; births = false }
+none_at_once = record { rounds = 0; most = 0; stores = true; births = false }
 
 -- the fiber's next move is an own move, and its call isn't refused
 pub record IsOwn (p : Place) (f : ℕ) : Type 0 where

@@ -34,6 +34,7 @@ use world_search::{Entered, Landing, Worlds};
 
 /// No own moves are made after an entry.
 pub(crate) const NONE: AtOnce = AtOnce {
+    rounds: 0,
     most: 0,
     stores: true,
     births: false,

@@ -23,7 +23,8 @@ use world_search::{Entered, Worlds};
 // The moves that are made at once after an entry: up to 100 own moves of each fiber. Births aren't among them: a birth
 // doesn't commute with the first entry of the fiber that it starts, and fair schedules count each entry.
 const AT_ONCE: AtOnce = AtOnce {
-    most: 100,
+    rounds: 100,
+    most: 1,
     stores: true,
     births: false,
 };

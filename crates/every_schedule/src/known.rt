@@ -133,10 +133,5 @@ fn code_of(what: Use) -> usize
 fn unknown(alloc: Global, many: u16) -> Result<Vec<Option<bool>>, AllocError>
     ensures { IfOk result (λ it. (g : Fiber) → TellUses g it.items) }
 {
-    let most = 9 * usize::from(many.min(MOST));
-    let mut uses = Vec::with_capacity(alloc, most)?;
-    for _place in 0..most {
-        uses.push(None)?;
-    }
-    Ok(uses)
+    vec![in alloc; None; 9 * usize::from(many.min(MOST))]
 }

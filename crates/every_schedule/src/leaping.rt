@@ -3,7 +3,8 @@ ghost use Rattle.std.specs.Prelude.{◌≡◌, ◌≢◌, ◌⊎◌, ◌++◌, �
 ghost use Rattle.std.specs.Prelude.{IfErr, IfOk, OnOk};
 ghost use Rattle.std.specs.Prelude.{Ok as GoesWell, Err as Fails};
 ghost use Rattle.scheduled_core.specs.Fitting.{AllFit};
-ghost use Rattle.every_schedule.specs.Reduced.{after_own, is_made, is_own_at_once, leapt, own_of, pushed, pushed_once};
+ghost use Rattle.every_schedule.specs.Reduced.{after_own, is_made, is_own_at_once, leapt, moved_on, own_of, pushed};
+ghost use Rattle.every_schedule.specs.Reduced.{pushed_once};
 ghost use Rattle.every_schedule.specs.Private.Standing.{IsOnward, IsSame, here};
 ghost use Rattle.every_schedule.specs.Private.Trails.{IsFirstOf, IsLeapTrail, IsOwnTrail};
 
@@ -17,7 +18,9 @@ use std::alloc::AllocError;
 /// Which own moves are made at once after an entry.
 #[derive(Clone, Copy)]
 pub(crate) struct AtOnce {
-    /// The most own moves of each fiber.
+    /// The most rounds over all fibers.
+    pub(crate) rounds: usize,
+    /// The most moves of a fiber in a round.
     pub(crate) most: usize,
     /// Moves that set or change a ref are among them.
     pub(crate) stores: bool,
@@ -89,12 +92,12 @@ fn add(trail: &mut Vec<u16>, fiber: u16) -> Result<(), AllocError>
 fn push(current: &mut Current, at_once: AtOnce, trail: &mut Vec<u16>) -> Result<(), AllocError>
     requires { AllFit (here current.old).world }
     ensures onward { IsOnward current.old current.new }
-    ensures goes { OnOk result (here current.new ≡ pushed at_once at_once.most (here current.old)) }
+    ensures goes { OnOk result (here current.new ≡ pushed at_once at_once.rounds (here current.old)) }
     ensures fits { OnOk result (AllFit (here current.new).world) }
     ensures trail { OnOk result (IsOwnTrail at_once trail.old.items trail.new.items (here current.old)
         (here current.new)) }
 {
-    for _move in 0..at_once.most {
+    for _round in 0..at_once.rounds {
         let moved = push_once(&mut *current, at_once, &mut *trail)?;
         if !moved {
             return Ok(());
@@ -103,7 +106,7 @@ fn push(current: &mut Current, at_once: AtOnce, trail: &mut Vec<u16>) -> Result<
     Ok(())
 }
 
-// Makes one own move of each fiber that has one, the last fiber first. Returns whether any was made.
+// Makes the own moves of a round: at most `most` of each fiber, the last fiber first. Returns whether any was made.
 fn push_once(
     current: &mut Current,
     at_once: AtOnce,
@@ -121,7 +124,7 @@ fn push_once(
     let mut moved = false;
     for done in 0..born {
         let fiber = (born - 1 - done) as u16;
-        let made = push_fiber(&mut *current, at_once, fiber, &mut *trail)?;
+        let made = push_on(&mut *current, at_once, fiber, &mut *trail)?;
         moved = either(moved, made);
     }
     Ok(moved)
@@ -132,6 +135,31 @@ fn either(one: bool, other: bool) -> bool
     ensures { result ≡ false → (one ≡ false) × (other ≡ false) }
 {
     one || other
+}
+
+// Makes own moves of this fiber, at most `most`, as long as it has one. Returns whether any was made.
+fn push_on(
+    current: &mut Current,
+    at_once: AtOnce,
+    fiber: u16,
+    trail: &mut Vec<u16>,
+) -> Result<bool, AllocError>
+    requires few { fiber < 1000 }
+    requires fits { AllFit (here current.old).world }
+    ensures onward { IsOnward current.old current.new }
+    ensures goes { OnOk result (here current.new ≡ moved_on at_once at_once.most fiber (here current.old)) }
+    ensures stays { IfOk result (λ it. it ≡ false → here current.new ≡ here current.old) }
+    ensures fits { OnOk result (AllFit (here current.new).world) }
+    ensures trail { OnOk result (IsOwnTrail at_once trail.old.items trail.new.items (here current.old)
+        (here current.new)) }
+{
+    for done in 0..at_once.most {
+        let made = push_fiber(&mut *current, at_once, fiber, &mut *trail)?;
+        if !made {
+            return Ok(done > 0);
+        }
+    }
+    Ok(at_once.most > 0)
 }
 
 // Makes an own move of this fiber, if it has one and its call isn't refused. Returns whether it was made.

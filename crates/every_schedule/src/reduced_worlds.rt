@@ -16,7 +16,8 @@ use world_search::{Entered, Worlds};
 
 /// The moves that are made at once after an entry: up to 100 own moves and births of each fiber.
 pub(crate) const AT_ONCE: AtOnce = AtOnce {
-    most: 100,
+    rounds: 10,
+    most: 10,
     stores: true,
     births: true,
 };

@@ -25,7 +25,8 @@ use world_search::{Claims, Entered, Landing, Worlds};
 /// The moves that are made at once after an entry: births, and own moves that set or change no ref. So each value of a
 /// ref is that of a kept world.
 pub(crate) const STILL: AtOnce = AtOnce {
-    most: 100,
+    rounds: 10,
+    most: 10,
     stores: false,
     births: true,
 };

@@ -4,9 +4,12 @@ ghost use Rattle.std.specs.List.{slice_get};
 ghost use Rattle.std.specs.List.Sorted.{IsPermutation};
 ghost use Rattle.derived_ops.specs.Expansion.{code_of};
 ghost use Rattle.derived_ops.specs.Reading.{source_of};
+ghost use Rattle.cell_registry.specs.declared.limits.Limits.{Limits as TheLimits};
 ghost use Rattle.cell_registry.specs.Cells.{AreLimits};
 ghost use Rattle.world_search.specs.declared.answers.Answer.{Answer as Found};
-ghost use Rattle.every_schedule.specs.Places.{first_place};
+ghost use Rattle.world_search.specs.Lists.{IsMore};
+ghost use Rattle.every_schedule.specs.Places.{Place, first_place};
+ghost use Rattle.every_schedule.specs.Private.Numbered.{IsWorld, IsWorldOf};
 ghost use Rattle.every_schedule.specs.Private.Trails.{AreSorted, AreUnfolded, EndApart, EndsAlone, IsKeptIn};
 ghost use Rattle.every_schedule.specs.Private.Trails.{IsLeftOut, IsUnfolded, rank_of};
 
@@ -47,11 +50,22 @@ pub(crate) fn unfold_all(
     ensures order { IfOk result (λ it. AreSorted it.answers.items) }
     ensures memory { IfErr result (λ e. e ≡ RunError.NoMemory) }
 {
+    let first = CoreWorld::first(alloc, program, limits)?;
+    let mut current = Current::new(alloc, first)?;
+    let registry = current.number()?;
+    let numbers = Vec::from_slice(alloc, current.numbers())?;
     let mut answers = Vec::new(alloc);
     let mut whole = true;
     for i in 0..found.len() {
         let it = &found[i];
-        let schedule = unfold(alloc, program, limits, it.schedule.as_slice(), at_once)?;
+        let schedule = unfold_from(
+            alloc,
+            &mut current,
+            registry,
+            numbers.as_slice(),
+            it.schedule.as_slice(),
+            at_once,
+        )?;
         if !add(&mut answers, schedule, it.end, most)? {
             whole = false;
         }
@@ -115,9 +129,40 @@ pub(crate) fn unfold(
 {
     let first = CoreWorld::first(alloc, program, limits)?;
     let mut current = Current::new(alloc, first)?;
+    let registry = current.number()?;
+    let numbers = Vec::from_slice(alloc, current.numbers())?;
+    unfold_from(
+        alloc,
+        &mut current,
+        registry,
+        numbers.as_slice(),
+        schedule,
+        at_once,
+    )
+}
+
+// Returns the entries that a schedule makes from the world with these numbers, own moves included. What `current` knows
+// of states serves the schedules that follow.
+fn unfold_from(
+    alloc: Global,
+    current: &mut Current,
+    registry: u32,
+    numbers: &[u32],
+    schedule: &[u16],
+    at_once: AtOnce,
+) -> Result<Vec<u16>, RunError>
+    requires { (k : TheLimits) × IsWorld k current.old.fibers current.old.registries
+        record { registry = registry; fibers = numbers.now } }
+    ensures fibers { IsMore current.old.fibers current.new.fibers }
+    ensures registries { IsMore current.old.registries current.new.registries }
+    ensures entries { IfOk result (λ it. (p : Place) → IsWorldOf current.old.fibers current.old.registries
+        record { registry = registry; fibers = numbers.now } p → IsUnfolded at_once p schedule.now it.items) }
+    ensures memory { IfErr result (λ e. e ≡ RunError.NoMemory) }
+{
+    current.go_to(registry, numbers)?;
     let mut trail = Vec::new(alloc);
     for fiber in schedule {
-        match leap(&mut current, *fiber, at_once, &mut trail) {
+        match leap(&mut *current, *fiber, at_once, &mut trail) {
             Ok(()) => {}
             Err(fault) => {
                 if is_memory(fault) {

@@ -6,50 +6,50 @@ use Rattle.every_schedule.proofs.Standing.{onward_none, onward_on}
 use Rattle.every_schedule.proofs.Trails.{own_more, own_none}
 use Rattle.every_schedule.proofs.leaping.push.Goals as goal
 
-pub loop-move-init : goal.loop-move-init
-loop-move-init c = record {
+pub loop-round-init : goal.loop-round-init
+loop-round-init c = record {
   onward = onward_none c.args.current.now;
-  goes = ap (λ i. pushed c.args.at_once i (here c.args.current.now)) (let e : c.args.at_once.most ≡ c.args.at_once.most - 0 = omega arith in e);
+  goes = ap (λ i. pushed c.args.at_once i (here c.args.current.now)) (let e : c.args.at_once.rounds ≡ c.args.at_once.rounds - 0 = omega arith in e);
   fits = c.requires;
   trail = own_none c.args.at_once c.args.trail.now.items (here c.args.current.now);
 }
 
 pub returns-then-not-moved-clause-goes : goal.returns-then-not-moved-clause-goes
 returns-then-not-moved-clause-goes c =
-    let known = c.loop-move.invariant in
+    let known = c.loop-round.invariant in
     let told = c.in_ok-moved.ensures in
     let next = here c.push_once.new.current in
-    let m : ℕ = c.args.at_once.most - (c.loop-move._move + 1) in
-    let left : c.args.at_once.most - c.loop-move._move ≡ suc m = omega arith in
-    sym (known.goes ∙ pushed_next c.args.at_once (c.args.at_once.most - c.loop-move._move) m (here c.loop-move.current) next left told.goes ∙
+    let m : ℕ = c.args.at_once.rounds - (c.loop-round._round + 1) in
+    let left : c.args.at_once.rounds - c.loop-round._round ≡ suc m = omega arith in
+    sym (known.goes ∙ pushed_next c.args.at_once (c.args.at_once.rounds - c.loop-round._round) m (here c.loop-round.current) next left told.goes ∙
     pushed_stays c.args.at_once m next (told.stays c.if-not-moved.true))
 
 pub returns-then-not-moved-clause-onward : goal.returns-then-not-moved-clause-onward
 returns-then-not-moved-clause-onward c =
-    onward_on c.args.current.now c.loop-move.current c.push_once.new.current c.loop-move.invariant.onward c.push_once.ensures.onward
+    onward_on c.args.current.now c.loop-round.current c.push_once.new.current c.loop-round.invariant.onward c.push_once.ensures.onward
 
 pub returns-then-not-moved-clause-trail : goal.returns-then-not-moved-clause-trail
 returns-then-not-moved-clause-trail c =
-    own_more c.args.at_once c.args.trail.now.items c.loop-move.trail.items c.push_once.new.trail.items (here c.args.current.now) (here c.loop-move.current)
-    (here c.push_once.new.current) c.loop-move.invariant.trail c.in_ok-moved.ensures.trail
+    own_more c.args.at_once c.args.trail.now.items c.loop-round.trail.items c.push_once.new.trail.items (here c.args.current.now) (here c.loop-round.current)
+    (here c.push_once.new.current) c.loop-round.invariant.trail c.in_ok-moved.ensures.trail
 
-pub loop-move-preserved : goal.loop-move-preserved
-loop-move-preserved c =
-    let known = c.loop-move.invariant in
+pub loop-round-preserved : goal.loop-round-preserved
+loop-round-preserved c =
+    let known = c.loop-round.invariant in
     let told = c.in_ok-moved.ensures in
     let next = here c.push_once.new.current in
-    let m : ℕ = c.args.at_once.most - (c.loop-move._move + 1) in
-    let left : c.args.at_once.most - c.loop-move._move ≡ suc m = omega arith in
+    let m : ℕ = c.args.at_once.rounds - (c.loop-round._round + 1) in
+    let left : c.args.at_once.rounds - c.loop-round._round ≡ suc m = omega arith in
     record {
-      onward = onward_on c.args.current.now c.loop-move.current c.push_once.new.current known.onward c.push_once.ensures.onward;
-      goes = known.goes ∙ pushed_next c.args.at_once (c.args.at_once.most - c.loop-move._move) m (here c.loop-move.current) next left told.goes;
+      onward = onward_on c.args.current.now c.loop-round.current c.push_once.new.current known.onward c.push_once.ensures.onward;
+      goes = known.goes ∙ pushed_next c.args.at_once (c.args.at_once.rounds - c.loop-round._round) m (here c.loop-round.current) next left told.goes;
       fits = told.fits;
-      trail = own_more c.args.at_once c.args.trail.now.items c.loop-move.trail.items c.push_once.new.trail.items (here c.args.current.now)
-          (here c.loop-move.current) next known.trail told.trail;
+      trail = own_more c.args.at_once c.args.trail.now.items c.loop-round.trail.items c.push_once.new.trail.items (here c.args.current.now)
+          (here c.loop-round.current) next known.trail told.trail;
     }
 
 pub returns-clause-goes : goal.returns-clause-goes
 returns-clause-goes c =
-    let known = c.loop-move.invariant in
-    let none : c.args.at_once.most - c.loop-move._move ≡ 0 = omega arith in
-    sym (known.goes ∙ ap (λ i. pushed c.args.at_once i (here c.loop-move.current)) none ∙ pushed_none c.args.at_once (here c.loop-move.current))
+    let known = c.loop-round.invariant in
+    let none : c.args.at_once.rounds - c.loop-round._round ≡ 0 = omega arith in
+    sym (known.goes ∙ ap (λ i. pushed c.args.at_once i (here c.loop-round.current)) none ∙ pushed_none c.args.at_once (here c.loop-round.current))

@@ -6,10 +6,10 @@ use Rattle.every_schedule.specs.Private.Trails.{IsOwnTrail}
 use Rattle.every_schedule.proofs.leaping.push.Given as goal
 
 -- the moves so far have led here, and the others lead on
-abbrev pub invariant-loop-move : goal.invariant-loop-move
-invariant-loop-move l = record {
+abbrev pub invariant-loop-round : goal.invariant-loop-round
+invariant-loop-round l = record {
   onward : IsOnward l.initial.current l.current;
-  goes : pushed l.at_once l.at_once.most (here l.initial.current) ≡ pushed l.at_once (l.at_once.most - l._move) (here l.current);
+  goes : pushed l.at_once l.at_once.rounds (here l.initial.current) ≡ pushed l.at_once (l.at_once.rounds - l._round) (here l.current);
   fits : AllFit (here l.current).world;
   trail : IsOwnTrail l.at_once l.initial.trail.items l.trail.items (here l.initial.current) (here l.current);
 }

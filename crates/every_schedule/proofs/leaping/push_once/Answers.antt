@@ -21,17 +21,17 @@ loop-done-preserved c =
     let known = c.loop-done.invariant in
     let told = c.in_ok-made.ensures in
     let now = here c.loop-done.current in
-    let next = here c.push_fiber.new.current in
+    let next = here c.push_on.new.current in
     let m : ℕ = c.few_born-born.result - 1 - c.loop-done.done in
     let place : m ≡ c.few_born-born.result - (c.loop-done.done + 1) = omega arith in
     let left : c.few_born-born.result - c.loop-done.done ≡ suc m = omega arith in
     record {
-      onward = onward_on c.args.current.now c.loop-done.current c.push_fiber.new.current known.onward c.push_fiber.ensures.onward;
+      onward = onward_on c.args.current.now c.loop-done.current c.push_on.new.current known.onward c.push_on.ensures.onward;
       goes = known.goes ∙ swept_next c.args.at_once (c.few_born-born.result - c.loop-done.done) m now next left told.goes ∙
           ap (λ i. swept c.args.at_once i next) place;
       stays = λ none. let both = c.either-moved.ensures none in told.stays both.1 ∙ known.stays both.0;
       fits = told.fits;
-      trail = own_more c.args.at_once c.args.trail.now.items c.loop-done.trail.items c.push_fiber.new.trail.items (here c.args.current.now) now
+      trail = own_more c.args.at_once c.args.trail.now.items c.loop-done.trail.items c.push_on.new.trail.items (here c.args.current.now) now
           next known.trail told.trail;
     }
 

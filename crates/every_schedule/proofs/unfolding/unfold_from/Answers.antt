@@ -1,21 +1,22 @@
 use Rattle.std.proofs.{Common.{◌≡◌, ℕ, ◌≤◌, [], get_or, List, length, Ok, Err, refl, sym, ap, ◌∙◌, subst, arith}, lemmas.List.{take_all, Folds.fold_stuck}}
 use Rattle.std.proofs.lemmas.List.Sums.{fold_more}
-use Rattle.derived_ops.specs.{Expansion.code_of, Reading.source_of}
-use Rattle.world_search.specs.Systems.{entered, run}
-use Rattle.every_schedule.specs.{Places.{Place, first_place}, Reduced.leapt, Private.{Standing.here, Trails.{IsLeapTrail, IsTrail}}}
-use Rattle.every_schedule.proofs.{Leaps.refused_with, Trails.{leap_trail, trail_more, trail_none, trail_whole}}
-use Rattle.scheduled_core.specs.Fitting.{AllFit}
-use Rattle.every_schedule.proofs.unfolding.unfold.Goals as goal
+use Rattle.world_search.{specs.{Lists.IsMore, Systems.{entered, run}}, proofs.Lists.more_same}
+use Rattle.every_schedule.specs.{Places.Place, Reduced.leapt, Private.{Numbered.{IsWorld, IsWorldOf, Numbers}, Standing.{IsOnward, here}, Trails.{IsLeapTrail, IsTrail, IsUnfolded}}}
+use Rattle.every_schedule.proofs.{Leaps.refused_with, Numbered.{fits_so, one_world}, Standing.{onward_none, onward_on}}
+use Rattle.every_schedule.proofs.Trails.{leap_trail, trail_more, trail_none, trail_whole}
+use Rattle.fiber_frames.specs.Fiber.{Fiber}
+use Rattle.cell_registry.specs.Plain.{PlainView}
+use Rattle.every_schedule.proofs.unfolding.unfold_from.Goals as goal
 
 pub loop-fiber-init : goal.loop-fiber-init
 loop-fiber-init c =
-    let first = first_place (code_of (source_of c.args.program.now)) c.args.limits in
-    let same : here c.in_ok-current.current ≡ first = c.in_ok-current.ensures.here ∙ c.in_ok-first.ensures in
+    let first = here c.go_to.new.self in
     record {
-      fits = subst (λ (p : Place). AllFit p.world) (sym c.in_ok-current.ensures.here) c.new.ensures.fits;
-      goes = ap Ok (sym same);
-      trail = subst (λ (l : List ℕ). IsTrail [] l first (Ok (here c.in_ok-current.current))) (sym c.new-trail.ensures.items)
-          (subst (λ (x : Place). IsTrail [] [] first (Ok x)) (sym same) (trail_none [] first));
+      onward = onward_none c.go_to.new.self;
+      fits = fits_so c.requires.0 c.args.current.now.fibers c.args.current.now.registries (record { registry = c.args.registry; fibers = c.args.numbers.now }) first
+          c.requires.1 c.in_ok-go_to.ensures.here;
+      goes = refl;
+      trail = subst (λ (l : List ℕ). IsTrail [] l first (Ok first)) (sym c.new.ensures.items) (trail_none [] first);
     }
 
 pub leap-requires : goal.leap-requires
@@ -24,10 +25,11 @@ leap-requires c = c.loop-fiber.invariant.fits
 pub loop-fiber-preserved : goal.loop-fiber-preserved
 loop-fiber-preserved c =
     let known = c.loop-fiber.invariant in
-    let first = first_place (code_of (source_of c.args.program.now)) c.args.limits in
+    let first = here c.go_to.new.self in
     let i = c.loop-fiber.fiber-index in
     let f = get_or c.args.schedule.now i 0 in
     record {
+      onward = onward_on c.go_to.new.self c.loop-fiber.current c.leap.new.current known.onward c.leap.ensures.onward;
       fits = c.in-Ok.ensures.fits;
       goes = fold_more (entered (leapt c.args.at_once)) (Ok first) c.args.schedule.now i 0 c.loop-fiber-test.true ∙
           ap (λ x. entered (leapt c.args.at_once) x f) known.goes ∙ c.in-Ok.ensures.goes;
@@ -37,10 +39,10 @@ loop-fiber-preserved c =
     }
 
 pub returns-in-Err-clause-entries : goal.returns-in-Err-clause-entries
-returns-in-Err-clause-entries c =
+returns-in-Err-clause-entries c = λ p at.
     let known = c.loop-fiber.invariant in
     let n = c.args.at_once in
-    let first = first_place (code_of (source_of c.args.program.now)) c.args.limits in
+    let first = here c.go_to.new.self in
     let i = c.loop-fiber.fiber-index in
     let f = get_or c.args.schedule.now i 0 in
     let fault = c.in-Err.fault in
@@ -50,16 +52,22 @@ returns-in-Err-clause-entries c =
     let led : run (leapt n) (Ok first) c.args.schedule.now ≡ Err fault =
     sym (fold_stuck (entered (leapt n)) (Err fault) (λ g. refl) (Ok first) c.args.schedule.now i 0 c.loop-fiber-test.true
     (ap (λ x. entered (leapt n) x f) known.goes ∙ stops.0)) in
-    trail_whole n first c.args.schedule.now c.leap.new.trail.items (Err fault)
+    let same : first ≡ p = one_world p.limits c.args.current.now.fibers c.args.current.now.registries
+    (record { registry = c.args.registry; fibers = c.args.numbers.now }) p first at refl c.in_ok-go_to.ensures.here in
+    subst (λ (x : Place). IsUnfolded n x c.args.schedule.now c.leap.new.trail.items) same
+    (trail_whole n first c.args.schedule.now c.leap.new.trail.items (Err fault)
     (trail_more [] c.loop-fiber.trail.items c.leap.new.trail.items first (here c.loop-fiber.current) (Err fault) known.trail
-    (leap_trail n c.loop-fiber.trail.items c.leap.new.trail.items (here c.loop-fiber.current) f (Err fault) stops.1 stops.0)) led
+    (leap_trail n c.loop-fiber.trail.items c.leap.new.trail.items (here c.loop-fiber.current) f (Err fault) stops.1 stops.0)) led)
 
 pub returns-clause-entries : goal.returns-clause-entries
-returns-clause-entries c =
+returns-clause-entries c = λ p at.
     let known = c.loop-fiber.invariant in
     let n = c.args.at_once in
-    let first = first_place (code_of (source_of c.args.program.now)) c.args.limits in
+    let first = here c.go_to.new.self in
     let past : length c.args.schedule.now ≤ c.loop-fiber.fiber-index = omega arith in
     let led : run (leapt n) (Ok first) c.args.schedule.now ≡ Ok (here c.loop-fiber.current) =
     ap (run (leapt n) (Ok first)) (sym (take_all c.loop-fiber.fiber-index c.args.schedule.now past)) ∙ known.goes in
-    trail_whole n first c.args.schedule.now c.loop-fiber.trail.items (Ok (here c.loop-fiber.current)) known.trail led
+    let same : first ≡ p = one_world p.limits c.args.current.now.fibers c.args.current.now.registries
+    (record { registry = c.args.registry; fibers = c.args.numbers.now }) p first at refl c.in_ok-go_to.ensures.here in
+    subst (λ (x : Place). IsUnfolded n x c.args.schedule.now c.loop-fiber.trail.items) same
+    (trail_whole n first c.args.schedule.now c.loop-fiber.trail.items (Ok (here c.loop-fiber.current)) known.trail led)
