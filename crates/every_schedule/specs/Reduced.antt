@@ -202,8 +202,7 @@ hundred = record { rounds = 10; most = 10; stores = true; births = true }
 abbrev pub hundred_own : AtOnce
 hundred_own = record { rounds = 100; most = 1; stores = true; births = false }
 
--- up to 100 own moves and births of each fiber, none of which sets or changes a ref, in 10
--- rounds
+-- up to 100 own moves and births of each fiber, none of which sets or changes a ref, in 10 rounds
 abbrev pub hundred_still : AtOnce
 hundred_still = record { rounds = 10; most = 10; stores = false; births = true }
 
