@@ -9,3 +9,5 @@ pub mod Standing
 pub mod Reporting
 pub mod Trails
 pub mod Seen
+pub mod Stopping
+pub mod Leanings

@@ -13,6 +13,7 @@ ghost use Rattle.every_schedule.specs.Claims.{IsMetIn, Meets};
 
 use crate::claims::{Claim, SeenWorld};
 use crate::core_world::CoreWorld;
+use crate::leanings::none_fall;
 use crate::leaping::is_memory;
 use crate::own_moves::stored_by;
 use crate::seen_worlds::{STILL, SeenWorlds, note_ref};
@@ -63,9 +64,10 @@ pub fn search_claims<V: Watcher>(
     let mut worlds = SeenWorlds::new(alloc, program, limits)?;
     let found = world_search::search_claims(alloc, &mut worlds, claims, bounds, watcher)?;
     let met = unfold_met(alloc, program, limits, found.met.as_slice())?;
+    let sure = none_fall(alloc, claims)?;
     let unfolded = Claimed {
         met,
-        complete: found.complete,
+        complete: found.complete && sure,
         halted: found.halted,
         worlds: found.worlds,
         bytes: found.bytes,

@@ -229,9 +229,9 @@ impl Worlds for SeenWorlds {
 impl Claims for SeenWorlds {
     type Claim = Claim;
 
-    ghost use Rattle.every_schedule.specs.Claims.{is_met};
+    ghost use Rattle.every_schedule.specs.Private.Stopping.{meets_here};
 
-    ghost meets = { is_met };
+    ghost meets = { meets_here };
 
     fn meets(&self, world: usize, claim: &Claim) -> Result<bool, AllocError> {
         let row = &self.rows.items[world];
