@@ -70,28 +70,28 @@ pub data AllLean : List Leaning → List Bool → List Bool → Type 0 where
 
 lean_push : (ls : List Leaning) (xs ys : List Bool) → AllLean ls xs ys → (l : Leaning) (a b : Bool) → Leans l a b →
     AllLean (ls ++ l ∷ []) (xs ++ a ∷ []) (ys ++ b ∷ [])
-lean_push _ _ _ none_leans l a b h = one_leans l a b [] [] [] h none_leans
-lean_push _ _ _ (one_leans m c d ls xs ys k rest) l a b h =
+lean_push us vs ws none_leans l a b h = one_leans l a b [] [] [] h none_leans
+lean_push us vs ws (one_leans m c d ls xs ys k rest) l a b h =
     one_leans m c d (ls ++ l ∷ []) (xs ++ a ∷ []) (ys ++ b ∷ []) k (lean_push ls xs ys rest l a b h)
 
 lean_take : (n : ℕ) (ls : List Leaning) (xs ys : List Bool) → AllLean ls xs ys → AllLean (take n ls) (take n xs) (take n ys)
 lean_take zero ls xs ys h = none_leans
-lean_take (suc n) _ _ _ none_leans = none_leans
-lean_take (suc n) _ _ _ (one_leans m c d ls xs ys k rest) = one_leans m c d (take n ls) (take n xs) (take n ys) k (lean_take n ls xs ys rest)
+lean_take (suc n) us vs ws none_leans = none_leans
+lean_take (suc n) us vs ws (one_leans m c d ls xs ys k rest) = one_leans m c d (take n ls) (take n xs) (take n ys) k (lean_take n ls xs ys rest)
 
 lean_at : (n : ℕ) (ls : List Leaning) (xs ys : List Bool) → AllLean ls xs ys →
     Leans (slice_index_or ls n steady) (slice_index_or xs n false) (slice_index_or ys n false)
-lean_at n _ _ _ none_leans = same_leans false
-lean_at zero _ _ _ (one_leans m c d ls xs ys k rest) = k
-lean_at (suc n) _ _ _ (one_leans m c d ls xs ys k rest) = lean_at n ls xs ys rest
+lean_at n us vs ws none_leans = same_leans false
+lean_at zero us vs ws (one_leans m c d ls xs ys k rest) = k
+lean_at (suc n) us vs ws (one_leans m c d ls xs ys k rest) = lean_at n ls xs ys rest
 
 pub record AreLong (n : ℕ) (xs ys : List Bool) : Type 0 where
   pub one : length xs ≡ n
   pub other : length ys ≡ n
 
 long : (ls : List Leaning) (xs ys : List Bool) → AllLean ls xs ys → AreLong (length ls) xs ys
-long _ _ _ none_leans = record { one = refl; other = refl }
-long _ _ _ (one_leans m c d ls xs ys k rest) = let h = long ls xs ys rest in record { one = ap suc h.one; other = ap suc h.other }
+long us vs ws none_leans = record { one = refl; other = refl }
+long us vs ws (one_leans m c d ls xs ys k rest) = let h = long ls xs ys rest in record { one = ap suc h.one; other = ap suc h.other }
 
 lean_rest : (ls : List Leaning) (xs ys : List Bool) → AllLean ls xs ys → AllLean (rest_of ls) (without_last xs) (without_last ys)
 lean_rest ls xs ys h =

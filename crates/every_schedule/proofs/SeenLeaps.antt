@@ -113,8 +113,9 @@ standing_kept p q f final e = elim (enters p f q e) [
 
     gone : (x : Place) → entering p f ≡ Ok x → standing_of (unnoted x.world) ≡ standing_of p.world
     gone x goes =
-        let led : Ok record { limits = p.limits; world = still.world } ≡ Ok x = sym (ap (placed p.limits) still.is) ∙ goes in
-        let same : record { limits = p.limits; world = still.world } ≡ x = cc in
+        let there : Place = record { limits = p.limits; world = still.world } in
+        let led : Ok there ≡ Ok x = sym (ap (placed p.limits) still.is) ∙ goes in
+        let same : there ≡ x = cc in
         subst (λ (y : Place). standing_of (unnoted y.world) ≡ standing_of p.world) same
         (standing_same (unnoted still.world) p.world (final_bare still.world still.final) final still.reports)
 

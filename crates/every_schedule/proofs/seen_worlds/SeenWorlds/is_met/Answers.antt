@@ -10,7 +10,7 @@ use Rattle.every_schedule.specs.Places.{Place}
 use Rattle.every_schedule.specs.Private.Stopping.{meets_here}
 use Rattle.every_schedule.specs.Private.Seen.{KeptViews, view_of}
 use Rattle.every_schedule.proofs.SeenRows.{view_at, view_is}
-use Rattle.every_schedule.proofs.seen_worlds.SeenWorldsClaims.meets.Goals as goal
+use Rattle.every_schedule.proofs.seen_worlds.SeenWorlds.is_met.Goals as goal
 
 pub world-requires : goal.world-requires
 world-requires c =
