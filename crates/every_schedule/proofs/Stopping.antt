@@ -1,7 +1,7 @@
 -- How far a world has come: what is computed of it is so, and entries at a final world keep it.
-use Rattle.std.proofs.Common.{◌≡◌, ◌≢◌, ◌⊎◌, inl, inr, ℕ, zero, suc, ◌+◌, ◌≤◌, not, ◌&&◌, ◌||◌, Bool, true, false, List, [], ◌∷◌, length, map, Option, Some, None}
+use Rattle.std.proofs.Common.{◌≡◌, ◌≢◌, ◌⊎◌, inl, inr, ℕ, zero, suc, ◌+◌, ◌<◌, ◌≤◌, not, ◌&&◌, ◌||◌, Bool, true, false, List, [], ◌∷◌, length, map, Option, Some, None}
 use Rattle.std.proofs.Common.{Ok, refl, sym, ap, ap₂, ◌∙◌, subst, arith}
-use Rattle.std.specs.Prelude.{is_none}
+use Rattle.std.specs.Prelude.{is_none, is_some, get_or}
 use Rattle.std.specs.List.{list_all, slice_get}
 use Rattle.effect_term.specs.declared.reply.{Outcome.Outcome, Reply.Reply}
 use Rattle.derived_ops.specs.Tree.{Mask}
@@ -53,7 +53,7 @@ is_kind Ceded e = absurd (cc)
 is_kind (Born t) e = absurd (cc)
 is_kind (Ended o) e = absurd (cc)
 
-some_end : (o : Option Outcome) → not (is_none o) ≡ true → (x : Outcome) × (o ≡ Some x)
+some_end : (o : Option Outcome) → is_some o ≡ true → (x : Outcome) × (o ≡ Some x)
 some_end None e = absurd (cc)
 some_end (Some x) e = (x, refl)
 
@@ -61,7 +61,7 @@ ended_so : (g : Fiber) → ends g ≡ true → HasEnded g
 ended_so g e = some_end (outcome_of g) e
 
 so_ended : (g : Fiber) → HasEnded g → ends g ≡ true
-so_ended g h = ap (λ (o : Option Outcome). not (is_none o)) h.1
+so_ended g h = ap (λ (o : Option Outcome). is_some o) h.1
 
 unseen_so : (l : Look) → is_unseen l ≡ true → l ≢ Seen
 unseen_so Due e = λ n. cc
@@ -156,6 +156,10 @@ so_first (g ∷ gs) h =
     let same : g ≡ h.0 = (let q : Some g ≡ Some h.0 = h.1 in cc) in
     so_ended g (subst (λ (x : Fiber). HasEnded x) (sym same) h.2)
 
+pub first_at : (gs : List Fiber) (g : Fiber) → 0 < length gs → g ≡ get_or gs 0 g → ends g ≡ first_ends gs
+first_at [] g low is = absurd (omega arith)
+first_at (x ∷ gs) g low is = ap ends is
+
 all_so : (gs : List Fiber) → list_all ends gs ≡ true → (f : ℕ) (g : Fiber) → slice_get gs f ≡ Some g → HasEnded g
 all_so [] e f g at = absurd (cc)
 all_so (x ∷ gs) e zero g at =
@@ -202,7 +206,7 @@ stands_so w x h = by x (standing_of w) h (standing_told w)
 
 -- worlds with the same reports, both of which are final, stand in the same way
 end_same : (x y : Fiber) → fiber_report x ≡ fiber_report y → ends x ≡ ends y
-end_same x y e = ap (λ (r : FiberReport). not (is_none r.outcome)) e
+end_same x y e = ap (λ (r : FiberReport). is_some r.outcome) e
 
 first_same : (xs ys : List Fiber) → map fiber_report xs ≡ map fiber_report ys → first_ends xs ≡ first_ends ys
 first_same [] [] e = refl

@@ -58,10 +58,17 @@ fn stopped_standing(first: bool, all: bool) -> Standing
 fn first_ends(fibers: &[Config]) -> bool
     ensures { result ≡ first_ends fibers.now }
 {
-    match fibers.first() {
-        Some(config) => outcome(config).is_some(),
-        None => false,
+    if fibers.is_empty() {
+        return false;
     }
+    ends(&fibers[0])
+}
+
+// Whether the fiber has ended.
+fn ends(config: &Config) -> bool
+    ensures { result ≡ ends config.now }
+{
+    outcome(config).is_some()
 }
 
 // Whether each fiber has ended.
@@ -69,7 +76,7 @@ fn all_end(fibers: &[Config]) -> bool
     ensures { result ≡ list_all ends fibers.now }
 {
     for config in fibers {
-        if outcome(config).is_none() {
+        if !ends(config) {
             return false;
         }
     }
@@ -102,7 +109,7 @@ fn is_stopped(
     requires { Fits (cell_registered registry.now.state config.now.number) config.now }
     ensures { IfOk result (λ it. it ≡ is_stopped registry.now.state config.now.number config.now) }
 {
-    if outcome(config).is_some() {
+    if ends(config) {
         return Ok(true);
     }
     if !waits(config, registry) {

@@ -1,5 +1,5 @@
 -- How far a world has come, computed from its fibers and its registry.
-use Rattle.std.specs.Prelude.{◌≡◌, ◌⊎◌, ◌&&◌, ◌||◌, not, is_none, ℕ, zero, suc, Bool, true, false, List, [], ◌∷◌}
+use Rattle.std.specs.Prelude.{◌≡◌, ◌⊎◌, ◌&&◌, ◌||◌, not, is_some, ℕ, zero, suc, Bool, true, false, List, [], ◌∷◌}
 use Rattle.std.specs.List.{list_all}
 use Rattle.derived_ops.specs.Tree.{Mask}
 use Rattle.effect_term.specs.declared.reply.Reply.{Reply}
@@ -55,7 +55,7 @@ abbrev pub is_at_rest : Cells → ℕ → Fiber → Bool
 is_at_rest s f g = waits s f g && is_unasked (active_of g) g.look (cell_of s f).request
 
 abbrev pub ends : Fiber → Bool
-ends g = not (is_none (outcome_of g))
+ends g = is_some (outcome_of g)
 
 -- the fiber has ended, or rests
 abbrev pub IsStopped : Cells → ℕ → Fiber → Type 0

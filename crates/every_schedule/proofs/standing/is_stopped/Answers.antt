@@ -1,24 +1,16 @@
-use Rattle.std.proofs.{Common.{◌≡◌, ◌∙◌, false, true, None, not, sym, ap, rules}, lemmas.Result.IfOk-weaker}
-use Rattle.std.specs.Prelude.{is_none}
-use Rattle.effect_term.specs.declared.reply.Outcome.{Outcome}
-use Rattle.std.specs.Prelude.{Option}
-use Rattle.fiber_frames.specs.Fiber.{outcome_of}
-use Rattle.scheduled_core.proofs.Settling.{not_true}
-use Rattle.every_schedule.specs.Private.Stopping.{ends}
+use Rattle.std.proofs.{Common.{◌∙◌, sym}, lemmas.Result.IfOk-weaker}
 use Rattle.every_schedule.proofs.Stopping.{at_wait, goes_stopped, masked_stopped, requested_stopped, stopped_ended, unrequested_stopped}
 use Rattle.every_schedule.proofs.standing.is_stopped.Goals as goal
 
-pub returns-then-is_some : goal.returns-then-is_some
-returns-then-is_some c =
+pub returns-then-ends : goal.returns-then-ends
+returns-then-ends c =
     let g = c.args.config.now in
-    let ended : is_none (outcome_of g) ≡ false = search rules in
-    sym (stopped_ended c.args.registry.now.state g.number g (ap not ended))
+    sym (stopped_ended c.args.registry.now.state g.number g (sym c.ends.ensures ∙ c.if-ends.true))
 
 pub returns-then-not-waits : goal.returns-then-not-waits
 returns-then-not-waits c =
     let g = c.args.config.now in
-    let unended : outcome_of g ≡ None = search rules in
-    sym (goes_stopped c.args.registry.now.state g.number g (ap (λ (o : Option Outcome). not (is_none o)) unended) (sym c.waits.ensures ∙ c.if-not-waits.true))
+    sym (goes_stopped c.args.registry.now.state g.number g (sym c.ends.ensures ∙ c.if-ends.false) (sym c.waits.ensures ∙ c.if-not-waits.true))
 
 pub returns-then-is_masked : goal.returns-then-is_masked
 returns-then-is_masked c =
@@ -39,7 +31,6 @@ is_masked_wait-requires c =
 pub returns : goal.returns
 returns c =
     let g = c.args.config.now in
-    let unended : outcome_of g ≡ None = search rules in
-    let told = requested_stopped c.args.registry.now.state g.number g (ap (λ (o : Option Outcome). not (is_none o)) unended)
+    let told = requested_stopped c.args.registry.now.state g.number g (sym c.ends.ensures ∙ c.if-ends.false)
     (sym c.waits.ensures ∙ c.if-not-waits.false) (sym c.is_requested.ensures ∙ c.if-not-is_requested.false) in
     IfOk-weaker c.is_masked_wait.result _ _ (λ it e. e ∙ sym told) c.is_masked_wait.ensures
