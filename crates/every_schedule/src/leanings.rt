@@ -8,7 +8,7 @@ use crate::claims::{Claim, ClaimWord};
 use std::alloc::{AllocError, Global};
 
 /// How a truth value depends on the words about the whole world.
-#[derive(Clone, Copy, Drop)]
+#[derive(Clone, Copy)]
 pub struct Leaning {
     /// It may be true only because no fiber can go on.
     pub rises: bool,

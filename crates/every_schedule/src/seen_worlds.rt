@@ -88,9 +88,7 @@ impl SeenWorlds {
             trail: Vec::new(alloc),
         })
     }
-}
 
-impl SeenWorlds {
     // The number of fibers that are born in a world.
     fn many(&self, world: usize) -> u16
         requires { world < length self.now.views }
