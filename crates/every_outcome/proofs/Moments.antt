@@ -11,9 +11,9 @@ use Rattle.cell_registry.specs.declared.limits.RunError.{RunError}
 use Rattle.scheduled_core.specs.Core.{World, core, entered, first_world, wish_of}
 use Rattle.world_search.specs.Systems.{run}
 use Rattle.every_schedule.specs.declared.claims.ClaimWord.{ClaimWord}
-use Rattle.every_schedule.specs.declared.standing.Standing.TheVariants.{GoesOn}
+use Rattle.every_schedule.specs.declared.progress.Progress.TheVariants.{GoesOn}
 use Rattle.every_schedule.specs.Private.Leanings.{leaning_of}
-use Rattle.every_schedule.proofs.Leanings.{truth_leans}
+use Rattle.every_schedule.proofs.Leans.{truth_leans}
 use Rattle.every_schedule.specs.Claims.{Meets, View, WasSet, are_seen, first_view, has, holds, is_met, noted, seeing, stored_by, stored_in, viewed}
 use Rattle.every_schedule.proofs.OwnKept.{and_true}
 use Rattle.every_schedule.proofs.Seeing.{noted_has, noted_keeps, refs_seen}

@@ -9,7 +9,7 @@ use Rattle.world_search.specs.Free.Leads.{Here, On}
 use Rattle.world_search.specs.Systems.{run}
 use Rattle.world_search.proofs.{Free.early, Views.unmet_up}
 use Rattle.every_schedule.specs.declared.claims.ClaimWord.{ClaimWord}
-use Rattle.every_schedule.specs.declared.standing.Standing.TheVariants.{GoesOn}
+use Rattle.every_schedule.specs.declared.progress.Progress.TheVariants.{GoesOn}
 use Rattle.every_schedule.specs.Claims.{View, are_seen, is_met, noted, seeing, stored_by, viewed}
 use Rattle.every_schedule.proofs.SeenLeaps.{holds_refs, no_store, seeing_is}
 use Rattle.every_outcome.specs.Places.{Place, stepped}

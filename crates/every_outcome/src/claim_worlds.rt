@@ -19,7 +19,7 @@ use crate::faults::Faults;
 use crate::world::SeenWorld;
 use cell_registry::{Limits, RunError};
 use effect_term::Program;
-use every_schedule::{Claim, Standing, seen_after};
+use every_schedule::{Claim, Progress, seen_after};
 use std::alloc::{AllocError, Global};
 use std::collections::HashMap;
 use std::marker::Model;
@@ -78,7 +78,7 @@ impl ClaimWorld {
 
     // Whether the world meets a claim, if some fiber can go on.
     fn meets(&self, alloc: Global, claim: &Claim) -> Result<bool, AllocError>
-        ensures { IfOk result (λ it. it ≡ is_met Standing.GoesOn self.now claim.now) }
+        ensures { IfOk result (λ it. it ≡ is_met Progress.GoesOn self.now claim.now) }
     {
         self.world.meets(alloc, self.seen.as_slice(), claim)
     }
@@ -263,7 +263,7 @@ impl Claims for ClaimWorlds {
     type Claim = Claim;
 
     ghost use Rattle.every_schedule.specs.Claims.{is_met};
-    ghost use Rattle.every_schedule.specs.declared.standing.Standing.TheVariants.{GoesOn};
+    ghost use Rattle.every_schedule.specs.declared.progress.Progress.TheVariants.{GoesOn};
 
     ghost meets = { is_met GoesOn };
 

@@ -25,7 +25,7 @@ pub mod PastBound
 pub mod GrowingLeaps
 pub mod Deadlocks
 pub mod Stopping
-pub mod Leanings
+pub mod Leans
 pub mod Seeing
 pub mod SeenRows
 pub mod SeenLeaps

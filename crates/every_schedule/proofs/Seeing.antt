@@ -9,7 +9,7 @@ use Rattle.every_schedule.specs.{declared.claims.ClaimWord.{ClaimWord, TheVarian
 use Rattle.every_schedule.specs.{Claims.{first_view, has, holds, is_seen, last_of, noted, seeing, stored_by, viewed, worded}, Places.{Place, bared}}
 use Rattle.every_schedule.{specs.Places.{first_place, placed, stepped, unnoted}, proofs.{Bare.bare_step, Placed.first_bare, OwnKept.{and_true, or_second}}}
 
-use Rattle.every_schedule.specs.{declared.standing.Standing.{Standing, TheVariants.{GoesOn, Deadlocked, LeftBehind, AllOver}}, Standings.IsStanding}
+use Rattle.every_schedule.specs.{declared.progress.Progress.{Progress, TheVariants.{GoesOn, Deadlocked, LeftBehind, AllOver}}, Standings.IsStanding}
 use Rattle.every_schedule.{specs.Private.Stopping.{meets_here, standing_of}, proofs.{Stopping.{standing_told, stands_so}, Unrest.{final_bare, final_noted}}}
 
 -- ---- truth values
@@ -100,7 +100,7 @@ noted_back r seen (Some n) h = by (has n seen) h
     by false e = elim (has_back r n seen e) [ inl before ↦ inl before | inr is ↦ inr (ap Some is) ]
 
 -- ---- the truth of words, without the notes of joins
-worded_bare : (x : Standing) (s : Cells) (stack : List Bool) (word : ClaimWord) → worded x (without_waits s) stack word ≡ worded x s stack word
+worded_bare : (x : Progress) (s : Cells) (stack : List Bool) (word : ClaimWord) → worded x (without_waits s) stack word ≡ worded x s stack word
 worded_bare x s stack (Compare r how v) = refl
 worded_bare x s stack Not = refl
 worded_bare x s stack And = refl
@@ -109,23 +109,23 @@ worded_bare x s stack Deadlock = refl
 worded_bare x s stack Left = refl
 worded_bare x s stack Final = refl
 
-words_bare : (x : Standing) (s : Cells) (words : List ClaimWord) (stack : List Bool) →
+words_bare : (x : Progress) (s : Cells) (words : List ClaimWord) (stack : List Bool) →
     fold (worded x (without_waits s)) stack words ≡ fold (worded x s) stack words
 words_bare x s [] stack = refl
 words_bare x s (word ∷ words) stack =
     ap (λ t. fold (worded x (without_waits s)) t words) (worded_bare x s stack word) ∙ words_bare x s words (worded x s stack word)
 
-holds_bare : (x : Standing) (s : Cells) (words : List ClaimWord) → holds x (without_waits s) words ≡ holds x s words
+holds_bare : (x : Progress) (s : Cells) (words : List ClaimWord) → holds x (without_waits s) words ≡ holds x s words
 holds_bare x s words = ap last_of (words_bare x s words [])
 
 -- a world stands as it does without the notes of joins
-standing_noted : (w : World) (x : Standing) → IsStanding (unnoted w) x → IsStanding w x
+standing_noted : (w : World) (x : Progress) → IsStanding (unnoted w) x → IsStanding w x
 standing_noted w GoesOn h = λ final. h (final_bare w final)
 standing_noted w Deadlocked h = (final_noted w h.0, h.1)
 standing_noted w LeftBehind h = (final_noted w h.0, h.1, h.2)
 standing_noted w AllOver h = (final_noted w h.0, h.1, h.2)
 
-standing_bare : (w : World) (x : Standing) → IsStanding w x → IsStanding (unnoted w) x
+standing_bare : (w : World) (x : Progress) → IsStanding w x → IsStanding (unnoted w) x
 standing_bare w GoesOn h = λ final. h (final_noted w final)
 standing_bare w Deadlocked h = (final_bare w h.0, h.1)
 standing_bare w LeftBehind h = (final_bare w h.0, h.1, h.2)

@@ -25,13 +25,13 @@ use Rattle.every_schedule.specs.declared.claims.ClaimWord.TheVariants.{Compare, 
 use Rattle.every_schedule.specs.Claims.{View, are_seen, holds, last_of, noted, seeing, stored_by, stored_in, viewed, worded}
 use Rattle.every_schedule.specs.Places.{Place, entering, moves_at, placed, stepped, unnoted, wants}
 use Rattle.every_schedule.specs.Reduced.{IsMade, has_birth, hundred_still, is_birth, is_birth_call, leapt, may_be}
-use Rattle.every_schedule.specs.declared.standing.Standing.{Standing}
+use Rattle.every_schedule.specs.declared.progress.Progress.{Progress}
 use Rattle.every_schedule.specs.Private.Leanings.{leaning_of}
 use Rattle.every_schedule.specs.Private.Stopping.{are_stopped, meets_here, standing_of}
 use Rattle.scheduled_core.specs.Core.{entered}
 use Rattle.scheduled_core.specs.Finals.{IsFinal}
 use Rattle.scheduled_core.proofs.Finality.{Still, final_stays}
-use Rattle.every_schedule.proofs.Leanings.{truth_leans}
+use Rattle.every_schedule.proofs.Leans.{truth_leans}
 use Rattle.every_schedule.proofs.OwnKept.{and_true}
 use Rattle.every_schedule.proofs.Stopping.{final_so, going_so, standing_same}
 use Rattle.every_schedule.proofs.Unrest.{final_bare}
@@ -83,7 +83,7 @@ refs_stay p q f still e = elim (enters p f q e) [
 ]
 
 -- in worlds that stand in the same way the truth of words depends only on the values of refs
-worded_refs : (x : Standing) (s t : Cells) → s.refs ≡ t.refs → (stack : List Bool) (word : ClaimWord) → worded x s stack word ≡ worded x t stack word
+worded_refs : (x : Progress) (s t : Cells) → s.refs ≡ t.refs → (stack : List Bool) (word : ClaimWord) → worded x s stack word ≡ worded x t stack word
 worded_refs x s t same stack (Compare r how v) = ap (λ (l : List ℤ). worded x (record { next_fiber = 0; next_ref = 0; next_deferred = 0; cells = []; refs = l; deferreds = [] }) stack (Compare r how v)) same
 worded_refs x s t same stack Not = refl
 worded_refs x s t same stack And = refl
@@ -92,13 +92,13 @@ worded_refs x s t same stack Deadlock = refl
 worded_refs x s t same stack Left = refl
 worded_refs x s t same stack Final = refl
 
-words_refs : (x : Standing) (s t : Cells) → s.refs ≡ t.refs → (words : List ClaimWord) (stack : List Bool) →
+words_refs : (x : Progress) (s t : Cells) → s.refs ≡ t.refs → (words : List ClaimWord) (stack : List Bool) →
     fold (worded x s) stack words ≡ fold (worded x t) stack words
 words_refs x s t same [] stack = refl
 words_refs x s t same (word ∷ words) stack =
     ap (λ l. fold (worded x s) l words) (worded_refs x s t same stack word) ∙ words_refs x s t same words (worded x t stack word)
 
-pub holds_refs : (x : Standing) (s t : Cells) → s.refs ≡ t.refs → (words : List ClaimWord) → holds x s words ≡ holds x t words
+pub holds_refs : (x : Progress) (s t : Cells) → s.refs ≡ t.refs → (words : List ClaimWord) → holds x s words ≡ holds x t words
 holds_refs x s t same words = ap last_of (words_refs x s t same words [])
 
 -- an entry at a final world keeps how the world stands
@@ -237,16 +237,16 @@ leaps_views v f =
 module _ (words : List ClaimWord) (up : (leaning_of words).falls ≡ false) where
   grown_by : (v : View) (f : ℕ) (x : View) (b : Bool) → are_stopped v.place.world.cells 0 v.place.world.fibers ≡ b → stepped v.place f ≡ Ok x.place →
       holds (standing_of v.place.world) v.place.world.cells words ≡ true → holds (standing_of x.place.world) v.place.world.cells words ≡ true
-  grown_by v f x true stopped e yes =
-      ap (λ y. holds y v.place.world.cells words) (standing_kept v.place x.place f (final_so v.place.world stopped) e) ∙ yes
-  grown_by v f x false stopped e yes =
+  grown_by v f x true stopped e met =
+      ap (λ y. holds y v.place.world.cells words) (standing_kept v.place x.place f (final_so v.place.world stopped) e) ∙ met
+  grown_by v f x false stopped e met =
       (truth_leans v.place.world.cells (standing_of x.place.world) words).up up
-      (ap (λ y. holds y v.place.world.cells words) (sym (going_so v.place.world stopped)) ∙ yes)
+      (ap (λ y. holds y v.place.world.cells words) (sym (going_so v.place.world stopped)) ∙ met)
 
   keeps_claims : (v : View) (f : ℕ) (x : View) → IsFree v f → viewed stepped v f ≡ Ok x → meets_here v words ≡ true → meets_here x words ≡ true
-  keeps_claims v f x h e yes =
+  keeps_claims v f x h e met =
       let is = free_is v f x h e in
-      let both = two_true (are_seen v.seen words) (holds (standing_of v.place.world) v.place.world.cells words) yes in
+      let both = two_true (are_seen v.seen words) (holds (standing_of v.place.world) v.place.world.cells words) met in
       and_true (are_seen x.seen words) (holds (standing_of x.place.world) x.place.world.cells words)
           (ap (λ (seen : List ℕ). are_seen seen words) is.1 ∙ both.0)
           (holds_refs (standing_of x.place.world) x.place.world.cells v.place.world.cells

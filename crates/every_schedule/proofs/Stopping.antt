@@ -16,8 +16,8 @@ use Rattle.scheduled_core.specs.Fitting.{Fits, LookFits, cell_registered}
 use Rattle.scheduled_core.proofs.Settling.{waits_join, waits_read}
 use Rattle.cell_registry.specs.Words.{has_ended}
 use Rattle.scheduled_core.proofs.{Finality.{case_waits, final_stays}, Resting.{IsWait, Silently, Joins, Reads, call_waits}}
-use Rattle.every_schedule.specs.declared.standing.Standing.{Standing}
-use Rattle.every_schedule.specs.declared.standing.Standing.TheVariants.{GoesOn, Deadlocked, LeftBehind, AllOver}
+use Rattle.every_schedule.specs.declared.progress.Progress.{Progress}
+use Rattle.every_schedule.specs.declared.progress.Progress.TheVariants.{GoesOn, Deadlocked, LeftBehind, AllOver}
 use Rattle.every_schedule.specs.Standings.{HasFirstEnded, HaveAllEnded, IsStanding}
 use Rattle.every_schedule.specs.Private.Stopping.{IsStopped, IsWaiting, are_stopped, ends, first_ends, has_mask, is_at_rest, is_stopped, is_unasked, is_unseen}
 use Rattle.every_schedule.specs.Private.Stopping.{standing_by, standing_of, waits}
@@ -183,10 +183,10 @@ pub standing_told : (w : World) → IsStanding w (standing_of w)
 standing_told w = told_by w (are_stopped w.cells 0 w.fibers) (first_ends w.fibers) (list_all ends w.fibers) refl refl refl
 
 -- no world stands in two ways
-pub stands_so : (w : World) (x : Standing) → IsStanding w x → x ≡ standing_of w
+pub stands_so : (w : World) (x : Progress) → IsStanding w x → x ≡ standing_of w
 stands_so w x h = by x (standing_of w) h (standing_told w)
   where
-    by : (a b : Standing) → IsStanding w a → IsStanding w b → a ≡ b
+    by : (a b : Progress) → IsStanding w a → IsStanding w b → a ≡ b
     by GoesOn GoesOn p q = refl
     by GoesOn Deadlocked p q = absurd (p q.0)
     by GoesOn LeftBehind p q = absurd (p q.0)
@@ -357,8 +357,8 @@ module _ (a : Ask) (r : Reply) (g h : Fiber) (w : IsWaiting a) (asked : Asked g 
 
   pub look_told : (b : Bool) (x : Ask) → (b ≡ true → x ≡ ask.Look) → (b ≡ false → x ≢ ask.Look) → Asked h x → x ≡ ask_of h →
       not b ≡ has_mask (active_of g)
-  look_told true x yes no now is = sym (looks_unmasked x now (yes refl))
-  look_told false x yes no now is = sym (other_masked (λ e. no refl (is ∙ e)))
+  look_told true x looks other now is = sym (looks_unmasked x now (looks refl))
+  look_told false x looks other now is = sym (other_masked (λ e. other refl (is ∙ e)))
 
 -- a fiber at a wait that doesn't ask for its word has no mask
 waits_asks : (a : Ask) → IsWait a → IsWaiting a

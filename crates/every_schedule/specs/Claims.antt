@@ -16,8 +16,8 @@ use Rattle.every_schedule.specs.declared.claims.ClaimWord.{ClaimWord}
 use Rattle.every_schedule.specs.declared.claims.ClaimWord.TheVariants.{Compare, Not, And, Or, Deadlock, Left, Final}
 use Rattle.every_schedule.specs.declared.claims.Comparison.{Comparison}
 use Rattle.every_schedule.specs.declared.claims.Comparison.TheVariants as is
-use Rattle.every_schedule.specs.declared.standing.Standing.{Standing}
-use Rattle.every_schedule.specs.declared.standing.Standing.TheVariants.{GoesOn, Deadlocked, LeftBehind, AllOver}
+use Rattle.every_schedule.specs.declared.progress.Progress.{Progress}
+use Rattle.every_schedule.specs.declared.progress.Progress.TheVariants.{GoesOn, Deadlocked, LeftBehind, AllOver}
 use Rattle.every_schedule.specs.Places.{Place}
 use Rattle.every_schedule.specs.Standings.{IsStanding}
 use Rattle.world_search.specs.declared.claims.Met.{Met}
@@ -39,28 +39,28 @@ abbrev pub without_last : List Bool → List Bool
 without_last stack = take (length stack - 1) stack
 
 -- no fiber can go on, and fiber 0 hasn't ended
-abbrev pub is_deadlock : Standing → Bool
+abbrev pub is_deadlock : Progress → Bool
 is_deadlock GoesOn = false
 is_deadlock Deadlocked = true
 is_deadlock LeftBehind = false
 is_deadlock AllOver = false
 
 -- no fiber can go on, fiber 0 has ended, and some other fiber hasn't
-abbrev pub is_left : Standing → Bool
+abbrev pub is_left : Progress → Bool
 is_left GoesOn = false
 is_left Deadlocked = false
 is_left LeftBehind = true
 is_left AllOver = false
 
 -- no fiber can go on
-abbrev pub is_final : Standing → Bool
+abbrev pub is_final : Progress → Bool
 is_final GoesOn = false
 is_final Deadlocked = true
 is_final LeftBehind = true
 is_final AllOver = true
 
 -- the stack after a word, in a world that stands so, with these values of the refs
-abbrev pub worded : Standing → Cells → List Bool → ClaimWord → List Bool
+abbrev pub worded : Progress → Cells → List Bool → ClaimWord → List Bool
 worded x s stack (Compare r how v) = stack ++ compares how (ref_of s r) v ∷ []
 worded x s stack Not = without_last stack ++ not (last_of stack) ∷ []
 worded x s stack And =
@@ -72,7 +72,7 @@ worded x s stack Left = stack ++ is_left x ∷ []
 worded x s stack Final = stack ++ is_final x ∷ []
 
 -- the truth of these words, in a world that stands so, under the values of these refs
-abbrev pub holds : Standing → Cells → List ClaimWord → Bool
+abbrev pub holds : Progress → Cells → List ClaimWord → Bool
 holds x s words = last_of (fold (worded x s) [] words)
 
 -- ---- refs that were set
@@ -114,7 +114,7 @@ pub record Meets (code : Tree) (k : Limits) (words : List ClaimWord) (schedule :
   pub world : World
   pub leads : core code k schedule ≡ Ok world
   pub set : (r : ℕ) → Compares words r → WasSet k r (first_world code k) schedule
-  pub standing : Standing
+  pub standing : Progress
   pub stands : IsStanding world standing
   pub truth : holds standing world.cells words ≡ true
 
@@ -137,7 +137,7 @@ abbrev pub viewed : (Place → ℕ → Result Place RunError) → View → ℕ �
 viewed step v f = seeing (noted v.seen (stored_by (slice_get v.place.world.fibers f))) (step v.place f)
 
 -- a view of a world that stands so meets a claim
-abbrev pub is_met : Standing → View → List ClaimWord → Bool
+abbrev pub is_met : Progress → View → List ClaimWord → Bool
 is_met x v words = are_seen v.seen words && holds x v.place.world.cells words
 
 -- the view of a program before the first move

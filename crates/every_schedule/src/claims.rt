@@ -7,7 +7,7 @@ ghost use Rattle.every_schedule.specs.Claims.{last_of, without_last, worded};
 ghost use Rattle.every_schedule.specs.Private.Stopping.{meets_here};
 
 use crate::core_world::CoreWorld;
-use crate::standing::{Standing, standing_of};
+use crate::progress::{Progress, standing_of};
 use cell_registry::PlainRegistry;
 use effect_term::Value;
 use std::alloc::{AllocError, Global};
@@ -91,7 +91,7 @@ impl Claim {
         &self,
         alloc: Global,
         registry: PlainRegistry,
-        standing: Standing,
+        standing: Progress,
         seen: &[u16],
     ) -> Result<bool, AllocError>
         ensures { IfOk result (λ it. it ≡ (are_seen seen.now self.now && the_truth standing registry.state self.now)) }
@@ -174,7 +174,7 @@ fn has_seen(word: ClaimWord, seen: &[u16]) -> bool
 fn holds(
     alloc: Global,
     mut registry: PlainRegistry,
-    standing: Standing,
+    standing: Progress,
     words: &[ClaimWord],
 ) -> Result<bool, AllocError>
     ensures { IfOk result (λ it. it ≡ the_truth standing registry.state words.now) }
@@ -189,7 +189,7 @@ fn holds(
 // Applies one word to the stack.
 fn step(
     registry: &mut PlainRegistry,
-    standing: Standing,
+    standing: Progress,
     stack: &mut Vec<bool>,
     word: ClaimWord,
 ) -> Result<(), AllocError>
@@ -204,7 +204,7 @@ fn step(
 // Pops the truth values that a word takes, and returns the one that it pushes.
 fn truth_of(
     registry: &mut PlainRegistry,
-    standing: Standing,
+    standing: Progress,
     stack: &mut Vec<bool>,
     word: ClaimWord,
 ) -> bool
@@ -231,32 +231,32 @@ fn truth_of(
 }
 
 // Whether no fiber can go on, and fiber 0 hasn't ended.
-fn is_deadlock(standing: Standing) -> bool
+fn is_deadlock(standing: Progress) -> bool
     ensures { result ≡ is_deadlock standing }
 {
     match standing {
-        Standing::Deadlocked => true,
-        Standing::GoesOn | Standing::LeftBehind | Standing::AllOver => false,
+        Progress::Deadlocked => true,
+        Progress::GoesOn | Progress::LeftBehind | Progress::AllOver => false,
     }
 }
 
 // Whether no fiber can go on, fiber 0 has ended, and some other fiber hasn't.
-fn is_left(standing: Standing) -> bool
+fn is_left(standing: Progress) -> bool
     ensures { result ≡ is_left standing }
 {
     match standing {
-        Standing::LeftBehind => true,
-        Standing::GoesOn | Standing::Deadlocked | Standing::AllOver => false,
+        Progress::LeftBehind => true,
+        Progress::GoesOn | Progress::Deadlocked | Progress::AllOver => false,
     }
 }
 
 // Whether no fiber can go on.
-fn is_final(standing: Standing) -> bool
+fn is_final(standing: Progress) -> bool
     ensures { result ≡ is_final standing }
 {
     match standing {
-        Standing::Deadlocked | Standing::LeftBehind | Standing::AllOver => true,
-        Standing::GoesOn => false,
+        Progress::Deadlocked | Progress::LeftBehind | Progress::AllOver => true,
+        Progress::GoesOn => false,
     }
 }
 

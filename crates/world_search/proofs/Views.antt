@@ -95,8 +95,8 @@ module _ {W E : Type 0} (step : W → ℕ → Result W E) (Free : W → ℕ → 
       pub unmet_where_it_grows : (look : W → Bool) → ((w : W) (f : ℕ) (x : W) → Free w f → step w f ≡ Ok x → look w ≡ true → look x ≡ true) →
           (first : W) → ((t : List ℕ) (w : W) → run leap (Ok first) t ≡ Ok w → look w ≡ false) → (s : List ℕ) (w : W) → run step (Ok first) s ≡ Ok w →
           look w ≡ true → ⊥
-      unmet_where_it_grows look keeps first none s w led yes =
+      unmet_where_it_grows look keeps first none s w led met =
           let c = caught (length s) first s (omega arith) w led in
-          let grown : look c.1 ≡ true = leads_grow look keeps w c.1 c.3 yes in
+          let grown : look c.1 ≡ true = leads_grow look keeps w c.1 c.3 met in
           let no : true ≡ false = sym grown ∙ none c.0 c.1 c.2 in
           cc

@@ -14,8 +14,8 @@ use Rattle.cell_registry.specs.Cells.{Cells, cell_of}
 use Rattle.scheduled_core.specs.Core.{World}
 use Rattle.scheduled_core.specs.Finals.{HasEnded, IsAtRest, reply_to, word_wish}
 use Rattle.every_schedule.specs.declared.claims.ClaimWord.{ClaimWord}
-use Rattle.every_schedule.specs.declared.standing.Standing.{Standing}
-use Rattle.every_schedule.specs.declared.standing.Standing.TheVariants.{GoesOn, Deadlocked, LeftBehind, AllOver}
+use Rattle.every_schedule.specs.declared.progress.Progress.{Progress}
+use Rattle.every_schedule.specs.declared.progress.Progress.TheVariants.{GoesOn, Deadlocked, LeftBehind, AllOver}
 use Rattle.every_schedule.specs.Claims.{View, is_met}
 
 abbrev pub is_unseen : Look → Bool
@@ -73,13 +73,13 @@ abbrev pub first_ends : List Fiber → Bool
 first_ends [] = false
 first_ends (g ∷ gs) = ends g
 
-abbrev pub standing_by : (final first all : Bool) → Standing
+abbrev pub standing_by : (final first all : Bool) → Progress
 standing_by false first all = GoesOn
 standing_by true false all = Deadlocked
 standing_by true true false = LeftBehind
 standing_by true true true = AllOver
 
-abbrev pub standing_of : World → Standing
+abbrev pub standing_of : World → Progress
 standing_of w = standing_by (are_stopped w.cells 0 w.fibers) (first_ends w.fibers) (list_all ends w.fibers)
 
 -- whether a view meets a claim

@@ -2,7 +2,7 @@ use Rattle.std.{proofs.{Common.{◌≡◌, ℕ, List, Some, false, sym, ap, ◌�
 use Rattle.every_schedule.specs.declared.claims.ClaimWord.{ClaimWord}
 use Rattle.every_schedule.specs.declared.leanings.Leaning.{Leaning}
 use Rattle.every_schedule.specs.Private.Leanings.{leaning_of}
-use Rattle.every_schedule.proofs.Leanings.{one_more}
+use Rattle.every_schedule.proofs.Leans.{one_more}
 use Rattle.every_schedule.proofs.leanings.none_rise.Goals as goal
 
 pub loop-claim-preserved : goal.loop-claim-preserved

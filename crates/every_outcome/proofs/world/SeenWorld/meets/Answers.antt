@@ -3,7 +3,7 @@ use Rattle.std.specs.Prelude.{IfOk}
 use Rattle.std.proofs.lemmas.Result.{IfOk-weaker}
 use Rattle.cell_registry.specs.Plain.{PlainView}
 use Rattle.every_schedule.specs.Claims.{are_seen, holds, is_met}
-use Rattle.every_schedule.specs.declared.standing.Standing.TheVariants.{GoesOn}
+use Rattle.every_schedule.specs.declared.progress.Progress.TheVariants.{GoesOn}
 use Rattle.every_schedule.proofs.SeenLeaps.{holds_refs}
 use Rattle.every_outcome.specs.Places.{Place, unmarked_world}
 use Rattle.every_outcome.proofs.world.SeenWorld.meets.Goals as goal

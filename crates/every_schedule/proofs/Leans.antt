@@ -9,8 +9,8 @@ use Rattle.cell_registry.specs.Cells.{Cells}
 use Rattle.every_schedule.specs.declared.claims.ClaimWord.{ClaimWord}
 use Rattle.every_schedule.specs.declared.claims.ClaimWord.TheVariants.{Compare, Not, And, Or, Deadlock, Left, Final}
 use Rattle.every_schedule.specs.declared.leanings.Leaning.{Leaning}
-use Rattle.every_schedule.specs.declared.standing.Standing.{Standing}
-use Rattle.every_schedule.specs.declared.standing.Standing.TheVariants.{GoesOn}
+use Rattle.every_schedule.specs.declared.progress.Progress.{Progress}
+use Rattle.every_schedule.specs.declared.progress.Progress.TheVariants.{GoesOn}
 use Rattle.every_schedule.specs.Claims.{compares, holds, is_deadlock, is_final, is_left, last_of, without_last, worded}
 use Rattle.every_schedule.specs.Private.Leanings.{both, last_leaning, leaned, leaning_of, rest_of, steady, turned, upward}
 use Rattle.cell_registry.specs.Cells.{ref_of}
@@ -106,7 +106,7 @@ lean_last ls xs ys h =
     (subst (λ k. Leans (last_leaning ls) (slice_index_or xs (length ls - 1) false) (slice_index_or ys (k - 1) false)) (sym n.other)
     (lean_at (length ls - 1) ls xs ys h))
 
-module _ (s : Cells) (x : Standing) where
+module _ (s : Cells) (x : Progress) where
   lean_word : (ls : List Leaning) (xs ys : List Bool) → AllLean ls xs ys → (word : ClaimWord) →
       AllLean (leaned ls word) (worded GoesOn s xs word) (worded x s ys word)
   lean_word ls xs ys h (Compare r how v) = lean_push ls xs ys h steady _ _ (same_leans (compares how (ref_of s r) v))

@@ -4,7 +4,7 @@ use Rattle.std.proofs.lemmas.Option.{slice_get_read}
 use Rattle.std.specs.List.{list_all}
 use Rattle.every_schedule.specs.Private.Stopping.{ends}
 use Rattle.every_schedule.proofs.Prefixes.{all_next, all_stops}
-use Rattle.every_schedule.proofs.standing.all_end.Goals as goal
+use Rattle.every_schedule.proofs.progress.all_end.Goals as goal
 
 pub loop-config-preserved : goal.loop-config-preserved
 loop-config-preserved c =

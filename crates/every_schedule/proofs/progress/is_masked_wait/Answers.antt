@@ -2,7 +2,7 @@ use Rattle.std.proofs.Common.{sym, subst}
 use Rattle.fiber_frames.specs.declared.ask.Ask.{Ask}
 use Rattle.every_schedule.specs.Private.Stopping.{IsWaitReply, IsWaiting}
 use Rattle.every_schedule.proofs.Stopping.{asks_no_word}
-use Rattle.every_schedule.proofs.standing.is_masked_wait.Goals as goal
+use Rattle.every_schedule.proofs.progress.is_masked_wait.Goals as goal
 
 pub returns-in-None : goal.returns-in-None
 returns-in-None c =

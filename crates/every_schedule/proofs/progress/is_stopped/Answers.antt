@@ -1,6 +1,6 @@
 use Rattle.std.proofs.{Common.{◌∙◌, sym}, lemmas.Result.IfOk-weaker}
 use Rattle.every_schedule.proofs.Stopping.{at_wait, goes_stopped, masked_stopped, requested_stopped, stopped_ended, unrequested_stopped}
-use Rattle.every_schedule.proofs.standing.is_stopped.Goals as goal
+use Rattle.every_schedule.proofs.progress.is_stopped.Goals as goal
 
 pub returns-then-ends : goal.returns-then-ends
 returns-then-ends c =

@@ -1,7 +1,7 @@
 use Rattle.std.proofs.Common.{◌≡◌, ◌∙◌, sym, ap, subst}
 use Rattle.fiber_frames.specs.{Answers.Answers, Fiber.{Fiber, TakesNumber, ask_of, move}, Leading.{Asked, Leads}, declared.ask.Ask.{Ask}}
 use Rattle.every_schedule.proofs.Stopping.{look_told, takes_no_number}
-use Rattle.every_schedule.proofs.standing.looks_no_more.Goals as goal
+use Rattle.every_schedule.proofs.progress.looks_no_more.Goals as goal
 
 pub resume-requires-clause-fits : goal.resume-requires-clause-fits
 resume-requires-clause-fits c =

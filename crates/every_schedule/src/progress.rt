@@ -15,7 +15,7 @@ use std::alloc::{AllocError, Global};
 
 /// How far a world has come.
 #[derive(Clone, Copy, PartialEq, Eq, Debug)]
-pub enum Standing {
+pub enum Progress {
     /// Some fiber can go on.
     GoesOn,
     /// No fiber can go on, and fiber 0 hasn't ended.
@@ -31,27 +31,27 @@ pub(crate) fn standing_of(
     alloc: Global,
     fibers: &[Config],
     registry: &PlainRegistry,
-) -> Result<Standing, AllocError>
+) -> Result<Progress, AllocError>
     requires { AllFit (world_of fibers.now registry.now.state) }
     ensures { IfOk result (λ it. it ≡ standing_of (world_of fibers.now registry.now.state)) }
 {
     if !are_stopped(alloc, fibers, registry)? {
-        return Ok(Standing::GoesOn);
+        return Ok(Progress::GoesOn);
     }
     Ok(stopped_standing(first_ends(fibers), all_end(fibers)))
 }
 
 // How far a world in which no fiber can go on has come.
-fn stopped_standing(first: bool, all: bool) -> Standing
+fn stopped_standing(first: bool, all: bool) -> Progress
     ensures { result ≡ standing_by true first all }
 {
     if !first {
-        return Standing::Deadlocked;
+        return Progress::Deadlocked;
     }
     if !all {
-        return Standing::LeftBehind;
+        return Progress::LeftBehind;
     }
-    Standing::AllOver
+    Progress::AllOver
 }
 
 // Whether fiber 0 has ended.

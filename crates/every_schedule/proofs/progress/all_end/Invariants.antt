@@ -1,7 +1,7 @@
 use Rattle.std.proofs.Common.{◌≡◌, true, take}
 use Rattle.std.specs.List.{list_all}
 use Rattle.every_schedule.specs.Private.Stopping.{ends}
-use Rattle.every_schedule.proofs.standing.all_end.Given as goal
+use Rattle.every_schedule.proofs.progress.all_end.Given as goal
 
 -- each fiber so far has ended
 abbrev pub invariant-loop-config : goal.invariant-loop-config

@@ -1,5 +1,5 @@
 use Rattle.std.proofs.Common.{arith}
-use Rattle.every_schedule.proofs.standing.is_requested.Goals as goal
+use Rattle.every_schedule.proofs.progress.is_requested.Goals as goal
 
 pub is_requested-requires : goal.is_requested-requires
 is_requested-requires c =

@@ -1,7 +1,7 @@
 use Rattle.std.{proofs.Common.{◌≡◌, ℕ, ◌<◌, Some, true}, specs.List.slice_get}
 use Rattle.fiber_frames.specs.Fiber.{Fiber}
 use Rattle.every_schedule.specs.Private.Stopping.{is_stopped}
-use Rattle.every_schedule.proofs.standing.are_stopped.Given as goal
+use Rattle.every_schedule.proofs.progress.are_stopped.Given as goal
 
 -- each fiber so far has ended or rests
 abbrev pub invariant-loop-config : goal.invariant-loop-config

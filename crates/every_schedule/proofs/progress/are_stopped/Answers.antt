@@ -3,7 +3,7 @@ use Rattle.fiber_frames.specs.Fiber.{Fiber}
 use Rattle.scheduled_core.{specs.Fitting.{Fits, cell_registered}, proofs.Settling.{below_length, one_settled}}
 use Rattle.every_schedule.specs.Private.Stopping.{are_stopped, is_stopped}
 use Rattle.every_schedule.proofs.Stopping.{all_stopped, one_goes, past_zero}
-use Rattle.every_schedule.proofs.standing.are_stopped.Goals as goal
+use Rattle.every_schedule.proofs.progress.are_stopped.Goals as goal
 
 pub is_stopped-requires : goal.is_stopped-requires
 is_stopped-requires c =
