@@ -64,8 +64,8 @@ const THE_END: &str = "the end of the claim";
 const PLAIN: &str = "numbers without zeros or a plus sign in front";
 
 /// Reads the claim that a text spells: `(= REF V)`, also with `!=`, `<`, `<=`, `>` or `>=`; `deadlock`, `left` or
-/// `final`; `(and CLAIM ..)`, `(or CLAIM ..)` or `(not CLAIM)`. REF is a name or a number up to 999, V a value. Spaces around brackets and further
-/// spaces between words mean nothing. Claims can nest to any depth.
+/// `final`; `(and CLAIM ..)`, `(or CLAIM ..)` or `(not CLAIM)`. REF is a name or a number up to 999, V a value. Spaces
+/// around brackets and further spaces between words mean nothing. Claims can nest to any depth.
 pub fn read_claim<'a>(alloc: Global, text: &'a [u8]) -> Result<Spelled<'a>, ClaimFault>
     ensures { IfOk result (λ claim. claim.text.items ≡ spaced_text text.now) }
 {

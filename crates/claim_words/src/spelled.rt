@@ -1,7 +1,8 @@
 //! Claims with the texts that spell them.
 
 ghost use Rattle.std.specs.Prelude.{◌≡◌, ◌++◌, IfOk, codes, map};
-ghost use Rattle.claim_words.specs.Spelling.{IsSpelling, claim, compared_text, comparison_text, joint_text, operands, whole_text};
+ghost use Rattle.claim_words.specs.Spelling.{IsSpelling, claim, compared_text, comparison_text, joint_text, operands};
+ghost use Rattle.claim_words.specs.Spelling.{whole_text};
 
 use crate::words::{Joint, SpelledWord, Whole};
 use effect_term::Value;

@@ -126,7 +126,7 @@ all_stopped s f (x ∷ gs) h =
             let there : suc i + f ≡ i + suc f = omega arith in
             subst (λ n. is_stopped s n g ≡ true) there (h (suc i) g at)))
 
-past_zero : (i : ℕ) → i + zero ≡ i
+pub past_zero : (i : ℕ) → i + zero ≡ i
 past_zero i = omega arith
 
 pub one_goes : (s : Cells) (gs : List Fiber) (f : ℕ) (g : Fiber) → slice_get gs f ≡ Some g → is_stopped s f g ≡ false → are_stopped s 0 gs ≡ false

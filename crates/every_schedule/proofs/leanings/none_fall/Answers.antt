@@ -10,7 +10,7 @@ loop-claim-preserved c =
     let words : List ClaimWord = c.claim-item.result in
     let at : slice_get c.args.claims.now c.loop-claim.claim-index ≡ Some words = grind (arith, common_steps, gets) in
     one_more (λ (ws : List ClaimWord). (leaning_of ws).falls ≡ false) c.args.claims.now c.loop-claim.claim-index words c.loop-claim.invariant at
-    (ap (λ (l : Leaning). l.falls) (sym c.in_ok-leaning.ensures) ∙ c.if-leaning-falls.false)
+    (ap (λ (l : Leaning). l.falls) (sym c.in_ok-leaning.ensures) ∙ c.if-leaning.false)
 
 pub returns : goal.returns
 returns c = λ yes k words at.

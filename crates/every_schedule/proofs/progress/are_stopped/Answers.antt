@@ -18,16 +18,16 @@ loop-config-preserved c =
     let at : slice_get c.args.fibers.now c.loop-config.config-index ≡ Some g = grind (arith, common_steps, gets) in
     let number = (c.requires.each c.loop-config.config-index g at).number in
     one_settled (λ f (x : Fiber). is_stopped s f x ≡ true) c.args.fibers.now c.loop-config.config-index g c.loop-config.invariant at
-    (subst (λ n. is_stopped s n g ≡ true) number (sym c.in_ok-is_stopped.ensures ∙ c.if-not-is_stopped.false))
+    (subst (λ n. is_stopped s n g ≡ true) number (sym c.in_ok-is_stopped.ensures ∙ c.if-not-branch.false))
 
-pub returns-then-not-is_stopped : goal.returns-then-not-is_stopped
-returns-then-not-is_stopped c =
+pub returns-then-not-branch : goal.returns-then-not-branch
+returns-then-not-branch c =
     let g = c.config-item.result in
     let s = c.args.registry.now.state in
     let at : slice_get c.args.fibers.now c.loop-config.config-index ≡ Some g = grind (arith, common_steps, gets) in
     let number = (c.requires.each c.loop-config.config-index g at).number in
     sym (one_goes s c.args.fibers.now c.loop-config.config-index g at
-    (subst (λ n. is_stopped s n g ≡ false) number (sym c.in_ok-is_stopped.ensures ∙ c.if-not-is_stopped.true)))
+    (subst (λ n. is_stopped s n g ≡ false) number (sym c.in_ok-is_stopped.ensures ∙ c.if-not-branch.true)))
 
 pub returns : goal.returns
 returns c =
