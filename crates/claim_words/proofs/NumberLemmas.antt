@@ -5,7 +5,7 @@ use Rattle.std.proofs.lemmas.List.{drop-drop, map_more}
 use Rattle.std.specs.Borrow.{Bor}
 use Rattle.every_schedule.specs.declared.claims.ClaimWord.{ClaimWord}
 use Rattle.claim_words.specs.declared.words.SpelledWord.{SpelledWord}
-use Rattle.claim_words.specs.declared.words.SpelledWord.TheVariants.{Numbered, Named, Not, Join}
+use Rattle.claim_words.specs.declared.words.SpelledWord.TheVariants.{Numbered, Named, Not, Join, World}
 use Rattle.claim_words.specs.Heads.{AreNumbersOf, IsRefOf, numbered}
 use Rattle.claim_words.specs.Private.Steps.{claim_word, is_named}
 
@@ -20,6 +20,7 @@ one (Named how v) ws [] = refl
 one (Named how v) ws (n ∷ ns) = refl
 one Not ws ns = refl
 one (Join j) ws ns = refl
+one (World x) ws ns = refl
 
 pub left_named : (named : Bool) (n m : ℕ) (ns : List ℕ) → named ≡ true → m ≡ n + 1 → left named (drop n ns) ≡ drop m ns
 left_named named n m ns e f = rw (e, f) (drop-drop 1 n ns)

@@ -5,9 +5,10 @@ use Rattle.std.specs.Fmt.{decimal}
 use Rattle.every_schedule.specs.declared.claims.Comparison.{Comparison}
 use Rattle.claim_words.specs.declared.words.Joint.{Joint}
 use Rattle.claim_words.specs.declared.words.SpelledWord.{SpelledWord}
-use Rattle.claim_words.specs.declared.words.SpelledWord.TheVariants.{Numbered, Named, Not, Join}
-use Rattle.claim_words.specs.Spelling.{IsSpelling, Spells, claim, compared_text, joint_text, operands}
-use Rattle.claim_words.specs.Spelling.{by_number, by_name, negates, joins, first, more}
+use Rattle.claim_words.specs.declared.words.SpelledWord.TheVariants.{Numbered, Named, Not, Join, World}
+use Rattle.claim_words.specs.declared.words.Whole.{Whole}
+use Rattle.claim_words.specs.Spelling.{IsSpelling, Spells, claim, compared_text, joint_text, operands, whole_text}
+use Rattle.claim_words.specs.Spelling.{by_number, by_name, by_world, negates, joins, first, more}
 
 pub spelled_number : (n : ℕ) (how : Comparison) (v : ℤ) (subject text : List ℕ) (before words : List SpelledWord) (names : List (List ℕ)) →
     text ≡ compared_text subject how v → subject ≡ decimal n → words ≡ before ++ Numbered n how v ∷ [] → before ≡ [] → names ≡ [] →
@@ -18,6 +19,10 @@ pub spelled_name : (name : List ℕ) (how : Comparison) (v : ℤ) (text : List �
     text ≡ compared_text name how v → words ≡ before ++ Named how v ∷ [] → before ≡ [] → names ≡ name ∷ [] →
     IsSpelling claim text words names
 spelled_name name how v text before words names t w b x = rw (t, w, b, x) (∣ by_name name how v ∣₁)
+
+pub spelled_world : (x : Whole) (text : List ℕ) (before words : List SpelledWord) (names : List (List ℕ)) → text ≡ whole_text x →
+    words ≡ before ++ World x ∷ [] → before ≡ [] → names ≡ [] → IsSpelling claim text words names
+spelled_world x text before words names t w b n = rw (t, w, b, n) (∣ by_world x ∣₁)
 
 pub spelled_not : (t text : List ℕ) (ws words : List SpelledWord) (names : List (List ℕ)) → IsSpelling claim t ws names →
     text ≡ codes "(not " ++ (t ++ codes ")") → words ≡ ws ++ Not ∷ [] → IsSpelling claim text words names

@@ -6,7 +6,9 @@ use Rattle.every_schedule.specs.declared.claims.ClaimWord.TheVariants as its
 use Rattle.claim_words.specs.declared.words.Joint.{Joint}
 use Rattle.claim_words.specs.declared.words.Joint.TheVariants as joints
 use Rattle.claim_words.specs.declared.words.SpelledWord.{SpelledWord}
-use Rattle.claim_words.specs.declared.words.SpelledWord.TheVariants.{Numbered, Named, Not, Join}
+use Rattle.claim_words.specs.declared.words.SpelledWord.TheVariants.{Numbered, Named, Not, Join, World}
+use Rattle.claim_words.specs.declared.words.Whole.{Whole}
+use Rattle.claim_words.specs.declared.words.Whole.TheVariants as wholes
 
 -- a letter, a digit, or another byte that is neither a bracket nor a space
 abbrev pub is_plain : ℕ → Bool
@@ -51,6 +53,11 @@ abbrev pub joint_word : Joint → ClaimWord
 joint_word joints.And = its.And
 joint_word joints.Or = its.Or
 
+abbrev pub whole_word : Whole → ClaimWord
+whole_word wholes.Deadlock = its.Deadlock
+whole_word wholes.Left = its.Left
+whole_word wholes.Final = its.Final
+
 -- the words, with these numbers in place of the names of refs
 abbrev pub numbered : List SpelledWord → List ℕ → List ClaimWord
 numbered [] ns = []
@@ -59,6 +66,7 @@ numbered (Named how v ∷ ws) [] = its.Compare 0 how v ∷ numbered ws []
 numbered (Named how v ∷ ws) (n ∷ ns) = its.Compare n how v ∷ numbered ws ns
 numbered (Not ∷ ws) ns = its.Not ∷ numbered ws ns
 numbered (Join j ∷ ws) ns = joint_word j ∷ numbered ws ns
+numbered (World x ∷ ws) ns = whole_word x ∷ numbered ws ns
 
 -- The words of a claim, with the numbers of its refs in place of their names.
 pub record IsNumberedBy (text : List ℕ) (words : List SpelledWord) (names : List (List ℕ)) (it : List ClaimWord)

@@ -6,7 +6,9 @@ use Rattle.every_schedule.specs.declared.claims.Comparison.TheVariants as is
 use Rattle.claim_words.specs.declared.words.Joint.{Joint}
 use Rattle.claim_words.specs.declared.words.Joint.TheVariants as joints
 use Rattle.claim_words.specs.declared.words.SpelledWord.{SpelledWord}
-use Rattle.claim_words.specs.declared.words.SpelledWord.TheVariants.{Numbered, Named, Not, Join}
+use Rattle.claim_words.specs.declared.words.SpelledWord.TheVariants.{Numbered, Named, Not, Join, World}
+use Rattle.claim_words.specs.declared.words.Whole.{Whole}
+use Rattle.claim_words.specs.declared.words.Whole.TheVariants.{Deadlock, Left, Final}
 
 abbrev pub comparison_text : Comparison → List ℕ
 comparison_text is.Equal = codes "="
@@ -19,6 +21,11 @@ comparison_text is.AtLeast = codes ">="
 abbrev pub joint_text : Joint → List ℕ
 joint_text joints.And = codes "and"
 joint_text joints.Or = codes "or"
+
+abbrev pub whole_text : Whole → List ℕ
+whole_text Deadlock = codes "deadlock"
+whole_text Left = codes "left"
+whole_text Final = codes "final"
 
 -- a comparison of a ref with a number, as `(< inside 2)`; `subject` is the spelling of the ref
 abbrev pub compared_text : List ℕ → Comparison → ℤ → List ℕ
@@ -35,6 +42,7 @@ pub data Spells : Part → List ℕ → List SpelledWord → List (List ℕ) →
   by_number : (n : ℕ) (how : Comparison) (v : ℤ) →
       Spells claim (compared_text (decimal n) how v) (Numbered n how v ∷ []) []
   by_name : (x : List ℕ) (how : Comparison) (v : ℤ) → Spells claim (compared_text x how v) (Named how v ∷ []) (x ∷ [])
+  by_world : (x : Whole) → Spells claim (whole_text x) (World x ∷ []) []
   negates : (t : List ℕ) (ws : List SpelledWord) (xs : List (List ℕ)) → Spells claim t ws xs →
       Spells claim (codes "(not " ++ (t ++ codes ")")) (ws ++ Not ∷ []) xs
   joins : (j : Joint) (t : List ℕ) (ws : List SpelledWord) (xs : List (List ℕ)) → Spells (operands j) t ws xs →

@@ -1,6 +1,7 @@
 //! The claims of a command line: how they are spelled, and which refs they name.
 //!
-//! A claim compares refs with numbers, as `(< inside 2)`, and joins comparisons by `and`, `or` and `not`. The crate
+//! A claim compares refs with numbers, as `(< inside 2)`, or says by `deadlock`, `left` or `final` that no fiber can go
+//! on. It joins these by `and`, `or` and `not`. The crate
 //! uses the claim words of a search (`every_schedule`). [`read_claim`] reads the text of a claim, and promises that the
 //! text spells the returned claim. [`number_claim`] replaces the names of refs by numbers: the refs at the head of a
 //! program's text are numbered from 0.
@@ -19,4 +20,4 @@ pub use numbering::{NumberFault, number_claim};
 pub use reading::{ClaimFault, read_claim};
 pub use spacing::spaced_text;
 pub use spelled::Spelled;
-pub use words::{Joint, SpelledWord};
+pub use words::{Joint, SpelledWord, Whole};

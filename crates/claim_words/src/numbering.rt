@@ -6,7 +6,7 @@ ghost use Rattle.claim_words.specs.Private.Steps.{claim_word, first_of, is_named
 
 use crate::heads::{RefFault, number_of};
 use crate::spelled::Spelled;
-use crate::words::{Joint, SpelledWord};
+use crate::words::{Joint, SpelledWord, Whole};
 use every_schedule::ClaimWord;
 use std::alloc::{AllocError, Global};
 
@@ -103,6 +103,9 @@ fn claim_word(word: &SpelledWord, numbers: &[u16], next: usize) -> ClaimWord
         SpelledWord::Not => ClaimWord::Not,
         SpelledWord::Join(Joint::And) => ClaimWord::And,
         SpelledWord::Join(Joint::Or) => ClaimWord::Or,
+        SpelledWord::World(Whole::Deadlock) => ClaimWord::Deadlock,
+        SpelledWord::World(Whole::Left) => ClaimWord::Left,
+        SpelledWord::World(Whole::Final) => ClaimWord::Final,
     }
 }
 

@@ -4,11 +4,11 @@ ghost use Rattle.std.specs.Prelude.{◌≡◌, IfOk};
 ghost use Rattle.claim_words.specs.Spacing.{spaced_text};
 
 use crate::heads::is_same;
-use crate::scanning::{Scanner, Subject, comparison_of, subject_of, value_of};
+use crate::scanning::{Scanner, Subject, comparison_of, subject_of, value_of, whole_of};
 use crate::spacing::spaced_text;
 use crate::spelled::{
     Operands, Spelled, compared_name, compared_number, first_operand, joined, more_operands,
-    negated,
+    negated, whole_claim as whole_part,
 };
 use crate::words::Joint;
 use effect_term::Value;
@@ -51,7 +51,7 @@ enum Step<'a> {
     More,
 }
 
-const A_CLAIM: &str = "a claim in brackets";
+const A_CLAIM: &str = "a claim in brackets, deadlock, left or final";
 
 const A_WORD: &str = "=, !=, <, <=, >, >=, and, or, or not";
 
@@ -65,9 +65,9 @@ const THE_END: &str = "the end of the claim";
 
 const PLAIN: &str = "a number without zeros or a plus sign in front";
 
-/// Reads the claim that a text spells: `(= REF V)`, also with `!=`, `<`, `<=`, `>` or `>=`; `(and CLAIM ..)`, `(or
-/// CLAIM ..)` or `(not CLAIM)`. REF is a name or a number up to 999, V a value. Spaces around brackets and further
-/// spaces between words mean nothing. Claims can nest to any depth.
+/// Reads the claim that a text spells: `(= REF V)`, also with `!=`, `<`, `<=`, `>` or `>=`; `deadlock`, `left` or
+/// `final`; `(and CLAIM ..)`, `(or CLAIM ..)` or `(not CLAIM)`. REF is a name or a number up to 999, V a value. Spaces
+/// around brackets and further spaces between words mean nothing. Claims can nest to any depth.
 pub fn read_claim<'a>(alloc: Global, text: &'a [u8]) -> Result<Spelled<'a>, ClaimFault>
     ensures { IfOk result (λ claim. claim.text.items ≡ spaced_text text.now) }
 {
@@ -83,7 +83,7 @@ pub fn read_claim<'a>(alloc: Global, text: &'a [u8]) -> Result<Spelled<'a>, Clai
     Ok(claim)
 }
 
-// The claim that begins here. Each round takes at least one bracket.
+// The claim that begins here. Each round takes at least one bracket or word.
 fn whole_claim<'a>(
     alloc: Global,
     rounds: usize,
@@ -98,7 +98,7 @@ fn whole_claim<'a>(
     Err(ClaimFault::Expected(A_CLAIM, scanner.place()))
 }
 
-// Reads the front of a form, or a whole comparison.
+// Reads the front of a form, or a whole claim without parts.
 fn form<'a>(
     alloc: Global,
     rounds: usize,
@@ -106,7 +106,8 @@ fn form<'a>(
     open: &mut Vec<Open<'a>>,
 ) -> Result<Step<'a>, ClaimFault> {
     if !scanner.takes(b'(') {
-        return Err(ClaimFault::Expected(A_CLAIM, scanner.place()));
+        let part = whole(alloc, scanner)?;
+        return close(alloc, rounds, scanner, open, part);
     }
     let place = scanner.place();
     let word = scanner.word();
@@ -121,6 +122,15 @@ fn form<'a>(
             }
             None => Err(ClaimFault::Expected(A_WORD, place)),
         },
+    }
+}
+
+// Reads a word about the whole world.
+fn whole<'a>(alloc: Global, scanner: &mut Scanner<'a>) -> Result<Spelled<'a>, ClaimFault> {
+    let place = scanner.place();
+    match whole_of(scanner.word()) {
+        Some(whole) => Ok(whole_part(alloc, whole)?),
+        None => Err(ClaimFault::Expected(A_CLAIM, place)),
     }
 }
 

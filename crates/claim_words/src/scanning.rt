@@ -1,6 +1,7 @@
 //! The tokens of a claim, one after another.
 
 use crate::spacing::is_space;
+use crate::words::Whole;
 use effect_term::Value;
 use every_schedule::Comparison;
 
@@ -87,6 +88,16 @@ pub(crate) fn comparison_of(word: &[u8]) -> Option<Comparison> {
         b"<=" => Some(Comparison::AtMost),
         b">" => Some(Comparison::Greater),
         b">=" => Some(Comparison::AtLeast),
+        _ => None,
+    }
+}
+
+/// What a word says about the whole world, if it says something.
+pub(crate) fn whole_of(word: &[u8]) -> Option<Whole> {
+    match word {
+        b"deadlock" => Some(Whole::Deadlock),
+        b"left" => Some(Whole::Left),
+        b"final" => Some(Whole::Final),
         _ => None,
     }
 }

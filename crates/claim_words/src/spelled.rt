@@ -2,8 +2,9 @@
 
 ghost use Rattle.std.specs.Prelude.{◌≡◌, ◌++◌, IfOk, codes, map};
 ghost use Rattle.claim_words.specs.Spelling.{IsSpelling, claim, compared_text, comparison_text, joint_text, operands};
+ghost use Rattle.claim_words.specs.Spelling.{whole_text};
 
-use crate::words::{Joint, SpelledWord};
+use crate::words::{Joint, SpelledWord, Whole};
 use effect_term::Value;
 use every_schedule::Comparison;
 use itoa::Buffer;
@@ -62,6 +63,18 @@ pub(crate) fn compared_name<'a>(
     let mut names = Vec::new(alloc);
     names.push(name)?;
     Ok(Spelled { text, words, names })
+}
+
+/// The claim that says something about the whole world.
+pub(crate) fn whole_claim<'a>(alloc: Global, whole: Whole) -> Result<Spelled<'a>, AllocError> {
+    let text = Vec::from_slice(alloc, whole_text(whole))?;
+    let mut words = Vec::new(alloc);
+    words.push(SpelledWord::World(whole))?;
+    Ok(Spelled {
+        text,
+        words,
+        names: Vec::new(alloc),
+    })
 }
 
 /// The negation of a claim.
@@ -194,5 +207,16 @@ fn joint_text(joint: Joint) -> &'static [u8]
     match joint {
         Joint::And => b"and",
         Joint::Or => b"or",
+    }
+}
+
+// The word of a claim about the whole world.
+fn whole_text(whole: Whole) -> &'static [u8]
+    ensures { result.now ≡ whole_text whole }
+{
+    match whole {
+        Whole::Deadlock => b"deadlock",
+        Whole::Left => b"left",
+        Whole::Final => b"final",
     }
 }

@@ -12,6 +12,17 @@ pub enum Joint {
     Or,
 }
 
+/// What a claim says about the whole world.
+#[derive(Clone, Copy)]
+pub enum Whole {
+    /// No fiber can go on, and fiber 0 hasn't ended.
+    Deadlock,
+    /// No fiber can go on, fiber 0 has ended, and some other fiber hasn't.
+    Left,
+    /// No fiber can go on.
+    Final,
+}
+
 /// A word of a claim. The words are in postfix order, as those of [`ClaimWord`](every_schedule::ClaimWord).
 #[derive(Clone, Copy)]
 pub enum SpelledWord {
@@ -23,4 +34,6 @@ pub enum SpelledWord {
     Not,
     /// Joins the last two truth values.
     Join(Joint),
+    /// Says something about the whole world.
+    World(Whole),
 }

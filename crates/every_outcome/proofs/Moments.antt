@@ -11,6 +11,9 @@ use Rattle.cell_registry.specs.declared.limits.RunError.{RunError}
 use Rattle.scheduled_core.specs.Core.{World, core, entered, first_world, wish_of}
 use Rattle.world_search.specs.Systems.{run}
 use Rattle.every_schedule.specs.declared.claims.ClaimWord.{ClaimWord}
+use Rattle.every_schedule.specs.declared.progress.Progress.TheVariants.{GoesOn}
+use Rattle.every_schedule.specs.Private.Leanings.{leaning_of}
+use Rattle.every_schedule.proofs.Leans.{truth_leans}
 use Rattle.every_schedule.specs.Claims.{Meets, View, WasSet, are_seen, first_view, has, holds, is_met, noted, seeing, stored_by, stored_in, viewed}
 use Rattle.every_schedule.proofs.OwnKept.{and_true}
 use Rattle.every_schedule.proofs.Seeing.{noted_has, noted_keeps, refs_seen}
@@ -88,15 +91,17 @@ refs_bare : (w : World) → (unmarked_world w).cells.refs ≡ w.cells.refs
 refs_bare w = refl
 
 -- a claim that a schedule of the core meets is met by a view of the search
-module _ (code : Tree) (k : Limits) (some : 0 < k.count) (first : Reached (begins 0 code)) (words : List ClaimWord) where
+module _ (code : Tree) (k : Limits) (some : 0 < k.count) (first : Reached (begins 0 code)) (words : List ClaimWord)
+    (down : (leaning_of words).rises ≡ false) where
   pub core_met : (n : ℕ) (s : List ℕ) → Meets code (counted k n) words s →
-      (u : View) × (run (viewed stepped) (Ok (first_view (first_place code k))) s ≡ Ok u) × (is_met u words ≡ true)
+      (u : View) × (run (viewed stepped) (Ok (first_view (first_place code k))) s ≡ Ok u) × (is_met GoesOn u words ≡ true)
   unfolding core
   core_met n s h =
       let l = complete k n some s (first_world code (counted k n)) [] h.world (first_lawful code (counted k n) first) h.leads in (
         l.0,
         l.1,
-        and_true (are_seen l.0.seen words) (holds l.0.place.world.cells words)
+        and_true (are_seen l.0.seen words) (holds GoesOn l.0.place.world.cells words)
             (refs_seen l.0.seen words (λ r is. l.3 r (inr (h.set r is))))
-            (ap (λ (p : Place). holds p.world.cells words) l.2 ∙ holds_refs (unmarked_world h.world).cells h.world.cells (refs_bare h.world) words ∙ h.truth),
+            (ap (λ (p : Place). holds GoesOn p.world.cells words) l.2 ∙ holds_refs GoesOn (unmarked_world h.world).cells h.world.cells (refs_bare h.world) words ∙
+            (truth_leans h.world.cells h.standing words).down down h.truth),
       )

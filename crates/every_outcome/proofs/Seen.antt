@@ -9,6 +9,7 @@ use Rattle.world_search.specs.Free.Leads.{Here, On}
 use Rattle.world_search.specs.Systems.{run}
 use Rattle.world_search.proofs.{Free.early, Views.unmet_up}
 use Rattle.every_schedule.specs.declared.claims.ClaimWord.{ClaimWord}
+use Rattle.every_schedule.specs.declared.progress.Progress.TheVariants.{GoesOn}
 use Rattle.every_schedule.specs.Claims.{View, are_seen, is_met, noted, seeing, stored_by, viewed}
 use Rattle.every_schedule.proofs.SeenLeaps.{holds_refs, no_store, seeing_is}
 use Rattle.every_outcome.specs.Places.{Place, stepped}
@@ -76,16 +77,16 @@ leaps_views : (v : View) (f : ℕ) → Leaps (viewed stepped) IsStill (viewed st
 leaps_views v f =
     leaps_seeing (noted v.seen (stored_by (slice_get v.place.world.fibers f))) (stepped v.place f) (leapt false v.place f) (leaps false v.place f)
 
-keeps_claims : (words : List ClaimWord) (v : View) (f : ℕ) (x : View) → IsStill v f → viewed stepped v f ≡ Ok x → is_met x words ≡ is_met v words
+keeps_claims : (words : List ClaimWord) (v : View) (f : ℕ) (x : View) → IsStill v f → viewed stepped v f ≡ Ok x → is_met GoesOn x words ≡ is_met GoesOn v words
 keeps_claims words v f x h e =
     let is = free_is v f x h e in
     ap₂ (λ (seen : List ℕ) (t : Bool). are_seen seen words && t) is.1
-    (holds_refs x.place.world.cells v.place.world.cells (refs_after v.place f h.free x.place (none_stored v f h) is.0) words)
+    (holds_refs GoesOn x.place.world.cells v.place.world.cells (refs_after v.place f h.free x.place (none_stored v f h) is.0) words)
 
 -- a claim that no world of the reduced search meets is met by no world
 pub unmet_all : (words : List ClaimWord) (first : View) →
-    ((t : List ℕ) (w : View) → run (viewed (leapt false)) (Ok first) t ≡ Ok w → is_met w words ≡ false) →
-    (s : List ℕ) (w : View) → run (viewed stepped) (Ok first) s ≡ Ok w → is_met w words ≡ false
+    ((t : List ℕ) (w : View) → run (viewed (leapt false)) (Ok first) t ≡ Ok w → is_met GoesOn w words ≡ false) →
+    (s : List ℕ) (w : View) → run (viewed stepped) (Ok first) s ≡ Ok w → is_met GoesOn w words ≡ false
 unmet_all words first none s w led =
-    unmet_up (viewed stepped) IsStill (early (viewed stepped) IsStill free_views) (viewed (leapt false)) leaps_views (λ v. is_met v words)
+    unmet_up (viewed stepped) IsStill (early (viewed stepped) IsStill free_views) (viewed (leapt false)) leaps_views (λ v. is_met GoesOn v words)
     (keeps_claims words) first none s w led

@@ -19,7 +19,7 @@ use crate::faults::Faults;
 use crate::world::SeenWorld;
 use cell_registry::{Limits, RunError};
 use effect_term::Program;
-use every_schedule::{Claim, seen_after};
+use every_schedule::{Claim, Progress, seen_after};
 use std::alloc::{AllocError, Global};
 use std::collections::HashMap;
 use std::marker::Model;
@@ -76,9 +76,9 @@ impl ClaimWorld {
         self.world.born()
     }
 
-    // Whether the world meets a claim.
+    // Whether the world meets a claim, if some fiber can go on.
     fn meets(&self, alloc: Global, claim: &Claim) -> Result<bool, AllocError>
-        ensures { IfOk result (λ it. it ≡ is_met self.now claim.now) }
+        ensures { IfOk result (λ it. it ≡ is_met Progress.GoesOn self.now claim.now) }
     {
         self.world.meets(alloc, self.seen.as_slice(), claim)
     }
@@ -263,8 +263,9 @@ impl Claims for ClaimWorlds {
     type Claim = Claim;
 
     ghost use Rattle.every_schedule.specs.Claims.{is_met};
+    ghost use Rattle.every_schedule.specs.declared.progress.Progress.TheVariants.{GoesOn};
 
-    ghost meets = { is_met };
+    ghost meets = { is_met GoesOn };
 
     fn meets(&self, world: usize, claim: &Claim) -> Result<bool, AllocError> {
         self.worlds[world].meets(self.alloc, claim)

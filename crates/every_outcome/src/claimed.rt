@@ -15,13 +15,16 @@ use crate::exploring::GREATEST_COUNT;
 use crate::unfolding::unfold;
 use cell_registry::{Limits, RunError};
 use effect_term::Program;
-use every_schedule::{Claim, certify};
+use every_schedule::{Claim, certify, none_rise};
 use std::alloc::{AllocError, Global};
 use world_search::{Bounds, Claimed, Met, Watcher};
 
 /// Returns the claims that some world of a program meets, under any schedule, as [`every_schedule::search_claims`]
 /// does. Worlds count as one as in [`explore_outcomes`](crate::explore_outcomes), so a loop with masks and brackets in
 /// it leads back to a known world.
+///
+/// The search takes it that some fiber can go on in each world. So it isn't complete if one of the claims can be true
+/// only because no fiber can go on.
 ///
 /// Each claim is checked in each world that a schedule leads to. If the search is complete, no schedule leads, under
 /// any count of changes, to a world that meets any other of the claims. The claims that it returns are met in any case,
@@ -62,9 +65,10 @@ pub fn search_outcome_claims<V: Watcher>(
     let mut worlds = ClaimWorlds::new(alloc, program, explored)?;
     let found = world_search::search_claims(alloc, &mut worlds, claims, bounds, watcher)?;
     let met = unfold_met(alloc, program, explored, found.met.as_slice())?;
+    let sure = none_rise(alloc, claims)?;
     let unfolded = Claimed {
         met,
-        complete: found.complete,
+        complete: found.complete && sure,
         halted: found.halted,
         worlds: found.worlds,
         bytes: found.bytes,

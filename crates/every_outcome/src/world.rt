@@ -18,7 +18,7 @@ use crate::own_moves::stored_by;
 use crate::shape::WorldShape;
 use cell_registry::{Limits, RunError};
 use effect_term::{Outcome, Program, facts_of};
-use every_schedule::Claim;
+use every_schedule::{Claim, Progress};
 use fiber_frames::Config;
 use scheduled_core::outcome;
 use std::alloc::{AllocError, Global};
@@ -109,17 +109,17 @@ impl SeenWorld {
         stored_by(&self.core, fiber)
     }
 
-    /// Whether the world meets a claim, if these refs were set before.
+    /// Whether the world meets a claim, if these refs were set before and some fiber can go on.
     pub(crate) fn meets(
         &self,
         alloc: Global,
         seen: &[u16],
         claim: &Claim,
     ) -> Result<bool, AllocError>
-        ensures { IfOk result (λ it. it ≡ is_met record { place = self.now; seen = seen.now } claim.now) }
+        ensures { IfOk result (λ it. it ≡ is_met Progress.GoesOn record { place = self.now; seen = seen.now } claim.now) }
     {
         let registry = self.core.registry().copy(alloc)?;
-        claim.is_met(alloc, registry, seen)
+        claim.is_met(alloc, registry, Progress::GoesOn, seen)
     }
 
     /// Whether two worlds are equal: `true` means that they are. The result can be `false` for equal worlds.

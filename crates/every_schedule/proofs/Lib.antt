@@ -24,6 +24,8 @@ pub mod Trails
 pub mod PastBound
 pub mod GrowingLeaps
 pub mod Deadlocks
+pub mod Stopping
+pub mod Leans
 pub mod Seeing
 pub mod Looking
 pub mod SeenRows

@@ -17,9 +17,9 @@ use Rattle.world_search.proofs.Free.{run_fault}
 use Rattle.world_search.proofs.Lists.{get_last, more_by, more_in, more_more, more_same}
 use Rattle.cell_registry.specs.declared.limits.RunError.{RunError}
 use Rattle.every_schedule.specs.declared.claims.ClaimWord.{ClaimWord}
-use Rattle.every_schedule.specs.Claims.{IsMetIn, Meets, MeetsOnTheWay, View, first_view, is_met, viewed}
+use Rattle.every_schedule.specs.Claims.{IsMetIn, Meets, MeetsOnTheWay, View, first_view, viewed}
 use Rattle.every_schedule.specs.Places.{Place, first_place, stepped}
-use Rattle.every_schedule.specs.Private.Looking.{AddsMet, AreFoundBelow, IsAt}
+use Rattle.every_schedule.specs.Private.{Looking.{AddsMet, AreFoundBelow, IsAt}, Stopping.meets_here}
 use Rattle.every_schedule.proofs.Seeing.{core_met, met_core}
 
 -- entries that lead to a fault lead to it, whatever follows
@@ -73,22 +73,22 @@ module _ (code : Tree) (k : Limits) (claims : List (List ClaimWord)) where
     here = record { place = p; seen = seen }
 
     -- the world to which the entries lead meets the claims that they lead to
-    meets_here : (words : List ClaimWord) → Meets code k words entries → is_met here words ≡ true
-    meets_here words m =
+    here_met : (words : List ClaimWord) → Meets code k words entries → meets_here here words ≡ true
+    here_met words m =
         let u = core_met code k words entries m in
         let same : u.0 ≡ here = (let e : Ok u.0 ≡ Ok here = sym u.1 ∙ at in cc) in
-        subst (λ (v : View). is_met v words ≡ true) same u.2
+        subst (λ (v : View). meets_here v words ≡ true) same u.2
 
-    pub met_here : (words : List ClaimWord) → is_met here words ≡ true → Meets code k words entries
+    pub met_here : (words : List ClaimWord) → meets_here here words ≡ true → Meets code k words entries
     met_here words is = met_core code k words entries here at is
 
     pub found_more : (old new : List Met) (number : ℕ) (claim : List ClaimWord) → slice_get claims number ≡ Some claim → IsMore old new →
-        (is_met here claim ≡ true → IsFound number new) → AreFoundBelow code k claims entries old number →
+        (meets_here here claim ≡ true → IsFound number new) → AreFoundBelow code k claims entries old number →
         AreFoundBelow code k claims entries new (number + 1)
     found_more old new number claim there more now before = λ i words low is meets. dite (ℕ_discrete i number)
         (λ same.
         let one : words ≡ claim = same_Some words claim (sym is ∙ ap (slice_get claims) same ∙ there) in
-        subst (λ j. IsFound j new) (sym same) (now (subst (λ (ws : List ClaimWord). is_met here ws ≡ true) one (meets_here words meets))))
+        subst (λ j. IsFound j new) (sym same) (now (subst (λ (ws : List ClaimWord). meets_here here ws ≡ true) one (here_met words meets))))
         (λ other. found_in i old new more (before i words (omega arith) is meets))
 
   -- each claim that one of the first `most` worlds on the way meets is in the list

@@ -5,9 +5,12 @@ use Rattle.derived_ops.specs.Tree.{Tree}
 use Rattle.cell_registry.specs.{Cells.{Cells, without_waits}, declared.limits.{Limits.Limits, RunError.RunError}}
 use Rattle.scheduled_core.specs.Core.{World, core, entered, first_world}
 use Rattle.world_search.{specs.Systems.run, proofs.Free.run_fault}
-use Rattle.every_schedule.specs.{declared.claims.ClaimWord.{ClaimWord, TheVariants.{Compare, Not, And, Or}}, Claims.{Compares, Meets, View, WasSet, are_seen}}
-use Rattle.every_schedule.specs.{Claims.{first_view, has, holds, is_met, is_seen, last_of, noted, seeing, stored_by, viewed, worded}, Places.{Place, bared}}
+use Rattle.every_schedule.specs.{declared.claims.ClaimWord.{ClaimWord, TheVariants.{Compare, Not, And, Or, Deadlock, Left, Final}}, Claims.{Compares, Meets, View, WasSet, are_seen}}
+use Rattle.every_schedule.specs.{Claims.{first_view, has, holds, is_seen, last_of, noted, seeing, stored_by, viewed, worded}, Places.{Place, bared}}
 use Rattle.every_schedule.{specs.Places.{first_place, placed, stepped, unnoted}, proofs.{Bare.bare_step, Placed.first_bare, OwnKept.{and_true, or_second}}}
+
+use Rattle.every_schedule.specs.{declared.progress.Progress.{Progress, TheVariants.{GoesOn, Deadlocked, LeftBehind, AllOver}}, Standings.IsStanding}
+use Rattle.every_schedule.{specs.Private.Stopping.{meets_here, standing_of}, proofs.{Stopping.{standing_told, stands_so}, Unrest.{final_bare, final_noted}}}
 
 -- ---- truth values
 pub two_true : (a b : Bool) → a && b ≡ true → (a ≡ true) × (b ≡ true)
@@ -44,6 +47,9 @@ refs_seen seen words h = all_if (is_seen seen) words by
     by i Not at = refl
     by i And at = refl
     by i Or at = refl
+    by i Deadlock at = refl
+    by i Left at = refl
+    by i Final at = refl
 
 -- ---- refs that were set
 has_more : (r n : ℕ) (seen : List ℕ) → has r seen ≡ true → has r (seen ++ n ∷ []) ≡ true
@@ -93,20 +99,37 @@ noted_back r seen (Some n) h = by (has n seen) h
     by true e = inl e
     by false e = elim (has_back r n seen e) [ inl before ↦ inl before | inr is ↦ inr (ap Some is) ]
 
--- ---- the values of refs, without the notes of joins
-worded_bare : (s : Cells) (stack : List Bool) (word : ClaimWord) → worded (without_waits s) stack word ≡ worded s stack word
-worded_bare s stack (Compare r how v) = refl
-worded_bare s stack Not = refl
-worded_bare s stack And = refl
-worded_bare s stack Or = refl
+-- ---- the truth of words, without the notes of joins
+worded_bare : (x : Progress) (s : Cells) (stack : List Bool) (word : ClaimWord) → worded x (without_waits s) stack word ≡ worded x s stack word
+worded_bare x s stack (Compare r how v) = refl
+worded_bare x s stack Not = refl
+worded_bare x s stack And = refl
+worded_bare x s stack Or = refl
+worded_bare x s stack Deadlock = refl
+worded_bare x s stack Left = refl
+worded_bare x s stack Final = refl
 
-words_bare : (s : Cells) (words : List ClaimWord) (stack : List Bool) → fold (worded (without_waits s)) stack words ≡ fold (worded s) stack words
-words_bare s [] stack = refl
-words_bare s (word ∷ words) stack =
-    ap (λ t. fold (worded (without_waits s)) t words) (worded_bare s stack word) ∙ words_bare s words (worded s stack word)
+words_bare : (x : Progress) (s : Cells) (words : List ClaimWord) (stack : List Bool) →
+    fold (worded x (without_waits s)) stack words ≡ fold (worded x s) stack words
+words_bare x s [] stack = refl
+words_bare x s (word ∷ words) stack =
+    ap (λ t. fold (worded x (without_waits s)) t words) (worded_bare x s stack word) ∙ words_bare x s words (worded x s stack word)
 
-holds_bare : (s : Cells) (words : List ClaimWord) → holds (without_waits s) words ≡ holds s words
-holds_bare s words = ap last_of (words_bare s words [])
+holds_bare : (x : Progress) (s : Cells) (words : List ClaimWord) → holds x (without_waits s) words ≡ holds x s words
+holds_bare x s words = ap last_of (words_bare x s words [])
+
+-- a world stands as it does without the notes of joins
+standing_noted : (w : World) (x : Progress) → IsStanding (unnoted w) x → IsStanding w x
+standing_noted w GoesOn h = λ final. h (final_bare w final)
+standing_noted w Deadlocked h = (final_noted w h.0, h.1)
+standing_noted w LeftBehind h = (final_noted w h.0, h.1, h.2)
+standing_noted w AllOver h = (final_noted w h.0, h.1, h.2)
+
+standing_bare : (w : World) (x : Progress) → IsStanding w x → IsStanding (unnoted w) x
+standing_bare w GoesOn h = λ final. h (final_noted w final)
+standing_bare w Deadlocked h = (final_bare w h.0, h.1)
+standing_bare w LeftBehind h = (final_bare w h.0, h.1, h.2)
+standing_bare w AllOver h = (final_bare w h.0, h.1, h.2)
 
 -- ---- where entries lead
 core_fault : (k : Limits) (e : RunError) (s : List ℕ) → fold (entered k) (Err e) s ≡ Err e
@@ -200,27 +223,34 @@ module _ (code : Tree) (k : Limits) (words : List ClaimWord) where
   first_same : first_view (first_place code k) ≡ seen_at k (first_world code k) []
   first_same = ap first_view (sym (first_bare code k))
 
-  pub met_core : (s : List ℕ) (u : View) → run (viewed stepped) (Ok (first_view (first_place code k))) s ≡ Ok u → is_met u words ≡ true →
+  pub met_core : (s : List ℕ) (u : View) → run (viewed stepped) (Ok (first_view (first_place code k))) s ≡ Ok u → meets_here u words ≡ true →
       Meets code k words s
   unfolding core
   met_core s u led met =
       let c = sound k s (first_world code k) [] u (ap (λ v. run (viewed stepped) (Ok v) s) (sym first_same) ∙ led) in
-      let both = two_true (are_seen u.seen words) (holds u.place.world.cells words) met in
+      let x = standing_of u.place.world in
+      let both = two_true (are_seen u.seen words) (holds x u.place.world.cells words) met in
       record {
         world = c.world;
         leads = c.led;
         set = λ r is. elim (c.set r (seen_refs u.seen words both.0 r is)) [ inl none ↦ absurd (cc) | inr set ↦ set ];
-        truth = sym (holds_bare c.world.cells words) ∙ ap (λ (p : Place). holds p.world.cells words) (sym c.place) ∙ both.1;
+        standing = x;
+        stands = standing_noted c.world x (subst (λ (p : Place). IsStanding p.world x) c.place (standing_told u.place.world));
+        truth = sym (holds_bare x c.world.cells words) ∙ ap (λ (p : Place). holds x p.world.cells words) (sym c.place) ∙ both.1;
       }
 
   pub core_met : (s : List ℕ) → Meets code k words s →
-      (u : View) × (run (viewed stepped) (Ok (first_view (first_place code k))) s ≡ Ok u) × (is_met u words ≡ true)
+      (u : View) × (run (viewed stepped) (Ok (first_view (first_place code k))) s ≡ Ok u) × (meets_here u words ≡ true)
   unfolding core
   core_met s h =
-      let l = complete k s (first_world code k) [] h.world h.leads in (
+      let l = complete k s (first_world code k) [] h.world h.leads in
+      let x = h.standing in
+      let stands : x ≡ standing_of l.0.place.world =
+      stands_so l.0.place.world x (subst (λ (p : Place). IsStanding p.world x) (sym l.2) (standing_bare h.world x h.stands)) in (
         l.0,
         ap (λ v. run (viewed stepped) (Ok v) s) first_same ∙ l.1,
-        and_true (are_seen l.0.seen words) (holds l.0.place.world.cells words)
+        and_true (are_seen l.0.seen words) (holds (standing_of l.0.place.world) l.0.place.world.cells words)
             (refs_seen l.0.seen words (λ r is. l.3 r (inr (h.set r is))))
-            (ap (λ (p : Place). holds p.world.cells words) l.2 ∙ holds_bare h.world.cells words ∙ h.truth),
+            (ap (λ y. holds y l.0.place.world.cells words) (sym stands) ∙ ap (λ (p : Place). holds x p.world.cells words) l.2 ∙
+            holds_bare x h.world.cells words ∙ h.truth),
       )

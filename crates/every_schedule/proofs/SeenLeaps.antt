@@ -19,17 +19,27 @@ use Rattle.scheduled_core.proofs.Lists.{slice_get-set_other}
 use Rattle.world_search.specs.Free.{AreEarly, Commutes, Leads, Leaps}
 use Rattle.world_search.specs.Free.Leads.{Here, On}
 use Rattle.world_search.specs.Systems.{run}
-use Rattle.world_search.proofs.Views.{unmet_up}
+use Rattle.world_search.proofs.Views.{unmet_where_it_grows}
 use Rattle.every_schedule.specs.declared.claims.ClaimWord.{ClaimWord}
-use Rattle.every_schedule.specs.declared.claims.ClaimWord.TheVariants.{Compare, Not, And, Or}
-use Rattle.every_schedule.specs.Claims.{View, are_seen, holds, is_met, last_of, noted, seeing, stored_by, stored_in, viewed, worded}
-use Rattle.every_schedule.specs.Places.{Place, moves_at, placed, stepped, wants}
+use Rattle.every_schedule.specs.declared.claims.ClaimWord.TheVariants.{Compare, Not, And, Or, Deadlock, Left, Final}
+use Rattle.every_schedule.specs.Claims.{View, are_seen, holds, last_of, noted, seeing, stored_by, stored_in, viewed, worded}
+use Rattle.every_schedule.specs.Places.{Place, entering, moves_at, placed, stepped, unnoted, wants}
 use Rattle.every_schedule.specs.Reduced.{IsMade, has_birth, hundred_still, is_birth, is_birth_call, leapt, may_be}
+use Rattle.every_schedule.specs.declared.progress.Progress.{Progress}
+use Rattle.every_schedule.specs.Private.Leanings.{leaning_of}
+use Rattle.every_schedule.specs.Private.Stopping.{are_stopped, meets_here, standing_of}
+use Rattle.scheduled_core.specs.Core.{entered}
+use Rattle.scheduled_core.specs.Finals.{IsFinal}
+use Rattle.scheduled_core.proofs.Finality.{Still, final_stays}
+use Rattle.every_schedule.proofs.Leans.{truth_leans}
+use Rattle.every_schedule.proofs.OwnKept.{and_true}
+use Rattle.every_schedule.proofs.Stopping.{final_so, going_so, standing_same}
+use Rattle.every_schedule.proofs.Unrest.{final_bare}
 use Rattle.every_schedule.proofs.Bare.{enters, idle_stays}
 use Rattle.every_schedule.proofs.Bare.Enters.{Stays, Goes}
 use Rattle.every_schedule.proofs.EarlyMoves.{made_early, made_pairs}
 use Rattle.every_schedule.proofs.Leaps.{leaps}
-use Rattle.every_schedule.proofs.Still.{other_stays}
+use Rattle.every_schedule.proofs.Still.{other_stays, two_true}
 
 -- ---- a call that stores in no ref keeps the values of all refs
 abbrev IsStill : Call → Type 0
@@ -72,20 +82,42 @@ refs_stay p q f still e = elim (enters p f q e) [
       refs_turned p.limits p.world f (slice_get p.world.fibers f) still x goes
 ]
 
--- the truth of words depends only on the values of refs
-worded_refs : (s t : Cells) → s.refs ≡ t.refs → (stack : List Bool) (word : ClaimWord) → worded s stack word ≡ worded t stack word
-worded_refs s t same stack (Compare r how v) = ap (λ (l : List ℤ). worded (record { next_fiber = 0; next_ref = 0; next_deferred = 0; cells = []; refs = l; deferreds = [] }) stack (Compare r how v)) same
-worded_refs s t same stack Not = refl
-worded_refs s t same stack And = refl
-worded_refs s t same stack Or = refl
+-- in worlds that stand in the same way the truth of words depends only on the values of refs
+worded_refs : (x : Progress) (s t : Cells) → s.refs ≡ t.refs → (stack : List Bool) (word : ClaimWord) → worded x s stack word ≡ worded x t stack word
+worded_refs x s t same stack (Compare r how v) = ap (λ (l : List ℤ). worded x (record { next_fiber = 0; next_ref = 0; next_deferred = 0; cells = []; refs = l; deferreds = [] }) stack (Compare r how v)) same
+worded_refs x s t same stack Not = refl
+worded_refs x s t same stack And = refl
+worded_refs x s t same stack Or = refl
+worded_refs x s t same stack Deadlock = refl
+worded_refs x s t same stack Left = refl
+worded_refs x s t same stack Final = refl
 
-words_refs : (s t : Cells) → s.refs ≡ t.refs → (words : List ClaimWord) (stack : List Bool) → fold (worded s) stack words ≡ fold (worded t) stack words
-words_refs s t same [] stack = refl
-words_refs s t same (word ∷ words) stack =
-    ap (λ l. fold (worded s) l words) (worded_refs s t same stack word) ∙ words_refs s t same words (worded t stack word)
+words_refs : (x : Progress) (s t : Cells) → s.refs ≡ t.refs → (words : List ClaimWord) (stack : List Bool) →
+    fold (worded x s) stack words ≡ fold (worded x t) stack words
+words_refs x s t same [] stack = refl
+words_refs x s t same (word ∷ words) stack =
+    ap (λ l. fold (worded x s) l words) (worded_refs x s t same stack word) ∙ words_refs x s t same words (worded x t stack word)
 
-pub holds_refs : (s t : Cells) → s.refs ≡ t.refs → (words : List ClaimWord) → holds s words ≡ holds t words
-holds_refs s t same words = ap last_of (words_refs s t same words [])
+pub holds_refs : (x : Progress) (s t : Cells) → s.refs ≡ t.refs → (words : List ClaimWord) → holds x s words ≡ holds x t words
+holds_refs x s t same words = ap last_of (words_refs x s t same words [])
+
+-- an entry at a final world keeps how the world stands
+standing_kept : (p q : Place) (f : ℕ) → IsFinal p.world → stepped p f ≡ Ok q → standing_of q.world ≡ standing_of p.world
+standing_kept p q f final e = elim (enters p f q e) [
+  | Stays is ↦ ap (λ (y : Place). standing_of y.world) (sym is)
+  | Goes x goes is ↦ ap (λ (y : Place). standing_of y.world) (sym is) ∙ gone x goes
+]
+  where
+    still : Still p.world (entered p.limits (Ok p.world) f)
+    still = final_stays p.limits p.world (f ∷ []) final
+
+    gone : (x : Place) → entering p f ≡ Ok x → standing_of (unnoted x.world) ≡ standing_of p.world
+    gone x goes =
+        let there : Place = record { limits = p.limits; world = still.world } in
+        let led : Ok there ≡ Ok x = sym (ap (placed p.limits) still.is) ∙ goes in
+        let same : there ≡ x = cc in
+        subst (λ (y : Place). standing_of (unnoted y.world) ≡ standing_of p.world) same
+        (standing_same (unnoted still.world) p.world (final_bare still.world still.final) final still.reports)
 
 -- ---- views
 pub no_store : (o : Option Fiber) → may_be false o ≡ true → stored_by o ≡ None
@@ -201,16 +233,29 @@ leaps_views : (v : View) (f : ℕ) → Leaps (viewed stepped) IsFree (viewed ste
 leaps_views v f =
     leaps_seeing (noted v.seen (stored_by (slice_get v.place.world.fibers f))) (stepped v.place f) (leapt hundred_still v.place f) (leaps hundred_still v.place f)
 
-keeps_claims : (words : List ClaimWord) (v : View) (f : ℕ) (x : View) → IsFree v f → viewed stepped v f ≡ Ok x → is_met x words ≡ is_met v words
-keeps_claims words v f x h e =
-    let is = free_is v f x h e in
-    ap₂ (λ (seen : List ℕ) (t : Bool). are_seen seen words && t) is.1
-    (holds_refs x.place.world.cells v.place.world.cells
-    (refs_stay v.place x.place f (free_stores v.place f h) is.0) words)
+-- a claim that can't be false only because no fiber can go on stays true
+module _ (words : List ClaimWord) (up : (leaning_of words).falls ≡ false) where
+  grown_by : (v : View) (f : ℕ) (x : View) (b : Bool) → are_stopped v.place.world.cells 0 v.place.world.fibers ≡ b → stepped v.place f ≡ Ok x.place →
+      holds (standing_of v.place.world) v.place.world.cells words ≡ true → holds (standing_of x.place.world) v.place.world.cells words ≡ true
+  grown_by v f x true stopped e met =
+      ap (λ y. holds y v.place.world.cells words) (standing_kept v.place x.place f (final_so v.place.world stopped) e) ∙ met
+  grown_by v f x false stopped e met =
+      (truth_leans v.place.world.cells (standing_of x.place.world) words).up up
+      (ap (λ y. holds y v.place.world.cells words) (sym (going_so v.place.world stopped)) ∙ met)
 
--- a claim that no world of the reduced search meets is met by no world
-pub unmet_all : (words : List ClaimWord) (first : View) →
-    ((t : List ℕ) (w : View) → run (viewed (leapt hundred_still)) (Ok first) t ≡ Ok w → is_met w words ≡ false) →
-    (s : List ℕ) (w : View) → run (viewed stepped) (Ok first) s ≡ Ok w → is_met w words ≡ false
-unmet_all words first none s w led =
-    unmet_up (viewed stepped) IsFree free_views (viewed (leapt hundred_still)) leaps_views (λ v. is_met v words) (keeps_claims words) first none s w led
+  keeps_claims : (v : View) (f : ℕ) (x : View) → IsFree v f → viewed stepped v f ≡ Ok x → meets_here v words ≡ true → meets_here x words ≡ true
+  keeps_claims v f x h e met =
+      let is = free_is v f x h e in
+      let both = two_true (are_seen v.seen words) (holds (standing_of v.place.world) v.place.world.cells words) met in
+      and_true (are_seen x.seen words) (holds (standing_of x.place.world) x.place.world.cells words)
+          (ap (λ (seen : List ℕ). are_seen seen words) is.1 ∙ both.0)
+          (holds_refs (standing_of x.place.world) x.place.world.cells v.place.world.cells
+          (refs_stay v.place x.place f (free_stores v.place f h) is.0) words ∙
+          grown_by v f x (are_stopped v.place.world.cells 0 v.place.world.fibers) refl is.0 both.1)
+
+  -- such a claim, if no world of the reduced search meets it, is met by no world
+  pub unmet_all : (first : View) →
+      ((t : List ℕ) (w : View) → run (viewed (leapt hundred_still)) (Ok first) t ≡ Ok w → meets_here w words ≡ false) →
+      (s : List ℕ) (w : View) → run (viewed stepped) (Ok first) s ≡ Ok w → meets_here w words ≡ true → ⊥
+  unmet_all first none s w led =
+      unmet_where_it_grows (viewed stepped) IsFree free_views (viewed (leapt hundred_still)) leaps_views (λ v. meets_here v words) keeps_claims first none s w led

@@ -10,7 +10,8 @@ use Rattle.world_search.specs.Landings.{EntersAt}
 use Rattle.world_search.specs.Lists.{IsMore}
 use Rattle.world_search.proofs.Lists.{get_end, get_low, more_get, more_long, more_same}
 use Rattle.every_schedule.specs.Claims.{View, first_view, noted, seeing, stored_by, viewed}
-use Rattle.every_schedule.specs.Places.{Place}
+use Rattle.every_schedule.specs.Places.{Place, stepped}
+use Rattle.every_schedule.proofs.Bare.{unborn_stays}
 use Rattle.every_schedule.specs.Private.Keeping.{IsKept}
 use Rattle.every_schedule.specs.Private.Seen.{AreThere, IsRowAdded, IsRowMet, Marked, place_in, view_of}
 use Rattle.cell_registry.specs.declared.limits.Limits.{Limits}
@@ -141,3 +142,8 @@ view_rests w p seen f is past =
     let here : View = record { place = p; seen = seen } in
     subst (λ (v : View). viewed (leapt hundred_still) v f ≡ Ok v) is
     (ap₂ seeing (ap (λ (o : Option Fiber). noted seen (stored_by o)) (slice_get_past p.world.fibers f past)) (leapt_rests hundred_still p f past))
+
+pub strict_rests : (w : View) (f : ℕ) → length w.place.world.fibers ≤ f → viewed stepped w f ≡ Ok w
+strict_rests w f past =
+    let none = slice_get_past w.place.world.fibers f past in
+    ap₂ seeing (ap (λ (o : Option Fiber). noted w.seen (stored_by o)) none) (unborn_stays w.place f none)

@@ -110,6 +110,10 @@ module _ (s : Cells) (f : ℕ) (g : Fiber) where
   goes_on a is goes unended (inr rests) =
       served (row_of g reply.Done).call (subst GoesOn is goes) (waits_so g (reply_to s f (word_wish g)) rests.waits) refl
 
+  -- nor does it wait
+  pub goes_not : (a : Ask) → a ≡ (row_of g reply.Done).call → GoesOn a → (row_of g (reply_to s f (word_wish g))).kind ≡ Waited → ⊥
+  goes_not a is goes waits = served (row_of g reply.Done).call (subst GoesOn is goes) (waits_so g (reply_to s f (word_wish g)) waits) refl
+
 -- ---- the notes of joins change no wait
 reply_to_bare : (s : Cells) (f : ℕ) (w : Wish) → reply_to (without_waits s) f w ≡ reply_to s f w
 reply_to_bare s f (Shared c) = same_reply s f c

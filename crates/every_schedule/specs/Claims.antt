@@ -13,10 +13,13 @@ use Rattle.scheduled_core.specs.declared.wish.Wish.{Wish}
 use Rattle.scheduled_core.specs.declared.wish.Wish.TheVariants.{Shared}
 use Rattle.scheduled_core.specs.Core.{World, core, entered, first_world, wish_of}
 use Rattle.every_schedule.specs.declared.claims.ClaimWord.{ClaimWord}
-use Rattle.every_schedule.specs.declared.claims.ClaimWord.TheVariants.{Compare, Not, And, Or}
+use Rattle.every_schedule.specs.declared.claims.ClaimWord.TheVariants.{Compare, Not, And, Or, Deadlock, Left, Final}
 use Rattle.every_schedule.specs.declared.claims.Comparison.{Comparison}
 use Rattle.every_schedule.specs.declared.claims.Comparison.TheVariants as is
+use Rattle.every_schedule.specs.declared.progress.Progress.{Progress}
+use Rattle.every_schedule.specs.declared.progress.Progress.TheVariants.{GoesOn, Deadlocked, LeftBehind, AllOver}
 use Rattle.every_schedule.specs.Places.{Place}
+use Rattle.every_schedule.specs.Standings.{IsStanding}
 use Rattle.world_search.specs.declared.claims.Met.{Met}
 
 -- ---- the truth of a claim's words
@@ -35,18 +38,42 @@ last_of stack = slice_index_or stack (length stack - 1) false
 abbrev pub without_last : List Bool → List Bool
 without_last stack = take (length stack - 1) stack
 
--- the stack after a word
-abbrev pub worded : Cells → List Bool → ClaimWord → List Bool
-worded s stack (Compare r how v) = stack ++ compares how (ref_of s r) v ∷ []
-worded s stack Not = without_last stack ++ not (last_of stack) ∷ []
-worded s stack And =
-    without_last (without_last stack) ++ (last_of (without_last stack) && last_of stack) ∷ []
-worded s stack Or =
-    without_last (without_last stack) ++ (last_of (without_last stack) || last_of stack) ∷ []
+-- no fiber can go on, and fiber 0 hasn't ended
+abbrev pub is_deadlock : Progress → Bool
+is_deadlock GoesOn = false
+is_deadlock Deadlocked = true
+is_deadlock LeftBehind = false
+is_deadlock AllOver = false
 
--- the truth of these words, under the values of these refs
-abbrev pub holds : Cells → List ClaimWord → Bool
-holds s words = last_of (fold (worded s) [] words)
+-- no fiber can go on, fiber 0 has ended, and some other fiber hasn't
+abbrev pub is_left : Progress → Bool
+is_left GoesOn = false
+is_left Deadlocked = false
+is_left LeftBehind = true
+is_left AllOver = false
+
+-- no fiber can go on
+abbrev pub is_final : Progress → Bool
+is_final GoesOn = false
+is_final Deadlocked = true
+is_final LeftBehind = true
+is_final AllOver = true
+
+-- the stack after a word, in a world that stands so, with these values of the refs
+abbrev pub worded : Progress → Cells → List Bool → ClaimWord → List Bool
+worded x s stack (Compare r how v) = stack ++ compares how (ref_of s r) v ∷ []
+worded x s stack Not = without_last stack ++ not (last_of stack) ∷ []
+worded x s stack And =
+    without_last (without_last stack) ++ (last_of (without_last stack) && last_of stack) ∷ []
+worded x s stack Or =
+    without_last (without_last stack) ++ (last_of (without_last stack) || last_of stack) ∷ []
+worded x s stack Deadlock = stack ++ is_deadlock x ∷ []
+worded x s stack Left = stack ++ is_left x ∷ []
+worded x s stack Final = stack ++ is_final x ∷ []
+
+-- the truth of these words, in a world that stands so, under the values of these refs
+abbrev pub holds : Progress → Cells → List ClaimWord → Bool
+holds x s words = last_of (fold (worded x s) [] words)
 
 -- ---- refs that were set
 -- the number is in the list
@@ -82,12 +109,14 @@ abbrev pub Compares : List ClaimWord → ℕ → Type 0
 Compares words r = (i : ℕ) × (how : Comparison) × (v : ℤ) × (slice_get words i ≡ Some (Compare r how v))
 
 -- The schedule leads to a world that meets the claim: each ref that its words compare was set by an entry of the
--- schedule, and the words are true under the values of the refs there
+-- schedule, and the words are true there, as the world stands and under the values of its refs
 pub record Meets (code : Tree) (k : Limits) (words : List ClaimWord) (schedule : List ℕ) : Type 0 where
   pub world : World
   pub leads : core code k schedule ≡ Ok world
   pub set : (r : ℕ) → Compares words r → WasSet k r (first_world code k) schedule
-  pub truth : holds world.cells words ≡ true
+  pub standing : Progress
+  pub stands : IsStanding world standing
+  pub truth : holds standing world.cells words ≡ true
 
 -- ---- worlds as a search for claims keeps them: with the refs that were set before, in the order of their first sets
 pub record View : Type 0 where
@@ -107,8 +136,9 @@ seeing seen (Err e) = Err e
 abbrev pub viewed : (Place → ℕ → Result Place RunError) → View → ℕ → Result View RunError
 viewed step v f = seeing (noted v.seen (stored_by (slice_get v.place.world.fibers f))) (step v.place f)
 
-abbrev pub is_met : View → List ClaimWord → Bool
-is_met v words = are_seen v.seen words && holds v.place.world.cells words
+-- a view of a world that stands so meets a claim
+abbrev pub is_met : Progress → View → List ClaimWord → Bool
+is_met x v words = are_seen v.seen words && holds x v.place.world.cells words
 
 -- the view of a program before the first move
 abbrev pub first_view : Place → View

@@ -5,3 +5,4 @@ pub mod Reduced
 pub mod Claims
 pub mod Fairness
 pub mod Private
+pub mod Standings

@@ -10,3 +10,5 @@ pub mod Reporting
 pub mod Trails
 pub mod Seen
 pub mod Looking
+pub mod Stopping
+pub mod Leanings

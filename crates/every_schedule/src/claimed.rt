@@ -10,12 +10,14 @@ ghost use Rattle.world_search.specs.Claims.{IsFew, IsFound};
 ghost use Rattle.world_search.specs.Lists.{IsMore};
 ghost use Rattle.every_schedule.specs.declared.claims.ClaimWord.{ClaimWord as TheClaimWord};
 ghost use Rattle.every_schedule.specs.Claims.{IsMetIn, Meets};
+ghost use Rattle.every_schedule.specs.Private.Leanings.{leaning_of};
 
 use crate::claims::{Claim, SeenWorld};
 use crate::core_world::CoreWorld;
+use crate::leanings::none_fall;
 use crate::leaping::is_memory;
 use crate::own_moves::stored_by;
-use crate::seen_worlds::{STILL, SeenWorlds, note_ref};
+use crate::seen_worlds::{STILL, SeenWorlds, StrictWorlds, note_ref};
 use crate::unfolding::unfold;
 use cell_registry::{Limits, RunError};
 use effect_term::Program;
@@ -34,7 +36,8 @@ use world_search::{Bounds, Claimed, Met, Watcher};
 ///
 /// The search is reduced as in [`explore`](crate::explore), but makes no move at once that sets or changes a ref: the
 /// values of the refs in each world that a schedule leads to are those in a kept world. `bounds.entries` doesn't count
-/// the own moves after the entries.
+/// the own moves after the entries. If one of the claims can be false only because no fiber can go on, as one with a
+/// `not` before `final` can, no move is made at once.
 ///
 /// The limits are in their ranges ([`Limits`]). The watcher is asked as in
 /// [`explore_watched`](crate::explore_watched). [`RunError::NoMemory`] is the only error.
@@ -60,18 +63,101 @@ pub fn search_claims<V: Watcher>(
     ensures watches { V.can_stop watcher.new ≡ V.can_stop watcher.old }
     ensures memory { IfErr result (λ e. e ≡ RunError.NoMemory) }
 {
+    let found = chosen_search(alloc, program, limits, bounds, claims, watcher)?;
+    let certified = certify(alloc, program, limits, claims, found)?;
+    Ok(certified)
+}
+
+// The search that makes moves at once, if no claim can be false only because no fiber can go on, or else the one that
+// makes none.
+fn chosen_search<V: Watcher>(
+    alloc: Global,
+    program: &Program,
+    limits: Limits,
+    bounds: Bounds,
+    claims: &[Claim],
+    watcher: &mut V,
+) -> Result<Claimed, RunError>
+    requires { AreLimits limits }
+    ensures unmet { IfOk result (λ it. it.complete ≡ true → (i : ℕ) (words : List TheClaimWord) →
+        slice_get claims.now i ≡ Some words → (IsFound i it.met.items → ⊥) → (schedule : List ℕ) →
+        Meets (code_of (source_of program.now)) limits words schedule → ⊥) }
+    ensures numbers { IfOk result (λ it. All (IsFew 1000) it.met.items) }
+    ensures spare { IfOk result (λ it. it.complete ≡ true → it.bytes < bounds.memory) }
+    ensures room { IfOk result (λ it. it.worlds ≤ max bounds.worlds 1) }
+    ensures halted { IfOk result (λ it. it.halted ≡ true → V.has_stopped watcher.new ≡ true) }
+    ensures may { IfOk result (λ it. it.halted ≡ true → V.can_stop watcher.old ≡ true) }
+    ensures apart { IfOk result (λ it. it.complete ≡ true → it.halted ≡ false) }
+    ensures watches { V.can_stop watcher.new ≡ V.can_stop watcher.old }
+    ensures memory { IfErr result (λ e. e ≡ RunError.NoMemory) }
+{
+    if none_fall(alloc, claims)? {
+        return still_search(alloc, program, limits, bounds, claims, watcher);
+    }
+    strict_search(alloc, program, limits, bounds, claims, watcher)
+}
+
+// The search that makes at once moves that set or change no ref. No claim is false only because no fiber can go on.
+fn still_search<V: Watcher>(
+    alloc: Global,
+    program: &Program,
+    limits: Limits,
+    bounds: Bounds,
+    claims: &[Claim],
+    watcher: &mut V,
+) -> Result<Claimed, RunError>
+    requires limits { AreLimits limits }
+    requires up { (i : ℕ) (words : List TheClaimWord) → slice_get claims.now i ≡ Some words →
+        (leaning_of words).falls ≡ false }
+    ensures unmet { IfOk result (λ it. it.complete ≡ true → (i : ℕ) (words : List TheClaimWord) →
+        slice_get claims.now i ≡ Some words → (IsFound i it.met.items → ⊥) → (schedule : List ℕ) →
+        Meets (code_of (source_of program.now)) limits words schedule → ⊥) }
+    ensures numbers { IfOk result (λ it. All (IsFew 1000) it.met.items) }
+    ensures spare { IfOk result (λ it. it.complete ≡ true → it.bytes < bounds.memory) }
+    ensures room { IfOk result (λ it. it.worlds ≤ max bounds.worlds 1) }
+    ensures halted { IfOk result (λ it. it.halted ≡ true → V.has_stopped watcher.new ≡ true) }
+    ensures may { IfOk result (λ it. it.halted ≡ true → V.can_stop watcher.old ≡ true) }
+    ensures apart { IfOk result (λ it. it.complete ≡ true → it.halted ≡ false) }
+    ensures watches { V.can_stop watcher.new ≡ V.can_stop watcher.old }
+    ensures memory { IfErr result (λ e. e ≡ RunError.NoMemory) }
+{
     let mut worlds = SeenWorlds::new(alloc, program, limits)?;
     let found = world_search::search_claims(alloc, &mut worlds, claims, bounds, watcher)?;
     let met = unfold_met(alloc, program, limits, found.met.as_slice())?;
-    let unfolded = Claimed {
+    Ok(Claimed {
         met,
         complete: found.complete,
         halted: found.halted,
         worlds: found.worlds,
         bytes: found.bytes,
-    };
-    let certified = certify(alloc, program, limits, claims, unfolded)?;
-    Ok(certified)
+    })
+}
+
+// The search that makes no move at once.
+fn strict_search<V: Watcher>(
+    alloc: Global,
+    program: &Program,
+    limits: Limits,
+    bounds: Bounds,
+    claims: &[Claim],
+    watcher: &mut V,
+) -> Result<Claimed, RunError>
+    requires { AreLimits limits }
+    ensures unmet { IfOk result (λ it. it.complete ≡ true → (i : ℕ) (words : List TheClaimWord) →
+        slice_get claims.now i ≡ Some words → (IsFound i it.met.items → ⊥) → (schedule : List ℕ) →
+        Meets (code_of (source_of program.now)) limits words schedule → ⊥) }
+    ensures numbers { IfOk result (λ it. All (IsFew 1000) it.met.items) }
+    ensures spare { IfOk result (λ it. it.complete ≡ true → it.bytes < bounds.memory) }
+    ensures room { IfOk result (λ it. it.worlds ≤ max bounds.worlds 1) }
+    ensures halted { IfOk result (λ it. it.halted ≡ true → V.has_stopped watcher.new ≡ true) }
+    ensures may { IfOk result (λ it. it.halted ≡ true → V.can_stop watcher.old ≡ true) }
+    ensures apart { IfOk result (λ it. it.complete ≡ true → it.halted ≡ false) }
+    ensures watches { V.can_stop watcher.new ≡ V.can_stop watcher.old }
+    ensures memory { IfErr result (λ e. e ≡ RunError.NoMemory) }
+{
+    let mut worlds = StrictWorlds::new(alloc, program, limits)?;
+    let found = world_search::search_claims(alloc, &mut worlds, claims, bounds, watcher)?;
+    Ok(found)
 }
 
 // Returns the claims that a reduced search met, with schedules in which each entry is one move.

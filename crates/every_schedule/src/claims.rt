@@ -1,10 +1,13 @@
 //! Claims of worlds, and whether a world meets one.
 ghost use Rattle.std.specs.Prelude.{◌≡◌, ◌&&◌, IfOk, OnOk, ◌++◌, [], ◌∷◌};
 ghost use Rattle.cell_registry.specs.Cells.{ref_of};
-ghost use Rattle.every_schedule.specs.Claims.{are_seen, compares, holds as the_truth, is_met as is_met_at, is_seen};
+ghost use Rattle.every_schedule.specs.Claims.{are_seen, compares, holds as the_truth, is_seen};
+ghost use Rattle.every_schedule.specs.Claims.{is_deadlock, is_final, is_left};
 ghost use Rattle.every_schedule.specs.Claims.{last_of, without_last, worded};
+ghost use Rattle.every_schedule.specs.Private.Stopping.{meets_here};
 
 use crate::core_world::CoreWorld;
+use crate::progress::{Progress, standing_of};
 use cell_registry::PlainRegistry;
 use effect_term::Value;
 use std::alloc::{AllocError, Global};
@@ -27,8 +30,9 @@ pub enum Comparison {
     AtLeast,
 }
 
-/// A word of a claim. The words are in postfix order, over a stack of truth values: a comparison pushes its truth, and
-/// each other word pops one or two values and pushes its own. `false` is popped from an empty stack.
+/// A word of a claim. The words are in postfix order, over a stack of truth values: a comparison and a word about the
+/// whole world push their truth, and each other word pops one or two values and pushes its own. `false` is popped from
+/// an empty stack.
 #[derive(Clone, Copy)]
 pub enum ClaimWord {
     /// Compares the value of the ref of this number with a value. Refs are numbered from 0, in the order in which they
@@ -40,6 +44,12 @@ pub enum ClaimWord {
     And,
     /// Whether at least one of the last two truth values is true.
     Or,
+    /// Whether no fiber can go on, and fiber 0 hasn't ended.
+    Deadlock,
+    /// Whether no fiber can go on, fiber 0 has ended, and some other fiber hasn't.
+    Left,
+    /// Whether no fiber can go on.
+    Final,
 }
 
 /// A claim about a world.
@@ -75,20 +85,21 @@ impl Claim {
         self.words.as_slice()
     }
 
-    /// Whether a world with this registry meets the claim, if these refs were set before. `AllocError` where memory is
-    /// refused.
+    /// Whether a world that stands so, with this registry, meets the claim, if these refs were set before. `AllocError`
+    /// where memory is refused.
     pub fn is_met(
         &self,
         alloc: Global,
         registry: PlainRegistry,
+        standing: Progress,
         seen: &[u16],
     ) -> Result<bool, AllocError>
-        ensures { IfOk result (λ it. it ≡ (are_seen seen.now self.now && the_truth registry.state self.now)) }
+        ensures { IfOk result (λ it. it ≡ (are_seen seen.now self.now && the_truth standing registry.state self.now)) }
     {
         if !have_seen(self.words(), seen) {
             return Ok(false);
         }
-        holds(alloc, registry, self.words())
+        holds(alloc, registry, standing, self.words())
     }
 }
 
@@ -123,11 +134,12 @@ impl SeenWorld {
 
     /// Whether the world meets a claim.
     pub(crate) fn meets(self, alloc: Global, claim: &Claim) -> Result<bool, AllocError>
-        ensures { IfOk result (λ it. it ≡ is_met_at self claim.now) }
+        ensures { IfOk result (λ it. it ≡ meets_here self claim.now) }
     {
         let SeenWorld { world, seen } = self;
+        let standing = standing_of(alloc, world.fibers(), world.registry())?;
         let (_fibers, registry) = world.into_parts();
-        claim.is_met(alloc, registry, seen.as_slice())
+        claim.is_met(alloc, registry, standing, seen.as_slice())
     }
 }
 
@@ -149,21 +161,27 @@ fn has_seen(word: ClaimWord, seen: &[u16]) -> bool
 {
     match word {
         ClaimWord::Compare(number, _, _) => seen.contains(&number),
-        ClaimWord::Not | ClaimWord::And | ClaimWord::Or => true,
+        ClaimWord::Not
+        | ClaimWord::And
+        | ClaimWord::Or
+        | ClaimWord::Deadlock
+        | ClaimWord::Left
+        | ClaimWord::Final => true,
     }
 }
 
-// The truth of these words under the values of a registry.
+// The truth of these words in a world that stands so, under the values of a registry.
 fn holds(
     alloc: Global,
     mut registry: PlainRegistry,
+    standing: Progress,
     words: &[ClaimWord],
 ) -> Result<bool, AllocError>
-    ensures { IfOk result (λ it. it ≡ the_truth registry.state words.now) }
+    ensures { IfOk result (λ it. it ≡ the_truth standing registry.state words.now) }
 {
     let mut stack = Vec::new(alloc);
     for word in words {
-        step(&mut registry, &mut stack, *word)?;
+        step(&mut registry, standing, &mut stack, *word)?;
     }
     Ok(pop(&mut stack))
 }
@@ -171,21 +189,27 @@ fn holds(
 // Applies one word to the stack.
 fn step(
     registry: &mut PlainRegistry,
+    standing: Progress,
     stack: &mut Vec<bool>,
     word: ClaimWord,
 ) -> Result<(), AllocError>
     ensures same { registry.new ≡ registry.old }
-    ensures stack { OnOk result (stack.new.items ≡ worded registry.old.state stack.old.items word) }
+    ensures stack { OnOk result (stack.new.items ≡ worded standing registry.old.state stack.old.items word) }
 {
-    let truth = truth_of(registry, &mut *stack, word);
+    let truth = truth_of(registry, standing, &mut *stack, word);
     stack.push(truth)?;
     Ok(())
 }
 
 // Pops the truth values that a word takes, and returns the one that it pushes.
-fn truth_of(registry: &mut PlainRegistry, stack: &mut Vec<bool>, word: ClaimWord) -> bool
+fn truth_of(
+    registry: &mut PlainRegistry,
+    standing: Progress,
+    stack: &mut Vec<bool>,
+    word: ClaimWord,
+) -> bool
     ensures same { registry.new ≡ registry.old }
-    ensures stack { worded registry.old.state stack.old.items word ≡ stack.new.items ++ result ∷ [] }
+    ensures stack { worded standing registry.old.state stack.old.items word ≡ stack.new.items ++ result ∷ [] }
 {
     match word {
         ClaimWord::Compare(number, how, value) => is_so(how, value_of(registry, number), value),
@@ -200,6 +224,39 @@ fn truth_of(registry: &mut PlainRegistry, stack: &mut Vec<bool>, word: ClaimWord
             let first = pop(stack);
             first || second
         }
+        ClaimWord::Deadlock => is_deadlock(standing),
+        ClaimWord::Left => is_left(standing),
+        ClaimWord::Final => is_final(standing),
+    }
+}
+
+// Whether no fiber can go on, and fiber 0 hasn't ended.
+fn is_deadlock(standing: Progress) -> bool
+    ensures { result ≡ is_deadlock standing }
+{
+    match standing {
+        Progress::Deadlocked => true,
+        Progress::GoesOn | Progress::LeftBehind | Progress::AllOver => false,
+    }
+}
+
+// Whether no fiber can go on, fiber 0 has ended, and some other fiber hasn't.
+fn is_left(standing: Progress) -> bool
+    ensures { result ≡ is_left standing }
+{
+    match standing {
+        Progress::LeftBehind => true,
+        Progress::GoesOn | Progress::Deadlocked | Progress::AllOver => false,
+    }
+}
+
+// Whether no fiber can go on.
+fn is_final(standing: Progress) -> bool
+    ensures { result ≡ is_final standing }
+{
+    match standing {
+        Progress::Deadlocked | Progress::LeftBehind | Progress::AllOver => true,
+        Progress::GoesOn => false,
     }
 }
 

@@ -10,13 +10,15 @@ ghost use Rattle.world_search.specs.declared.claims.Met.{Met as TheMet};
 ghost use Rattle.world_search.specs.Claims.{IsBrief, IsFew, IsFound};
 ghost use Rattle.world_search.specs.Lists.{IsMore};
 ghost use Rattle.every_schedule.specs.declared.claims.ClaimWord.{ClaimWord as TheClaimWord};
-ghost use Rattle.every_schedule.specs.Claims.{IsMetIn, MeetsOnTheWay, is_met};
+ghost use Rattle.every_schedule.specs.Claims.{IsMetIn, MeetsOnTheWay};
 ghost use Rattle.every_schedule.specs.Private.Looking.{AddsMet, IsAt, AreFoundBelow};
+ghost use Rattle.every_schedule.specs.Private.Stopping.{meets_here};
 
 use crate::claims::Claim;
 use crate::core_world::CoreWorld;
 use crate::leaping::is_memory;
 use crate::own_moves::stored_by;
+use crate::progress::standing_of;
 use crate::seen_worlds::note_ref;
 use cell_registry::{Limits, RunError};
 use effect_term::Program;
@@ -118,7 +120,7 @@ fn look_at(
     ensures added { OnOk result ((code : Tree) (k : TheLimits) (claims : List (List TheClaimWord)) →
         IsAt code k world.now seen.now entries.now → slice_get claims number ≡ Some claim.now →
         AddsMet code k claims entries.now met.old.items met.new.items) }
-    ensures found { OnOk result (is_met record { place = world.now; seen = seen.now } claim.now ≡ true →
+    ensures found { OnOk result (meets_here record { place = world.now; seen = seen.now } claim.now ≡ true →
         IsFound number met.new.items) }
 {
     if has_claim(met.as_slice(), number) {
@@ -134,10 +136,11 @@ fn look_at(
 
 // Whether the world meets a claim, if these refs were set before.
 fn is_met(alloc: Global, world: &CoreWorld, seen: &[u16], claim: &Claim) -> Result<bool, AllocError>
-    ensures { IfOk result (λ it. it ≡ is_met record { place = world.now; seen = seen.now } claim.now) }
+    ensures { IfOk result (λ it. it ≡ meets_here record { place = world.now; seen = seen.now } claim.now) }
 {
+    let standing = standing_of(alloc, world.fibers(), world.registry())?;
     let registry = world.registry().copy(alloc)?;
-    let it = claim.is_met(alloc, registry, seen)?;
+    let it = claim.is_met(alloc, registry, standing, seen)?;
     Ok(it)
 }
 

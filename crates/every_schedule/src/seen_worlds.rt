@@ -4,15 +4,18 @@ ghost use Rattle.std.specs.List.{slice_get};
 ghost use Rattle.derived_ops.specs.Expansion.{code_of};
 ghost use Rattle.derived_ops.specs.Reading.{source_of};
 ghost use Rattle.cell_registry.specs.Cells.{AreLimits};
-ghost use Rattle.world_search.specs.Landings.{IsNext};
-ghost use Rattle.every_schedule.specs.Claims.{first_view, noted};
+ghost use Rattle.world_search.specs.Landings.{EntersAt, IsNext};
+ghost use Rattle.world_search.specs.Lists.{IsMore};
+ghost use Rattle.every_schedule.specs.Claims.{View, first_view, noted, viewed};
 ghost use Rattle.every_schedule.specs.Places.{first_place};
+ghost use Rattle.every_schedule.specs.Reduced.{leapt};
 ghost use Rattle.every_schedule.specs.Private.Keeping.{IsKept};
 ghost use Rattle.every_schedule.specs.Private.Numbered.{MayAdd};
 ghost use Rattle.every_schedule.specs.Private.Seen.{IsRowAdded, IsRowMet};
+ghost use Rattle.every_schedule.specs.Private.Stopping.{meets_here};
 
 use crate::claims::{Claim, SeenWorld};
-use crate::core_worlds::CoreWorlds;
+use crate::core_worlds::{CoreWorlds, NONE};
 use crate::leaping::AtOnce;
 use crate::pool::{Pool, Pooled};
 use crate::seen_row::SeenRow;
@@ -85,6 +88,58 @@ impl SeenWorlds {
             rows,
             trail: Vec::new(alloc),
         })
+    }
+
+    // The number of fibers that are born in a world.
+    fn many(&self, world: usize) -> u16
+        requires { world < length self.now.views }
+        ensures born { (v : View) → slice_get self.now.views world ≡ Some v → result ≡ length v.place.world.fibers }
+        ensures few { result ≤ 1000 }
+    {
+        let row = &self.rows.items[world];
+        let number = row.world();
+        self.worlds.born_at(number)
+    }
+
+    // Makes the entry of a fiber at a world, then moves as `at_once` allows, and notes the ref that the entry sets.
+    fn made(
+        &mut self,
+        world: usize,
+        fiber: u16,
+        most: usize,
+        at_once: AtOnce,
+    ) -> Result<Entered, AllocError>
+        requires { world < length self.old.views }
+        ensures worlds { OnOk result (IsMore self.old.views self.new.views) }
+        ensures faults { OnOk result (IsMore self.old.faults self.new.faults) }
+        ensures lands { IfOk result (λ it. (v : View) → slice_get self.old.views world ≡ Some v →
+            EntersAt self.new.views self.new.faults it (viewed (leapt at_once) v fiber)) }
+        ensures room { OnOk result (length self.new.views ≤ max most (length self.old.views)) }
+        ensures next { IfOk result (IsNext (length self.old.views) (length self.new.views) most) }
+    {
+        let row = &self.rows.items[world];
+        let number = row.world();
+        let stored = self.worlds.stored(number, fiber);
+        let seen = seen_after(self.alloc, row.seen(), stored)?;
+        let room = room(self.rows.items.len(), most);
+        let came = self
+            .worlds
+            .entry(number, fiber, room, at_once, &mut self.trail)?;
+        row_met(&mut self.rows, came, seen, most)
+    }
+
+    // Whether a world meets a claim.
+    fn is_met(&self, world: usize, claim: &Claim) -> Result<bool, AllocError>
+        requires { world < length self.now.views }
+        ensures { IfOk result (λ it. (v : View) → slice_get self.now.views world ≡ Some v →
+            it ≡ meets_here v claim.now) }
+    {
+        let row = &self.rows.items[world];
+        let number = row.world();
+        let core = self.worlds.world(number)?;
+        let seen = Vec::from_slice(self.alloc, row.seen())?;
+        let here = SeenWorld::new(core, seen);
+        here.meets(self.alloc, claim)
     }
 }
 
@@ -195,21 +250,11 @@ impl Worlds for SeenWorlds {
     ghost bytes = { λ s. s.bytes };
 
     fn born(&self, world: usize) -> u16 {
-        let row = &self.rows.items[world];
-        let number = row.world();
-        self.worlds.born_at(number)
+        self.many(world)
     }
 
     fn enter(&mut self, world: usize, fiber: u16, most: usize) -> Result<Entered, AllocError> {
-        let row = &self.rows.items[world];
-        let number = row.world();
-        let stored = self.worlds.stored(number, fiber);
-        let seen = seen_after(self.alloc, row.seen(), stored)?;
-        let room = room(self.rows.items.len(), most);
-        let came = self
-            .worlds
-            .entry(number, fiber, room, STILL, &mut self.trail)?;
-        row_met(&mut self.rows, came, seen, most)
+        self.made(world, fiber, most, STILL)
     }
 
     fn same_report(&self, one: usize, other: usize) -> bool {
@@ -230,16 +275,102 @@ impl Worlds for SeenWorlds {
 impl Claims for SeenWorlds {
     type Claim = Claim;
 
-    ghost use Rattle.every_schedule.specs.Claims.{is_met};
+    ghost use Rattle.every_schedule.specs.Private.Stopping.{meets_here};
 
-    ghost meets = { is_met };
+    ghost meets = { meets_here };
 
     fn meets(&self, world: usize, claim: &Claim) -> Result<bool, AllocError> {
-        let row = &self.rows.items[world];
-        let number = row.world();
-        let core = self.worlds.world(number)?;
-        let seen = Vec::from_slice(self.alloc, row.seen())?;
-        let here = SeenWorld::new(core, seen);
-        here.meets(self.alloc, claim)
+        self.is_met(world, claim)
+    }
+}
+
+/// The same worlds, where no move is made at once.
+#[derive(Drop)]
+pub(crate) struct StrictWorlds {
+    worlds: SeenWorlds,
+}
+
+impl Model for StrictWorlds {
+    ghost use Rattle.std.specs.Coded.{codes};
+    ghost use Rattle.derived_ops.specs.Stored.{tree_code};
+    ghost use Rattle.fiber_frames.specs.contracts.ask.Look as the_look;
+    ghost use Rattle.fiber_frames.specs.contracts.mark.Mark as the_mark;
+    ghost use Rattle.every_schedule.specs.Private.Seen.{KeptViews};
+
+    ghost Value = { KeptViews };
+
+    ghost coded = { Prim.hlevel (codes, tree_code, the_look.the_row.coded, the_mark.the_row.coded) };
+
+    ghost view = { λ s. s.worlds };
+}
+
+impl StrictWorlds {
+    /// Returns the store of the first world of a program.
+    pub(crate) fn new(
+        alloc: Global,
+        program: &Program,
+        limits: Limits,
+    ) -> Result<StrictWorlds, AllocError>
+        requires { AreLimits limits }
+        ensures { IfOk result (λ s. s.views ≡
+            first_view (first_place (code_of (source_of program.now)) limits) ∷ []) }
+    {
+        let worlds = SeenWorlds::new(alloc, program, limits)?;
+        Ok(StrictWorlds { worlds })
+    }
+}
+
+impl Worlds for StrictWorlds {
+    type World = SeenWorld;
+
+    type Fault = RunError;
+
+    type Report = ();
+
+    ghost use Rattle.every_schedule.specs.Claims.{viewed};
+    ghost use Rattle.every_schedule.specs.Places.{stepped};
+
+    ghost worlds = { λ s. s.views };
+
+    ghost faults = { λ s. s.faults };
+
+    ghost step = { viewed stepped };
+
+    ghost report = { λ v. tt };
+
+    ghost most_born = { 1000 };
+
+    ghost bytes = { λ s. s.bytes };
+
+    fn born(&self, world: usize) -> u16 {
+        self.worlds.many(world)
+    }
+
+    fn enter(&mut self, world: usize, fiber: u16, most: usize) -> Result<Entered, AllocError> {
+        self.worlds.made(world, fiber, most, NONE)
+    }
+
+    fn same_report(&self, one: usize, other: usize) -> bool {
+        self.worlds.same_report(one, other)
+    }
+
+    fn len(&self) -> usize {
+        self.worlds.len()
+    }
+
+    fn bytes(&self) -> usize {
+        self.worlds.bytes()
+    }
+}
+
+impl Claims for StrictWorlds {
+    type Claim = Claim;
+
+    ghost use Rattle.every_schedule.specs.Private.Stopping.{meets_here};
+
+    ghost meets = { meets_here };
+
+    fn meets(&self, world: usize, claim: &Claim) -> Result<bool, AllocError> {
+        self.worlds.is_met(world, claim)
     }
 }

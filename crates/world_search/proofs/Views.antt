@@ -1,6 +1,6 @@
 -- What a reduced search shows of each world: if free moves keep a property of worlds, each world that a schedule leads to has the property of a world of the
 -- reduced system.
-use Rattle.std.proofs.Common.{◌≡◌, ℕ, zero, suc, ◌<◌, ◌≤◌, Bool, false, List, [], ◌∷◌, length, Result, Ok, Err, refl, sym, ap, ◌∙◌, subst, arith}
+use Rattle.std.proofs.Common.{◌≡◌, ℕ, zero, suc, ◌<◌, ◌≤◌, Bool, true, false, List, [], ◌∷◌, length, Result, Ok, Err, refl, sym, ap, ◌∙◌, subst, arith}
 use mathlib.Core.Logic.{inl, inr, dite}
 use native.Mathlib.Decide.{ℕ_discrete}
 use Rattle.world_search.specs.Free.{AreEarly, Commutes, Leads, Leaps}
@@ -18,6 +18,12 @@ module _ {W E : Type 0} (step : W → ℕ → Result W E) (Free : W → ℕ → 
       Leads step Free w v → look v ≡ look w
   leads_keep look keeps w v (Here a b same) = ap look (sym same)
   leads_keep look keeps w v (On a f x b h q on) = leads_keep look keeps x b on ∙ keeps a f x h q
+
+  -- several free moves keep what is true, where each free move does
+  pub leads_grow : (look : W → Bool) → ((w : W) (f : ℕ) (x : W) → Free w f → step w f ≡ Ok x → look w ≡ true → look x ≡ true) → (w v : W) →
+      Leads step Free w v → look w ≡ true → look v ≡ true
+  leads_grow look keeps w v (Here a b same) e = subst (λ z. look z ≡ true) same e
+  leads_grow look keeps w v (On a f x b h q on) e = leads_grow look keeps x b on (keeps a f x h q e)
 
   -- at most n entries lead from x to where free moves lead from v
   abbrev Joins : W → W → ℕ → Type 0
@@ -84,3 +90,13 @@ module _ {W E : Type 0} (step : W → ℕ → Result W E) (Free : W → ℕ → 
       unmet_up look keeps first none s w led =
           let c = caught (length s) first s (omega arith) w led in
           sym (leads_keep look keeps w c.1 c.3) ∙ none c.0 c.1 c.2
+
+      -- the same for a property that free moves keep where it is true
+      pub unmet_where_it_grows : (look : W → Bool) → ((w : W) (f : ℕ) (x : W) → Free w f → step w f ≡ Ok x → look w ≡ true → look x ≡ true) →
+          (first : W) → ((t : List ℕ) (w : W) → run leap (Ok first) t ≡ Ok w → look w ≡ false) → (s : List ℕ) (w : W) → run step (Ok first) s ≡ Ok w →
+          look w ≡ true → ⊥
+      unmet_where_it_grows look keeps first none s w led met =
+          let c = caught (length s) first s (omega arith) w led in
+          let grown : look c.1 ≡ true = leads_grow look keeps w c.1 c.3 met in
+          let no : true ≡ false = sym grown ∙ none c.0 c.1 c.2 in
+          cc

@@ -1,11 +1,11 @@
 -- The heads of a text, one after another.
 use Rattle.std.specs.Prelude.{◌≡◌, ◌++◌, true, false, Bool, ℕ, List, [], ◌∷◌, Option, Some, None, length, take}
 use Rattle.std.specs.List.{list_all}
-use Rattle.claim_words.specs.Heads.{IsHead, deferred_head, is_plain, joint_word, ref_head}
+use Rattle.claim_words.specs.Heads.{IsHead, deferred_head, is_plain, joint_word, ref_head, whole_word}
 use Rattle.every_schedule.specs.declared.claims.ClaimWord.{ClaimWord}
 use Rattle.every_schedule.specs.declared.claims.ClaimWord.TheVariants as its
 use Rattle.claim_words.specs.declared.words.SpelledWord.{SpelledWord}
-use Rattle.claim_words.specs.declared.words.SpelledWord.TheVariants.{Numbered, Named, Not, Join}
+use Rattle.claim_words.specs.declared.words.SpelledWord.TheVariants.{Numbered, Named, Not, Join, World}
 
 -- the first `n` bytes are plain
 abbrev pub IsPlainFront : List ℕ → ℕ → Type 0
@@ -45,6 +45,7 @@ is_named (Named how v) = true
 is_named (Numbered n how v) = false
 is_named Not = false
 is_named (Join j) = false
+is_named (World x) = false
 
 -- a word, with the first of these numbers in place of the name of its ref
 abbrev pub claim_word : List ℕ → SpelledWord → ClaimWord
@@ -52,3 +53,4 @@ claim_word ns (Numbered n how v) = its.Compare n how v
 claim_word ns (Named how v) = its.Compare (first_of ns) how v
 claim_word ns Not = its.Not
 claim_word ns (Join j) = joint_word j
+claim_word ns (World x) = whole_word x

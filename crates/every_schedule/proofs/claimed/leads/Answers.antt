@@ -4,8 +4,9 @@ use Rattle.std.proofs.lemmas.List.Sums.{fold_more}
 use Rattle.derived_ops.specs.Expansion.{code_of}
 use Rattle.derived_ops.specs.Reading.{source_of}
 use Rattle.world_search.specs.Systems.{entered, run}
-use Rattle.every_schedule.specs.Claims.{View, first_view, is_met, noted, seeing, viewed}
+use Rattle.every_schedule.specs.Claims.{View, first_view, noted, seeing, viewed}
 use Rattle.every_schedule.specs.Places.{Place, first_place, stepped}
+use Rattle.every_schedule.specs.Private.Stopping.{meets_here}
 use Rattle.every_schedule.proofs.Seeing.{met_core}
 use Rattle.every_schedule.proofs.claimed.leads.Goals as goal
 
@@ -34,4 +35,4 @@ returns-clause-meets c = λ yes.
     let led : run (viewed stepped) (Ok first) c.args.schedule.now ≡ Ok here =
     ap (run (viewed stepped) (Ok first)) (sym (take_all c.loop-fiber.fiber-index c.args.schedule.now past)) ∙ c.loop-fiber.invariant in
     met_core code k c.args.claim.now c.args.schedule.now here led
-    (ap (λ (v : View). is_met v c.args.claim.now) (sym c.new.ensures) ∙ sym c.in_ok-met.ensures ∙ yes)
+    (ap (λ (v : View). meets_here v c.args.claim.now) (sym c.new.ensures) ∙ sym c.in_ok-met.ensures ∙ yes)

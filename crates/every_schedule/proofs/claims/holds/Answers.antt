@@ -19,12 +19,12 @@ loop-word-preserved c =
     let here = slice_get_read c.args.words.now (length c.args.words.now) c.loop-word.word-index word refl c.loop-word-test.true c.word-item.is in
     record {
       same = c.step.ensures.same ∙ known.same;
-      stack = told.stack ∙ ap (λ (r : PlainView). worded r.state c.loop-word.stack.items word) known.same ∙
-          ap (λ (l : List Bool). worded s l word) known.stack ∙ sym (fold_next (worded s) [] c.args.words.now c.loop-word.word-index word here);
+      stack = told.stack ∙ ap (λ (r : PlainView). worded c.args.standing r.state c.loop-word.stack.items word) known.same ∙
+          ap (λ (l : List Bool). worded c.args.standing s l word) known.stack ∙ sym (fold_next (worded c.args.standing s) [] c.args.words.now c.loop-word.word-index word here);
     }
 
 pub returns : goal.returns
 returns c =
     let s = c.args.registry.state in
     c.pop.ensures.value ∙ ap last_of (c.loop-word.invariant.stack ∙
-    ap (fold (worded s) []) (take_all c.loop-word.word-index c.args.words.now (omega arith)))
+    ap (fold (worded c.args.standing s) []) (take_all c.loop-word.word-index c.args.words.now (omega arith)))

@@ -7,5 +7,5 @@ use Rattle.every_schedule.proofs.claims.holds.Given as goal
 abbrev pub invariant-loop-word : goal.invariant-loop-word
 invariant-loop-word l = record {
   same : l.registry ≡ l.initial.registry;
-  stack : l.stack.items ≡ fold (worded l.initial.registry.state) [] (take l.word-index l.words);
+  stack : l.stack.items ≡ fold (worded l.fn.standing l.initial.registry.state) [] (take l.word-index l.words);
 }

@@ -8,11 +8,11 @@ use Rattle.world_search.specs.Landings.{EntersAt, IsNext}
 use Rattle.world_search.specs.Lists.{IsMore}
 use Rattle.world_search.proofs.Lists.{get_low}
 use Rattle.every_schedule.specs.Claims.{View, noted, seeing, stored_by, viewed}
-use Rattle.every_schedule.specs.Reduced.{hundred_still, leapt}
+use Rattle.every_schedule.specs.Reduced.{leapt}
 use Rattle.every_schedule.specs.Private.Seen.{KeptViews, view_of}
 use Rattle.every_schedule.proofs.Entering.{always, next_kept, room_kept}
 use Rattle.every_schedule.proofs.SeenRows.{row_lands, rows_there, there_more, view_at, view_is, views_grow}
-use Rattle.every_schedule.proofs.seen_worlds.SeenWorldsWorlds.enter.Goals as goal
+use Rattle.every_schedule.proofs.seen_worlds.SeenWorlds.made.Goals as goal
 
 pub stored-stored-requires : goal.stored-stored-requires
 stored-stored-requires c =
@@ -53,7 +53,7 @@ invariant_of-self-2 c =
     let p = get_low places m.world low in
     let here : slice_get places c.world-number.result ≡ Some p.0 = ap (slice_get places) c.world-number.ensures ∙ p.1 in
     let more = c.entry.ensures.worlds in
-    rows_there places places' more rows rows' c.self.invariant seen es (leapt hundred_still p.0 f) c.in_ok-came.came
+    rows_there places places' more rows rows' c.self.invariant seen es (leapt c.args.at_once p.0 f) c.in_ok-came.came
     (c.in_ok-came.ensures.lands p.0 here) c.row_met.ensures.adds
 
 pub returns-clause-worlds : goal.returns-clause-worlds
@@ -74,7 +74,7 @@ returns-clause-worlds c =
     let here : slice_get places c.world-number.result ≡ Some p.0 = ap (slice_get places) c.world-number.ensures ∙ p.1 in
     let more = c.entry.ensures.worlds in
     always c.row_met.result _ (subst (λ l. IsMore l (map (view_of places') rows')) views
-    (views_grow places places' more rows rows' c.self.invariant seen es (leapt hundred_still p.0 f) c.in_ok-came.came c.row_met.ensures.adds))
+    (views_grow places places' more rows rows' c.self.invariant seen es (leapt c.args.at_once p.0 f) c.in_ok-came.came c.row_met.ensures.adds))
 
 pub returns-clause-faults : goal.returns-clause-faults
 returns-clause-faults c =
@@ -104,8 +104,8 @@ returns-clause-lands c =
     let is : record { place = p.0; seen = m.seen } ≡ w = sym (view_is places m p.0 p.1) ∙
     view_at places rows c.args.world m w row (ap (λ l. slice_get l c.args.world) views ∙ at) in
     subst (EntersAt (map (view_of places') rows') es it)
-    (ap (λ l. seeing l (leapt hundred_still p.0 f)) set ∙ ap (λ (v : View). viewed (leapt hundred_still) v f) is)
-    (row_lands places places' more rows rows' c.self.invariant seen es (leapt hundred_still p.0 f) c.in_ok-came.came it
+    (ap (λ l. seeing l (leapt c.args.at_once p.0 f)) set ∙ ap (λ (v : View). viewed (leapt c.args.at_once) v f) is)
+    (row_lands places places' more rows rows' c.self.invariant seen es (leapt c.args.at_once p.0 f) c.in_ok-came.came it
     (c.in_ok-came.ensures.lands p.0 here) met)) c.row_met.ensures.met
 
 pub returns-clause-room : goal.returns-clause-room

@@ -5,11 +5,12 @@ use Rattle.std.proofs.lemmas.Grind.{common_steps}
 use Rattle.std.proofs.lemmas.Option.{gets}
 use Rattle.std.proofs.lemmas.Result.{IfOk-weaker}
 use Rattle.world_search.proofs.Lists.{get_low}
-use Rattle.every_schedule.specs.Claims.{View, is_met}
+use Rattle.every_schedule.specs.Claims.{View}
 use Rattle.every_schedule.specs.Places.{Place}
+use Rattle.every_schedule.specs.Private.Stopping.{meets_here}
 use Rattle.every_schedule.specs.Private.Seen.{KeptViews, view_of}
 use Rattle.every_schedule.proofs.SeenRows.{view_at, view_is}
-use Rattle.every_schedule.proofs.seen_worlds.SeenWorldsClaims.meets.Goals as goal
+use Rattle.every_schedule.proofs.seen_worlds.SeenWorlds.is_met.Goals as goal
 
 pub world-requires : goal.world-requires
 world-requires c =
@@ -34,6 +35,6 @@ returns c =
     let place : c.in_ok-core.core ≡ p.0 = c.in_ok-core.ensures p.0 here in
     let seen : c.in_ok-seen.seen.items ≡ m.seen = c.in_ok-seen.ensures.items ∙ c.seen.ensures in
     IfOk-weaker c.meets.result _ _ (λ it is. λ w at.
-    is ∙ ap (λ (v : View). is_met v c.args.claim.now) (c.new-here.ensures ∙
+    is ∙ ap (λ (v : View). meets_here v c.args.claim.now) (c.new-here.ensures ∙
     ap₂ (λ (q : Place) (l : List ℕ). let v : View = record { place = q; seen = l } in v) place seen ∙
     sym (view_is places m p.0 p.1) ∙ view_at places rows c.args.world m w row (ap (λ l. slice_get l c.args.world) views ∙ at))) c.meets.ensures
