@@ -25,6 +25,7 @@ pub mod PastBound
 pub mod GrowingLeaps
 pub mod Deadlocks
 pub mod Seeing
+pub mod Looking
 pub mod SeenRows
 pub mod SeenLeaps
 pub mod RefValues

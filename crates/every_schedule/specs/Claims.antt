@@ -118,3 +118,7 @@ first_view p = record { place = p; seen = [] }
 abbrev pub IsMetIn : Tree → Limits → List (List ClaimWord) → Met → Type 0
 IsMetIn code k claims m =
     (words : List ClaimWord) × (slice_get claims m.claim ≡ Some words) × Meets code k words m.schedule.items
+
+-- one of the worlds on the way of the schedule, from the one before its first entry on, meets the claim
+abbrev pub MeetsOnTheWay : Tree → Limits → List ClaimWord → List ℕ → Type 0
+MeetsOnTheWay code k words schedule = (n : ℕ) × Meets code k words (take n schedule)

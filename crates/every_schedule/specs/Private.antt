@@ -9,3 +9,4 @@ pub mod Standing
 pub mod Reporting
 pub mod Trails
 pub mod Seen
+pub mod Looking

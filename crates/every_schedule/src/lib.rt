@@ -6,7 +6,8 @@
 //!
 //! [`search_claims`] checks claims, which compare the values of refs, in each world that a schedule leads to. It
 //! returns each claim that is met, with a schedule to a world that meets it. If the search is complete, no schedule
-//! leads to a world that meets any other of the claims.
+//! leads to a world that meets any other of the claims. [`note_met`] checks claims in the worlds on the way of one
+//! schedule.
 //!
 //! This explores a program, within limits of 3 fibers, one ref, one deferred and 1000 changes of each fiber:
 //!
@@ -33,6 +34,7 @@ mod fair_endings;
 mod faults;
 mod known;
 mod leaping;
+mod moments;
 mod own_moves;
 mod pool;
 mod reduced_worlds;
@@ -51,6 +53,7 @@ pub use exploration::{Answer, Answers, Exploration, Schedule};
 pub use explored::{explore, explore_full, explore_watched};
 pub use fair_endings::explore_ends;
 pub use fair_ends::{Cycle, Ending};
+pub use moments::note_met;
 pub use own_moves::stored_in;
 pub use seen_worlds::seen_after;
 pub use world_search::{Bounds, Claimed, Met, TimeLimit, Unwatched, Watcher};

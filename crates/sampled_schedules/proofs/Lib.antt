@@ -1,3 +1,4 @@
 pub mod Tallies
 pub mod Walked
 pub mod Drawings
+pub mod Claims

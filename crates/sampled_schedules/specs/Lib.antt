@@ -1,2 +1,3 @@
 pub mod Sampled
+pub mod Claims
 pub mod Private

@@ -5,13 +5,18 @@
 //! short exactly if each of its schedules was, that no further entry changes an answer without this mark, and that the
 //! counts of all answers add up to the number of schedules that were drawn. The crate promises nothing about schedules
 //! that weren't drawn. The numbers are those of xoshiro256++, so that a seed gives the same answers on every machine.
+//!
+//! [`sample_claims`] checks claims in each world on the way of such schedules. Each claim that it returns has a
+//! schedule that leads to a world which meets the claim.
 #![tactic(auto)]
 
+mod claimed;
 mod comings;
 mod draws;
 mod ends;
 mod sampled;
 mod walks;
 
+pub use claimed::sample_claims;
 pub use comings::{Coming, Comings, Drawn, Sample};
 pub use sampled::{sample, sample_watched};

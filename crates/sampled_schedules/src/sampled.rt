@@ -114,8 +114,8 @@ pub fn sample_watched<V: Watcher>(
     })
 }
 
-// Draws one more schedule.
-fn draw(
+/// Draws one more schedule. `first` has the fibers of the program before the first move.
+pub(crate) fn draw(
     alloc: Global,
     first: &[Config],
     limits: Limits,
