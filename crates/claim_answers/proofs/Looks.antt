@@ -15,7 +15,7 @@ use Rattle.claim_answers.specs.declared.judging.Verdict.TheVariants.{Moment, NoM
 use Rattle.claim_answers.specs.Claims.{IsDecided, IsMoment, Pairwise, a_pair, no_pair}
 use Rattle.claim_answers.specs.Private.Met.{AreMet, IsMetAt, IsSpellable, IsVerdictOf, unmet_verdict}
 
-all_at : {A : Type 0} (P : A → Type 0) (xs : List A) (i : ℕ) (x : A) → slice_get xs i ≡ Some x → All P xs → P x
+pub all_at : {A : Type 0} (P : A → Type 0) (xs : List A) (i : ℕ) (x : A) → slice_get xs i ≡ Some x → All P xs → P x
 all_at P xs i x e h = subst P (get_or_from_slice_get xs i x x e) (All-get_or P xs i x (slice_get_within xs i x e) h)
 
 -- if no element of `met` has the number of the claim, the claim wasn't found

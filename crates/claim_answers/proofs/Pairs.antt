@@ -9,9 +9,8 @@ use Rattle.claim_words.specs.Spacing.{spaced_text}
 use Rattle.claim_answers.specs.declared.asked.Asked.{Asked}
 use Rattle.claim_answers.specs.declared.asked.Rule.{Rule}
 use Rattle.claim_answers.specs.declared.judging.Verdict.{Verdict}
-use Rattle.claim_answers.specs.declared.lines.ClaimForm.{ClaimForm}
 use Rattle.claim_answers.specs.Claims.{Pairwise, Question, a_pair, asked_texts, no_pair, question_of}
-use Rattle.claim_answers.specs.Verdicts.{AreLines, IsLine, a_line, is_refuted, one_refuted}
+use Rattle.claim_answers.specs.Verdicts.{AreLines, a_line, is_refuted, one_refuted}
 
 take_suc : {A : Type 0} (xs : List A) (i : ℕ) (x : A) → i < length xs → x ≡ get_or xs i x → take (suc i) xs ≡ take i xs ++ x ∷ []
 take_suc [] i x low at = absurd (omega arith)
@@ -56,19 +55,19 @@ pairs_length R xs ys no_pair = refl
 pairs_length R xs ys (a_pair all bs a b h r) =
     length-append all (a ∷ []) ∙ ap (λ n. n + 1) (pairs_length R all bs h) ∙ sym (length-append bs (b ∷ []))
 
-pub lines_more : (form : ClaimForm) (all : List Asked) (vs : List Verdict) (text new line : List ℕ) (i : ℕ) (a : Asked) (v : Verdict) → i < length all →
-    a ≡ get_or all i a → i < length vs → v ≡ get_or vs i v → new ≡ text ++ line → IsLine form a v line →
-    AreLines form (take i all) (take i vs) text → AreLines form (take (i + 1) all) (take (i + 1) vs) new
-lines_more form all vs text new line i a v low at low' at' is l h =
-    subst (λ t. AreLines form (take (i + 1) all) (take (i + 1) vs) t) (sym is)
-    (subst (λ xs. AreLines form xs (take (i + 1) vs) (text ++ line)) (sym (take_here all i a low at))
-    (subst (λ ys. AreLines form (take i all ++ a ∷ []) ys (text ++ line)) (sym (take_here vs i v low' at'))
+pub lines_more : (L : Asked → Verdict → List ℕ → Type 0) (all : List Asked) (vs : List Verdict) (text new line : List ℕ) (i : ℕ) (a : Asked) (v : Verdict) →
+    i < length all → a ≡ get_or all i a → i < length vs → v ≡ get_or vs i v → new ≡ text ++ line → L a v line →
+    AreLines L (take i all) (take i vs) text → AreLines L (take (i + 1) all) (take (i + 1) vs) new
+lines_more L all vs text new line i a v low at low' at' is l h =
+    subst (λ t. AreLines L (take (i + 1) all) (take (i + 1) vs) t) (sym is)
+    (subst (λ xs. AreLines L xs (take (i + 1) vs) (text ++ line)) (sym (take_here all i a low at))
+    (subst (λ ys. AreLines L (take i all ++ a ∷ []) ys (text ++ line)) (sym (take_here vs i v low' at'))
     (a_line (take i all) (take i vs) text a v line h l)))
 
-pub lines_all : (form : ClaimForm) (all : List Asked) (vs : List Verdict) (text : List ℕ) (i : ℕ) → length all ≤ i → length vs ≤ i →
-    AreLines form (take i all) (take i vs) text → AreLines form all vs text
-lines_all form all vs text i past past' h =
-    subst (λ xs. AreLines form xs vs text) (take_whole all i past) (subst (λ ys. AreLines form (take i all) ys text) (take_whole vs i past') h)
+pub lines_all : (L : Asked → Verdict → List ℕ → Type 0) (all : List Asked) (vs : List Verdict) (text : List ℕ) (i : ℕ) → length all ≤ i → length vs ≤ i →
+    AreLines L (take i all) (take i vs) text → AreLines L all vs text
+lines_all L all vs text i past past' h =
+    subst (λ xs. AreLines L xs vs text) (take_whole all i past) (subst (λ ys. AreLines L (take i all) ys text) (take_whole vs i past') h)
 
 -- ---- the texts of claims
 pub asked_more : (rule : Rule) (old before new : List Asked) (texts : List (List ℕ)) (i : ℕ) (t : List ℕ) → i < length texts → t ≡ get_or texts i t →

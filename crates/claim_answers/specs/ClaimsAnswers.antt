@@ -21,7 +21,7 @@ use Rattle.claim_answers.specs.declared.judging.Verdict.{Verdict}
 use Rattle.claim_answers.specs.declared.lines.ClaimForm.{ClaimForm}
 use Rattle.claim_answers.specs.declared.lines.ClaimForm.TheVariants as forms
 use Rattle.claim_answers.specs.Claims.{IsDecided, IsSought, Pairwise}
-use Rattle.claim_answers.specs.Verdicts.{AreLines, claims_status, gap, worse}
+use Rattle.claim_answers.specs.Verdicts.{AreLines, IsLine, claims_status, gap, worse}
 
 -- the answer of `explore` to a program without claims, with this note
 abbrev pub explored_as : ClaimForm → ExploreOrder → (note : List ℕ) → Term → List ℕ → Status → Type 0
@@ -43,7 +43,7 @@ pub record AreJudged (form : ClaimForm) (o : ExploreOrder) (asked : List Asked) 
     pub soughts : List (List ClaimWord)
     pub sought : Pairwise (IsSought (spaced_text text)) asked soughts
     pub decided : Pairwise (IsDecided (code_of (source_of t)) o.limits) soughts verdicts
-    pub lines_are : AreLines form asked verdicts lines
+    pub lines_are : AreLines (IsLine form) asked verdicts lines
 
 -- the lines of the claims, and after them the answer of `explore` without claims, with its note; the status is the
 -- worse of both

@@ -1,4 +1,5 @@
 pub mod Claims
 pub mod Verdicts
 pub mod ClaimsAnswers
+pub mod Drawn
 pub mod Private

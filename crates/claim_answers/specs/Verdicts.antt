@@ -77,11 +77,12 @@ IsLine forms.Json a v line =
 IsLine forms.Timeline a v line = (text : List ℕ) × (rows : List ℕ) × IsShown v text × IsTimed v rows ×
     (line ≡ word_line a.rule a.claim.text.items v text ++ (rows ++ codes "\n"))
 
--- the texts of all claims, one after the other
-pub data AreLines (form : ClaimForm) : List Asked → List Verdict → List ℕ → Type 0 where
-  no_line : AreLines form [] [] []
+-- the texts of all claims, one after the other, each as `IsText` says
+pub data AreLines (IsText : Asked → Verdict → List ℕ → Type 0) : List Asked → List Verdict → List ℕ → Type 0 where
+  no_line : AreLines IsText [] [] []
   a_line : (all : List Asked) (vs : List Verdict) (text : List ℕ) (a : Asked) (v : Verdict) (line : List ℕ) →
-      AreLines form all vs text → IsLine form a v line → AreLines form (all ++ a ∷ []) (vs ++ v ∷ []) (text ++ line)
+      AreLines IsText all vs text → IsText a v line →
+      AreLines IsText (all ++ a ∷ []) (vs ++ v ∷ []) (text ++ line)
 
 -- the bytes between the claims and the rest: a blank line after the form `Report`
 abbrev pub gap : ClaimForm → List ℕ

@@ -8,7 +8,7 @@ ghost use Rattle.claim_words.specs.Spacing.{spaced_text};
 ghost use Rattle.claim_answers.specs.Claims.{IsDecided, IsSought, Pairwise};
 ghost use Rattle.claim_answers.specs.ClaimsAnswers.{IsClaimsAnswer, IsJudgedAnswer, IsUnnamedAnswer, explored_as};
 ghost use Rattle.claim_answers.specs.ClaimsAnswers.{reason_text, refuses_as, unnamed_note};
-ghost use Rattle.claim_answers.specs.Verdicts.{AreLines, gap, worse};
+ghost use Rattle.claim_answers.specs.Verdicts.{AreLines, IsLine, gap, worse};
 
 use crate::asked::Asked;
 use crate::judging::{Verdict, judge, soughts_of};
@@ -58,8 +58,8 @@ pub fn answer_claims<'a>(
     }
 }
 
-// The answer to a refused text.
-fn refused_answer(
+/// The answer to a refused text.
+pub(crate) fn refused_answer(
     alloc: Global,
     form: ClaimForm,
     text: &[u8],
@@ -115,8 +115,12 @@ fn sought_answer(
     Ok(answer)
 }
 
-// The answer if a claim names a ref whose number isn't known.
-fn unnamed_answer(alloc: Global, name: &[u8], fault: RefFault) -> Result<NotedAnswer, AllocError>
+/// The answer if a claim names a ref whose number isn't known.
+pub(crate) fn unnamed_answer(
+    alloc: Global,
+    name: &[u8],
+    fault: RefFault,
+) -> Result<NotedAnswer, AllocError>
     ensures { IfOk result (λ n. IsUnnamedAnswer n.note.items n.answer.text.items n.answer.status) }
 {
     let note = unnamed_note(alloc, name, fault)?;
@@ -167,7 +171,7 @@ fn verdicts_of(
     requires { length asked.now ≡ length soughts.now }
     ensures decided { IfOk result (λ it.
         Pairwise (IsDecided (code_of (source_of program.now)) order.now.limits) soughts.now it.verdicts.items) }
-    ensures lines { IfOk result (λ it. AreLines form asked.now it.verdicts.items it.lines.items) }
+    ensures lines { IfOk result (λ it. AreLines (IsLine form) asked.now it.verdicts.items it.lines.items) }
     ensures length { IfOk result (λ it. length asked.now ≡ length it.verdicts.items) }
 {
     let verdicts = judge(alloc, program, order.limits, order.bounds, soughts)?;
@@ -194,8 +198,8 @@ fn explored_answer(
     }
 }
 
-// The lines of claims with this status, and after them the answer `rest`.
-fn with_lines(
+/// The lines of claims with this status, and after them the answer `rest`.
+pub(crate) fn with_lines(
     form: ClaimForm,
     lines: Vec<u8>,
     status: Status,

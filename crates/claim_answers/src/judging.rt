@@ -153,8 +153,8 @@ fn unmet_verdict(complete: bool) -> Verdict
     }
 }
 
-// The index in `met` of the claim of this number.
-fn met_number(met: &[Met], claim: usize) -> Option<usize>
+/// The index in `met` of the claim of this number.
+pub(crate) fn met_number(met: &[Met], claim: usize) -> Option<usize>
     ensures some { IfSome result (IsMetAt met.now claim) }
     ensures none { IfNone result (IsFound claim met.now → ⊥) }
 {

@@ -4,8 +4,8 @@ ghost use Rattle.std.specs.Prelude.{◌≡◌, ◌++◌, IfOk, OnOk, length};
 ghost use Rattle.std.specs.List.{All};
 ghost use Rattle.cell_registry.specs.Cells.{AreLimits};
 ghost use Rattle.claim_answers.specs.Private.Met.{IsLineOf, IsSpellable};
-ghost use Rattle.claim_answers.specs.Verdicts.{AreLines, IsShown, IsTimed, json_line, json_schedule, rule_text, under};
-ghost use Rattle.claim_answers.specs.Verdicts.{json_back, json_front, verdict_text, word_line};
+ghost use Rattle.claim_answers.specs.Verdicts.{AreLines, IsLine, IsShown, IsTimed, json_line, json_schedule};
+ghost use Rattle.claim_answers.specs.Verdicts.{json_back, json_front, rule_text, under, verdict_text, word_line};
 
 use crate::asked::{Asked, Rule};
 use crate::judging::Verdict;
@@ -39,7 +39,7 @@ pub(crate) fn claim_lines(
     requires limits { AreLimits limits }
     requires spelled { All IsSpellable verdicts.now }
     requires length { length asked.now ≡ length verdicts.now }
-    ensures { IfOk result (λ text. AreLines form asked.now verdicts.now text.items) }
+    ensures { IfOk result (λ text. AreLines (IsLine form) asked.now verdicts.now text.items) }
 {
     let mut text = Vec::new(alloc);
     for at in 0..asked.len() {
@@ -76,8 +76,8 @@ fn claim_line(
     }
 }
 
-// The text of the schedule, or no bytes if there is none.
-fn shown(alloc: Global, verdict: &Verdict) -> Result<Vec<u8>, AllocError>
+/// The text of the schedule, or no bytes if there is none.
+pub(crate) fn shown(alloc: Global, verdict: &Verdict) -> Result<Vec<u8>, AllocError>
     requires { IsSpellable verdict.now }
     ensures { IfOk result (λ text. IsShown verdict.now text.items) }
 {
@@ -129,8 +129,12 @@ fn word_line(
     Ok(line)
 }
 
-// Adds the schedule in quotes, if there is one.
-fn push_under(line: &mut Vec<u8>, verdict: &Verdict, schedule: &[u8]) -> Result<(), AllocError>
+/// Adds the schedule in quotes, if there is one.
+pub(crate) fn push_under(
+    line: &mut Vec<u8>,
+    verdict: &Verdict,
+    schedule: &[u8],
+) -> Result<(), AllocError>
     ensures { OnOk result (line.new.items ≡ line.old.items ++ under verdict.now schedule.now) }
 {
     match verdict {
@@ -143,8 +147,8 @@ fn push_under(line: &mut Vec<u8>, verdict: &Verdict, schedule: &[u8]) -> Result<
     }
 }
 
-// The same as an object of JSON.
-fn json_line(
+/// A claim, its verdict and the text of the schedule, as an object of JSON.
+pub(crate) fn json_line(
     alloc: Global,
     asked: &Asked<'_>,
     verdict: &Verdict,
@@ -203,8 +207,8 @@ fn push_json_schedule(
     }
 }
 
-// The word for what is asked.
-fn rule_text(rule: Rule) -> &'static [u8]
+/// The word for what is asked.
+pub(crate) fn rule_text(rule: Rule) -> &'static [u8]
     ensures { result.now ≡ rule_text rule }
 {
     match rule {

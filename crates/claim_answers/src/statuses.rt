@@ -32,8 +32,8 @@ pub(crate) fn claims_status(asked: &[Asked<'_>], verdicts: &[Verdict]) -> Status
     }
 }
 
-// Whether one of the claims is refuted.
-fn one_refuted(asked: &[Asked<'_>], verdicts: &[Verdict]) -> bool
+/// Whether one of the claims is refuted.
+pub(crate) fn one_refuted(asked: &[Asked<'_>], verdicts: &[Verdict]) -> bool
     requires { length asked.now ≡ length verdicts.now }
     ensures { result ≡ one_refuted asked.now verdicts.now }
 {

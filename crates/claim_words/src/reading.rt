@@ -11,7 +11,9 @@ use crate::spelled::{
     negated,
 };
 use crate::words::Joint;
+use effect_term::Value;
 use every_schedule::Comparison;
+use itoa::Buffer;
 use std::alloc::{AllocError, Global};
 
 /// Why a text spells no claim.
@@ -61,7 +63,7 @@ const A_CLOSING: &str = "a closing bracket";
 
 const THE_END: &str = "the end of the claim";
 
-const PLAIN: &str = "numbers without zeros or a plus sign in front";
+const PLAIN: &str = "a number without zeros or a plus sign in front";
 
 /// Reads the claim that a text spells: `(= REF V)`, also with `!=`, `<`, `<=`, `>` or `>=`; `(and CLAIM ..)`, `(or
 /// CLAIM ..)` or `(not CLAIM)`. REF is a name or a number up to 999, V a value. Spaces around brackets and further
@@ -136,19 +138,48 @@ fn comparison<'a>(
     scanner: &mut Scanner<'a>,
     how: Comparison,
 ) -> Result<Spelled<'a>, ClaimFault> {
-    let place = scanner.place();
-    let Some(subject) = subject_of(scanner.word()) else {
-        return Err(ClaimFault::Expected(A_REF, place));
-    };
-    let place = scanner.place();
-    let Some(value) = value_of(scanner.word()) else {
-        return Err(ClaimFault::Expected(A_NUMBER, place));
-    };
+    let subject = take_subject(scanner)?;
+    let value = take_value(scanner)?;
     take_closing(scanner)?;
     match subject {
         Subject::Numbered(number) => Ok(compared_number(alloc, number, how, value)?),
         Subject::Named(name) => Ok(compared_name(alloc, name, how, value)?),
     }
+}
+
+// Takes the name or the number of a ref.
+fn take_subject<'a>(scanner: &mut Scanner<'a>) -> Result<Subject<'a>, ClaimFault> {
+    let place = scanner.place();
+    let word = scanner.word();
+    match subject_of(word) {
+        Some(Subject::Numbered(number)) => {
+            if !is_plain(word, i64::from(number)) {
+                return Err(ClaimFault::Expected(PLAIN, place));
+            }
+            Ok(Subject::Numbered(number))
+        }
+        Some(Subject::Named(name)) => Ok(Subject::Named(name)),
+        None => Err(ClaimFault::Expected(A_REF, place)),
+    }
+}
+
+// Takes the number that a ref is compared with.
+fn take_value(scanner: &mut Scanner<'_>) -> Result<Value, ClaimFault> {
+    let place = scanner.place();
+    let word = scanner.word();
+    let Some(value) = value_of(word) else {
+        return Err(ClaimFault::Expected(A_NUMBER, place));
+    };
+    if !is_plain(word, value.get()) {
+        return Err(ClaimFault::Expected(PLAIN, place));
+    }
+    Ok(value)
+}
+
+// Whether a word spells a number without zeros or a plus sign in front.
+fn is_plain(word: &[u8], number: i64) -> bool {
+    let mut digits = Buffer::new();
+    is_same(word, digits.format(number).as_bytes())
 }
 
 // Takes a closing bracket.

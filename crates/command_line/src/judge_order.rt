@@ -15,11 +15,13 @@ use itoa::Buffer;
 use outcome_trace::{Status, TextFault, TextIn, TextOut, read_text, tell_fault, write_text};
 use std::alloc::{AllocError, Global};
 
-// An answer that was written: its note and its status.
+/// An answer that was written.
 #[derive(Drop)]
-struct Judged {
-    note: Vec<u8>,
-    status: Status,
+pub(crate) struct Judged {
+    /// Its note.
+    pub(crate) note: Vec<u8>,
+    /// Its status.
+    pub(crate) status: Status,
 }
 
 /// Judges claims on a text's program. Returns the status of the answer, `Status::Usage` if a text spells no claim or a
@@ -55,8 +57,8 @@ pub fn obey_judge<I: TextIn, O: TextOut, E: TextOut>(
     }
 }
 
-// The claims that the texts spell.
-fn asked_of<'a>(
+/// The claims that the texts of the three options spell, in their order.
+pub(crate) fn asked_of<'a>(
     alloc: Global,
     always: &[&'a str],
     never: &[&'a str],
@@ -138,8 +140,8 @@ fn answer_asked<I: TextIn, O: TextOut>(
     })
 }
 
-// Writes that a text spells no claim.
-fn refuse_claim<E: TextOut>(alloc: Global, fault: AskFault<'_>, err: &mut E) -> Status
+/// Writes that a text spells no claim.
+pub(crate) fn refuse_claim<E: TextOut>(alloc: Global, fault: AskFault<'_>, err: &mut E) -> Status
     requires { (E.seen err.old).failed ≡ false }
     ensures { TellsWrong (E.seen err.old) (E.seen err.new) result ⊎
         LacksMemory (E.seen err.old) (E.seen err.new) result }

@@ -168,6 +168,9 @@ pub record SaysRunning (options : List Row) (running : Running) : Type 0 where
 pub record SaysSampling (options : List Row) (sampling : Sampling) : Type 0 where
   pub order : SaysSample options sampling.order
   pub json : SaysFlag (codes "json") options sampling.json
+  pub always : map (λ s. s.now) sampling.always.items ≡ texts_said (codes "always") options
+  pub never : map (λ s. s.now) sampling.never.items ≡ texts_said (codes "never") options
+  pub reach : map (λ s. s.now) sampling.reach.items ≡ texts_said (codes "reach") options
 
 -- the basis of the comparison, by the options of `compare`
 abbrev pub SaysBasis : List Row → Basis → Type 0
@@ -232,6 +235,10 @@ GivesRequest None None = Unit {0}
 GivesRequest (Some said) (Some request) = Says said request
 GivesRequest (Some said) None = (request : Request) → Says said request → ⊥
 
+-- the sample looks at no claim
+abbrev pub HasNoTexts : Sampling → Type 0
+HasNoTexts sampling = (sampling.always.items ≡ []) × (sampling.never.items ≡ []) × (sampling.reach.items ≡ [])
+
 -- only the input shows whether the words are right: it has the schedule, or the refs that claims name
 abbrev pub IsSettledByInput : Request → Type 0
 IsSettledByInput (Check checking) = ⊥
@@ -243,7 +250,7 @@ IsSettledByInput (Decide deciding) = ⊥
 IsSettledByInput (Judge judging) = ⊤
 IsSettledByInput (Unmark unmarking) = ⊥
 IsSettledByInput (Run running) = ⊥
-IsSettledByInput (Sample sampling) = ⊥
+IsSettledByInput (Sample sampling) = HasNoTexts sampling → ⊥
 IsSettledByInput (Compare comparing) = ⊥
 IsSettledByInput (Test testing) = ⊥
 IsSettledByInput (Terms translating) = ⊥

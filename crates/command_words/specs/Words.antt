@@ -221,7 +221,7 @@ sample_bounds =
 
 -- `sample` without its flag
 abbrev pub sample_options : App
-sample_options = with_rule sample_bounds want_option
+sample_options = with_claims (with_rule sample_bounds want_option)
 
 abbrev pub sample_command : App
 sample_command = with_rule sample_options (flag (codes "json"))

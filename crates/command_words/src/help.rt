@@ -185,6 +185,7 @@ Examples, of which the first two draw the same hundred schedules of a race each 
   echo '(race (say 1) (say 2))' | fiber_cli sample --times 100 --seed 7
   echo '(race (say 1) (say 2))' | fiber_cli sample --times 100 --seed 7 --json
   echo '(race (pure 1) (pure 2))' | fiber_cli sample --want 'succeeded 1'
+  echo '(ref r 0 (start f (modify r 1) (modify r 1)))' | fiber_cli sample --never '(= r 2)'
 
 'fiber_cli --help' explains the reports. Each is below the first schedule that led to it, under
 which replay gives it. 'cut short' says that each schedule that led to it has as many entries as
@@ -193,8 +194,9 @@ same seed draws the same schedules.
 
 Exit status:
    0  the sample was printed, and nothing unwanted was found
-   1  something unwanted was found; without --want, a fault
-  64  the arguments are wrong
+   1  something unwanted was found: a fault, with --want another outcome, or a claim
+      that is refuted
+  64  the arguments or a claim are wrong
   65  the text is refused
   70  a device failed, or memory ran out",
 };

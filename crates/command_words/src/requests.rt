@@ -42,7 +42,7 @@ use crate::running::Running;
 use crate::sampling::Sampling;
 use crate::seek_requests::seeking_of;
 use crate::seeking::Seeking;
-use crate::test_requests::{testing_of, translating_of};
+use crate::test_requests::{testing_of, texts_of, translating_of};
 use crate::testing::{Testing, Translating};
 use crate::unmark_requests::{has_text, marks_of, unmarking_of};
 use crate::unmarking::Unmarking;
@@ -74,7 +74,7 @@ pub enum Request<'a> {
     /// To run the text's program on workers, and to print its report.
     Run(Running),
     /// To draw schedules of the text's program at random, and to count the reports and faults.
-    Sample(Sampling),
+    Sample(Sampling<'a>),
     /// To compare the programs of two files.
     Compare(Comparing<'a>),
     /// To test the models of files.
@@ -336,7 +336,10 @@ fn sample_order(alloc: Global, sample: &ArgMatches<'_>) -> Result<Option<SampleO
 }
 
 // The sample that the options of `sample` ask for.
-fn sampling_of(alloc: Global, sample: &ArgMatches<'_>) -> Result<Option<Sampling>, AllocError>
+fn sampling_of<'a>(
+    alloc: Global,
+    sample: &ArgMatches<'a>,
+) -> Result<Option<Sampling<'a>>, AllocError>
     ensures said { IfOk result (λ found. IfSome found (SaysSampling (rows_of (found_of sample.now)))) }
     ensures none { IfOk result (λ found. IfNone found ((said : Sampling) →
         SaysSampling (rows_of (found_of sample.now)) said → ⊥)) }
@@ -345,6 +348,9 @@ fn sampling_of(alloc: Global, sample: &ArgMatches<'_>) -> Result<Option<Sampling
         Some(order) => Ok(Some(Sampling {
             order,
             json: given(sample, "json"),
+            always: texts_of(alloc, sample, "always")?,
+            never: texts_of(alloc, sample, "never")?,
+            reach: texts_of(alloc, sample, "reach")?,
         })),
         None => Ok(None),
     }

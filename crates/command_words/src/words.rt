@@ -307,7 +307,8 @@ fn sample_options<'a>(alloc: Global) -> Result<Command<'a>, AllocError>
     ensures local { IfOk result (λ c. (out-Command c).has_globals ≡ false) }
 {
     let command = sample_bounds(alloc)?;
-    command.arg(want_option(alloc))
+    let command = command.arg(want_option(alloc))?;
+    with_claims(alloc, command)
 }
 
 fn sample_command<'a>(alloc: Global) -> Result<Command<'a>, AllocError>

@@ -13,6 +13,11 @@ use Rattle.claim_answers.specs.declared.asked.Asked.{Asked}
 use Rattle.claim_answers.specs.declared.judging.Verdict.{Verdict}
 use Rattle.claim_answers.specs.declared.judging.Verdict.TheVariants.{Moment, NoMoment, Undecided}
 use Rattle.claim_answers.specs.declared.lines.ClaimForm.{ClaimForm}
+use Rattle.sampled_schedules.specs.declared.comings.Drawn.{Drawn}
+use Rattle.sampled_schedules.specs.Sampled.{IsDrawing}
+use Rattle.exploration_text.specs.declared.sample_texts.SampleOrder.{SampleOrder}
+use Rattle.claim_answers.specs.Claims.{Pairwise}
+use Rattle.claim_answers.specs.Drawn.{IsSeen, IsSeenLine}
 use Rattle.claim_answers.specs.Verdicts.{IsLine}
 
 -- each claim in `met` was met by its schedule, and if the search is complete, no schedule meets another claim
@@ -47,3 +52,22 @@ IsSpellable Undecided = ⊤
 -- the text of a claim with its verdict
 abbrev pub IsLineOf : ClaimForm → Asked → Verdict → Vec ℕ Global → Type 0
 IsLineOf form a v line = IsLine form a v line.items
+
+abbrev pub IsSeenLineOf : Bool → ℕ → Asked → Verdict → Vec ℕ Global → Type 0
+IsSeenLineOf json times a v line = IsSeenLine json times a v line.items
+
+-- the claim of the number `n` is met under the schedule of the verdict, or isn't in `met`
+abbrev pub IsFoundAs : List Met → ℕ → Verdict → Type 0
+IsFoundAs met n (Moment schedule) = (i : ℕ) × (m : Met) × (slice_get met i ≡ Some m) × (m.claim ≡ n) ×
+    (schedule.items ≡ m.schedule.items)
+IsFoundAs met n NoMoment = ⊥
+IsFoundAs met n Undecided = IsFound n met → ⊥
+
+-- schedules were drawn as the order says, and the verdicts are right for them
+pub record AreSeenBy (code : Tree) (o : SampleOrder) (soughts : List (List ClaimWord)) (verdicts : List Verdict) :
+    Type 0
+  where
+    pub drawn : List Drawn
+    pub many : length drawn ≡ o.times
+    pub each : All (IsDrawing code o.limits o.entries) drawn
+    pub seen : Pairwise (IsSeen code o.limits drawn) soughts verdicts

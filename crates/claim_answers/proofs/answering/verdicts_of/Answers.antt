@@ -4,7 +4,7 @@ use Rattle.derived_ops.specs.Expansion.{code_of}
 use Rattle.derived_ops.specs.Reading.{source_of}
 use Rattle.claim_answers.specs.Claims.{IsDecided}
 use Rattle.claim_answers.specs.Private.Met.{IsSpellable}
-use Rattle.claim_answers.specs.Verdicts.{AreLines}
+use Rattle.claim_answers.specs.Verdicts.{AreLines, IsLine}
 use Rattle.claim_answers.proofs.Looks.{all_spellable}
 use Rattle.claim_answers.proofs.Pairs.{pairs_length}
 use Rattle.claim_answers.proofs.answering.verdicts_of.Goals as goal
@@ -21,7 +21,7 @@ claim_lines-requires-clause-length c =
 
 pub returns-clause-lines : goal.returns-clause-lines
 returns-clause-lines c =
-    subst (λ vs. AreLines c.args.form c.args.asked.now vs c.in_ok-lines.lines.items) c.as_slice-slice.ensures.value c.in_ok-lines.ensures
+    subst (λ vs. AreLines (IsLine c.args.form) c.args.asked.now vs c.in_ok-lines.lines.items) c.as_slice-slice.ensures.value c.in_ok-lines.ensures
 
 pub returns-clause-length : goal.returns-clause-length
 returns-clause-length c =

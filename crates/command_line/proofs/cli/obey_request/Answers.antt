@@ -1,4 +1,4 @@
-use Rattle.std.proofs.Common.{refl}
+use Rattle.std.proofs.Common.{inl, inr, refl}
 use Rattle.command_line.proofs.cli.obey_request.Goals as goal
 
 pub returns-in-Compare-clause-obeyed : goal.returns-in-Compare-clause-obeyed
@@ -15,3 +15,10 @@ returns-in-Terms-clause-obeyed g c =
 -- A request to judge claims reads the text before it knows whether the text has the refs that the claims name.
 pub returns-in-Judge-clause-unread : goal.returns-in-Judge-clause-unread
 returns-in-Judge-clause-unread g c = λ usage none. absurd (none (rw c.in-Judge.is tt))
+
+-- So does a request to sample with claims.
+pub returns-in-Sample-clause-unread : goal.returns-in-Sample-clause-unread
+returns-in-Sample-clause-unread g c = λ usage none. elim c.obey_sample.ensures.obeyed [
+  | inl alone ↦ absurd (c.obey_sample.ensures.ends alone.0 usage)
+  | inr asked ↦ absurd (none (rw c.in-Sample.is asked.0))
+]
