@@ -13,8 +13,8 @@ returns-then-json c =
     (λ line is. (c.in_ok-shown.shown.items, c.in_ok-shown.ensures, is ∙ ap (json_line a.rule a.claim.text.items v) c.as_slice.ensures.value))
     c.json_line.ensures)
 
-pub returns-else-json : goal.returns-else-json
-returns-else-json c =
+pub returns : goal.returns
+returns c =
     let a = c.args.asked.now in
     let v = c.args.verdict.now in
     rw c.if-json.false

@@ -19,7 +19,7 @@ returns-in-Ok-clause-obeyed g c = inr (
   inl record {
     asked = c.in-Ok.asked.items;
     are = rw (← c.as_slice-held.ensures.value, ← c.as_slice-barred.ensures.value, ← c.as_slice-sought.ensures.value) c.in-Ok.ensures;
-    seen = rw (← c.as_slice-in-Ok.ensures.value) c.obey_asked.ensures;
+    seen = rw (← c.as_slice.ensures.value) c.obey_asked.ensures;
   },
 )
 
