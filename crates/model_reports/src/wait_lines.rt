@@ -14,14 +14,22 @@ pub(crate) fn push_waits(
     source: &Source,
     waits: &Waits,
 ) -> Result<(), AllocError> {
-    let mut gap = "\n";
+    let mut behind = false;
     for (fiber, why) in waits.whys.iter().enumerate() {
         let number = u16::try_from(fiber).unwrap_or(u16::MAX);
         if is_wait(*why) && fiber_name(&waits.replay, number) != FiberName::Watcher {
-            push_word(told, gap)?;
-            gap = "";
+            push_gap(told, behind)?;
+            behind = true;
             push_wait(told, source, waits, number, *why)?;
         }
+    }
+    Ok(())
+}
+
+// Adds a blank line, unless a line of a fiber is before.
+fn push_gap(told: &mut Vec<u8>, behind: bool) -> Result<(), AllocError> {
+    if !behind {
+        push_word(told, "\n")?;
     }
     Ok(())
 }
