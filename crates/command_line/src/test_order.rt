@@ -5,7 +5,7 @@ ghost use Rattle.command_line.specs.Tests.{IsTestStatus, are_colored};
 ghost use Rattle.text_io.specs.Text.{OnlyOutFaults, is_write_fault};
 
 use command_words::{Coloring, TestForm, Testing, Translating};
-use model_suites::{Board, Suite, SuiteForm, SuiteOrder, Told};
+use model_suites::{Board, Progress, Suite, SuiteForm, SuiteOrder, Told};
 use outcome_trace::{Status, TextFault, TextOut, ToWrite, tell_fault, write_text};
 use std::alloc::{AllocError, Global};
 use std::rt::Files;
@@ -16,8 +16,8 @@ use std::{fs, thread};
 
 /// Tests the models of files. Returns `Status::Succeeded` if all passed, `Status::Errored` if one failed or there is
 /// none, `Status::Unended` if none failed and one is undecided, `Status::Refused` if a file has a fault, which is
-/// written to `err`, and `Status::Fault` if a device failed or memory ran out. `colors` is whether verdicts have
-/// colours if the words leave that open.
+/// written to `err`, and `Status::Fault` if a device failed or memory ran out. While models are explored, progress goes
+/// to `err` if the words ask for it. `colors` is whether verdicts have colours if the words leave that open.
 pub fn obey_test<R: Files + Clock + Threads + Wait + Sync, O: TextOut, E: TextOut>(
     rt: &R,
     alloc: Global,
@@ -42,6 +42,7 @@ pub fn obey_test<R: Files + Clock + Threads + Wait + Sync, O: TextOut, E: TextOu
         jobs,
         form,
         color,
+        progress,
     } = testing;
     let reports = Reports { junit, html };
     let order = SuiteOrder {
@@ -58,7 +59,9 @@ pub fn obey_test<R: Files + Clock + Threads + Wait + Sync, O: TextOut, E: TextOu
         return tell_fault(TextFault::NoMemory, err);
     };
     if suite.faults().is_empty() {
-        test_suite(rt, &suite, job_count(rt, jobs), reports, out, err)
+        let jobs = job_count(rt, jobs);
+        let progress = Progress::new(alloc, rt, progress);
+        test_suite(rt, &suite, jobs, reports, out, progress, err)
     } else {
         refuse_suite(&suite, err)
     }
@@ -126,31 +129,37 @@ fn test_suite<R: Files + Clock + Threads + Wait + Sync, O: TextOut, E: TextOut>(
     jobs: usize,
     reports: Reports<'_>,
     out: &mut O,
+    progress: Progress,
     err: &mut E,
 ) -> Status
     requires out { (O.seen out.old).failed ≡ false }
-    requires err { (E.seen err.old).failed ≡ false }
+    requires err { progress.failed ≡ false → (E.seen err.old).failed ≡ false }
     ensures whole { result ≢ Status.Fault → (O.seen out.new).failed ≡ false }
     ensures status { IsTestStatus result }
 {
     let mut told = suite.told();
-    match write_models(rt, suite, jobs, &mut told, out) {
-        Ok(()) => end_suite(rt, suite, told, reports, out, err),
-        Err(fault) => tell_fault(fault, err),
+    let mut progress = progress;
+    match write_models(rt, suite, jobs, &mut told, out, &mut progress, err) {
+        Ok(()) => end_suite(rt, suite, told, reports, out, progress, err),
+        Err(fault) => progress.tell_fault(fault, err),
     }
 }
 
 // Tests the models, and writes the report of each as soon as those before it are written.
-fn write_models<R: Clock + Threads + Wait + Sync, O: TextOut>(
+fn write_models<R: Clock + Threads + Wait + Sync, O: TextOut, E: TextOut>(
     rt: &R,
     suite: &Suite<'_>,
     jobs: usize,
     told: &mut Told,
     out: &mut O,
+    progress: &mut Progress,
+    err: &mut E,
 ) -> Result<(), TextFault>
-    requires { (O.seen out.old).failed ≡ false }
+    requires out { (O.seen out.old).failed ≡ false }
+    requires err { progress.old.failed ≡ false → (E.seen err.old).failed ≡ false }
     ensures failed { (O.seen out.new).failed ≡ is_write_fault result }
     ensures only { OnlyOutFaults result }
+    ensures err { progress.new.failed ≡ false → (E.seen err.new).failed ≡ false }
 {
     let Ok(opening) = suite.opening() else {
         return Err(TextFault::NoMemory);
@@ -159,67 +168,84 @@ fn write_models<R: Clock + Threads + Wait + Sync, O: TextOut>(
         return Err(TextFault::NoMemory);
     };
     match write_text(opening.as_slice(), out) {
-        Ok(()) => write_jobs(rt, suite, &board, jobs.min(suite.len()), told, out),
+        Ok(()) => {
+            let jobs = jobs.min(suite.len());
+            write_jobs(rt, suite, &board, jobs, told, out, progress, err)
+        }
         Err(fault) => Err(fault),
     }
 }
 
-// The same, after the opening is written. This thread tests models, too.
-fn write_jobs<R: Clock + Threads + Wait + Sync, O: TextOut>(
+// The same, after the opening is written. This thread tests models, too, unless it shows progress.
+fn write_jobs<R: Clock + Threads + Wait + Sync, O: TextOut, E: TextOut>(
     rt: &R,
     suite: &Suite<'_>,
     board: &Board,
     jobs: usize,
     told: &mut Told,
     out: &mut O,
+    progress: &mut Progress,
+    err: &mut E,
 ) -> Result<(), TextFault>
-    requires { (O.seen out.old).failed ≡ false }
+    requires out { (O.seen out.old).failed ≡ false }
+    requires err { progress.old.failed ≡ false → (E.seen err.old).failed ≡ false }
     ensures failed { (O.seen out.new).failed ≡ is_write_fault result }
     ensures only { OnlyOutFaults result }
+    ensures err { progress.new.failed ≡ false → (E.seen err.new).failed ≡ false }
 {
-    if jobs < 2 {
-        return write_tested(rt, suite, board, told, out);
+    let threads = progress.threads(jobs);
+    if threads == 0 {
+        return write_tested(rt, suite, board, told, out, progress, err);
     }
-    let threads = jobs - 1;
     let mut others = || suite.help(rt, board, threads);
     let mut own = || -> Result<(), TextFault>
-        requires { (O.seen out.now).failed ≡ false }
-        ensures { ((O.seen out.exit.now).failed ≡ is_write_fault result) × OnlyOutFaults result }
-    { write_tested(rt, suite, board, told, out) };
+        requires { ((O.seen out.now).failed ≡ false) × (progress.now.failed ≡ false → (E.seen err.now).failed ≡ false) }
+        ensures { ((O.seen out.exit.now).failed ≡ is_write_fault result) × (OnlyOutFaults result
+            × (progress.exit.now.failed ≡ false → (E.seen err.exit.now).failed ≡ false)) }
+    { write_tested(rt, suite, board, told, out, progress, err) };
     let (_, written) = join_mut(rt, &mut others, &mut own);
     written
 }
 
 // Writes the report of each model in its turn. If a write fails, no more models are taken.
-fn write_tested<R: Clock + Wait, O: TextOut>(
+fn write_tested<R: Clock + Wait, O: TextOut, E: TextOut>(
     rt: &R,
     suite: &Suite<'_>,
     board: &Board,
     told: &mut Told,
     out: &mut O,
+    progress: &mut Progress,
+    err: &mut E,
 ) -> Result<(), TextFault>
-    requires { (O.seen out.old).failed ≡ false }
+    requires out { (O.seen out.old).failed ≡ false }
+    requires err { progress.old.failed ≡ false → (E.seen err.old).failed ≡ false }
     ensures failed { (O.seen out.new).failed ≡ is_write_fault result }
     ensures only { OnlyOutFaults result }
+    ensures err { progress.new.failed ≡ false → (E.seen err.new).failed ≡ false }
 {
-    let written = write_each(rt, suite, board, told, out);
+    let written = write_each(rt, suite, board, told, out, progress, err);
     board.close();
     written
 }
 
 // Writes the report of each model in its turn.
-fn write_each<R: Clock + Wait, O: TextOut>(
+fn write_each<R: Clock + Wait, O: TextOut, E: TextOut>(
     rt: &R,
     suite: &Suite<'_>,
     board: &Board,
     told: &mut Told,
     out: &mut O,
+    progress: &mut Progress,
+    err: &mut E,
 ) -> Result<(), TextFault>
-    requires { (O.seen out.old).failed ≡ false }
+    requires out { (O.seen out.old).failed ≡ false }
+    requires err { progress.old.failed ≡ false → (E.seen err.old).failed ≡ false }
     ensures failed { (O.seen out.new).failed ≡ is_write_fault result }
     ensures only { OnlyOutFaults result }
+    ensures err { progress.new.failed ≡ false → (E.seen err.new).failed ≡ false }
 {
     for index in 0..suite.len() {
+        suite.show(rt, board, index, progress, err);
         let Ok(text) = tell_next(rt, suite, board, told, index) else {
             return Err(TextFault::NoMemory);
         };
@@ -251,29 +277,29 @@ fn end_suite<R: Files, O: TextOut, E: TextOut>(
     told: Told,
     reports: Reports<'_>,
     out: &mut O,
+    progress: Progress,
     err: &mut E,
 ) -> Status
     requires out { (O.seen out.old).failed ≡ false }
-    requires err { (E.seen err.old).failed ≡ false }
+    requires err { progress.failed ≡ false → (E.seen err.old).failed ≡ false }
     ensures whole { result ≢ Status.Fault → (O.seen out.new).failed ≡ false }
     ensures status { IsTestStatus result }
 {
     let mut told = told;
+    let mut progress = progress;
     let Ok(text) = suite.ending(&mut told) else {
-        return tell_fault(TextFault::NoMemory, err);
+        return progress.tell_fault(TextFault::NoMemory, err);
     };
     let Ok(missing) = suite.missing() else {
-        return tell_fault(TextFault::NoMemory, err);
+        return progress.tell_fault(TextFault::NoMemory, err);
     };
+    progress.write(missing.as_slice(), err);
     match write_text(text.as_slice(), out) {
         Ok(()) => match write_reports(rt, &told, reports) {
-            Ok(()) => {
-                let _ = write_text(missing.as_slice(), err);
-                told.status()
-            }
-            Err(fault) => tell_report(fault, err),
+            Ok(()) => told.status(),
+            Err(fault) => tell_report(fault, progress, err),
         },
-        Err(fault) => tell_fault(fault, err),
+        Err(fault) => progress.tell_fault(fault, err),
     }
 }
 
@@ -329,11 +355,14 @@ fn write_file<R: Files>(
     write_text(text.as_slice(), &mut device)
 }
 
-// Writes the line of a report's fault, after the path if the file failed.
-fn tell_report<E: TextOut>(report: ReportFault<'_>, err: &mut E) -> Status
-    requires { (E.seen err.old).failed ≡ false }
+// Writes the line of a report's fault, after the path if the file failed, unless a write has failed.
+fn tell_report<E: TextOut>(report: ReportFault<'_>, progress: Progress, err: &mut E) -> Status
+    requires { progress.failed ≡ false → (E.seen err.old).failed ≡ false }
     ensures { result ≡ Status.Fault }
 {
+    if progress.failed {
+        return Status::Fault;
+    }
     match report.fault {
         TextFault::WriteFault(_) => tell_file(report.path, report.fault, err),
         _ => tell_fault(report.fault, err),

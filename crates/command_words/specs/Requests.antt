@@ -202,6 +202,7 @@ pub record SaysTesting (options : List Row) (testing : Testing) : Type 0 where
   pub jobs_are : SaysNumber jobs_range (first_of (codes "jobs") options) testing.jobs
   pub form_is : SaysTestForm options testing.form
   pub color_is : SaysColoring (first_of (codes "color") options) testing.color
+  pub progress_is : SaysFlag (codes "progress") options testing.progress
 
 -- the translation of a model file that the options of `terms` ask for
 pub record SaysTranslating (options : List Row) (translating : Translating) : Type 0 where

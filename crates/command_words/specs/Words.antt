@@ -267,7 +267,8 @@ with_test_forms app =
     with_rule (with_rule (with_rule app (flag (codes "list"))) (flag (codes "json"))) (flag (codes "tap"))
 
 abbrev pub test_command : App
-test_command = with_rule (with_test_forms test_bounds) (text_option (codes "color"))
+test_command =
+    with_rule (with_rule (with_test_forms test_bounds) (flag (codes "progress"))) (text_option (codes "color"))
 
 abbrev pub terms_command : App
 terms_command = with_rule (new_app (codes "terms")) (file_argument (codes "file"))

@@ -338,6 +338,10 @@ pub const EXPLORE_TIMELINE: &str = "Print a timeline behind each report and each
 
 pub const PROGRESS: &str = "Write to standard error how far the search has come, once a second";
 
+pub const MODEL_PROGRESS: &str =
+    "Write to standard error how far the models are that are being explored, once
+a second";
+
 pub const FIRST_FINDING: &str =
     "Print the first finding alone: a fault, or an outcome of fiber 0 that is not
 wanted. Before the search 3000 schedules are drawn at random";

@@ -123,6 +123,7 @@ pub(crate) fn testing_of<'a>(
     let filter = text_of(test, "filter");
     let junit = text_of(test, "junit");
     let html = text_of(test, "html");
+    let progress = given(test, "progress");
     Ok(Some(Testing {
         files,
         filter,
@@ -134,6 +135,7 @@ pub(crate) fn testing_of<'a>(
         jobs,
         form,
         color,
+        progress,
     }))
 }
 

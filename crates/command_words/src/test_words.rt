@@ -92,6 +92,7 @@ pub(crate) fn test_command<'a>(alloc: Global) -> Result<Command<'a>, AllocError>
     ensures local { IfOk result (λ c. (out-Command c).has_globals ≡ false) }
 {
     let command = with_test_forms(alloc, test_bounds(alloc)?)?;
+    let command = with_flag(alloc, command, "progress", help::MODEL_PROGRESS)?;
     with_text(alloc, command, "color", "WHEN", help::COLOR)
 }
 

@@ -47,6 +47,8 @@ pub struct Testing<'a> {
     pub form: TestForm,
     /// When the words of verdicts have colours.
     pub color: Coloring,
+    /// Whether progress is asked for.
+    pub progress: bool,
 }
 
 /// To print the terms of the models of a file.

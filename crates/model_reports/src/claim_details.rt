@@ -8,6 +8,7 @@ use crate::one_line::joined;
 use crate::shown::push_shown;
 use crate::source_faults::push_headline;
 use crate::timeline_table::push_timeline;
+use crate::wait_lines::push_waits;
 use model_claims::{Rule, Verdict};
 use model_runs::{ClaimResult, NamedAnswer, Search, Warning};
 use std::alloc::{AllocError, Global};
@@ -89,7 +90,7 @@ fn push_claim(
     }
 }
 
-// Adds why a claim didn't pass, and a timeline.
+// Adds why a claim didn't pass, a timeline, and what fibers wait for.
 fn push_why(
     told: &mut Vec<u8>,
     alloc: Global,
@@ -101,7 +102,11 @@ fn push_why(
     match (claim.verdict, &claim.replay) {
         (Verdict::Failed | Verdict::Passed, Some(replay)) => {
             told.push(b'\n')?;
-            push_timeline(told, alloc, judged.file, judged.source, replay)
+            push_timeline(told, alloc, judged.file, judged.source, replay)?;
+            match &claim.waits {
+                Some(waits) => push_waits(told, judged.source, waits),
+                None => Ok(()),
+            }
         }
         _ => Ok(()),
     }

@@ -27,6 +27,7 @@ mod tap;
 mod timeline_columns;
 mod timeline_table;
 mod verdicts;
+mod wait_lines;
 
 pub use claim_details::model_details;
 pub use html_page::HtmlPage;

@@ -18,6 +18,7 @@ use crate::named::{Named, replay_named};
 use crate::plan::Plan;
 use crate::prepared::prepare;
 use crate::result::{ClaimResult, NamedAnswer, Search};
+use crate::waits::{Waits, waits_behind};
 use model_claims::{Claim, Judged, Truth, judge, truth_in};
 use model_terms::{Probe, Refused, Source};
 use model_text::Model;
@@ -82,6 +83,16 @@ pub(crate) fn claim_result(
         judged.shown,
         answers,
     )?;
+    let shown = shown_of(judged.shown, answers);
+    let waits = waits_of(
+        alloc,
+        source,
+        model,
+        claim.probe,
+        plan,
+        shown,
+        replay.as_ref(),
+    )?;
     Ok(ClaimResult {
         form: claim.form,
         rule: claim.rule,
@@ -91,6 +102,7 @@ pub(crate) fn claim_result(
         at_moment: false,
         shown: judged.shown,
         replay,
+        waits,
     })
 }
 
@@ -133,6 +145,7 @@ pub(crate) fn moment_result(
         at_moment: judged.at_moment,
         shown: judged.shown,
         replay,
+        waits: None,
     })
 }
 
@@ -161,13 +174,39 @@ fn replay_of(
 ) -> Result<Option<Named>, Refused>
     requires limits { AreLimits plan.limits }
 {
-    let Some(number) = shown else {
-        return Ok(None);
-    };
-    let Some(answer) = answers.get(number) else {
+    let Some(answer) = shown_of(shown, answers) else {
         return Ok(None);
     };
     let prepared = prepare(alloc, source, model, probe)?;
     let replay = replay_named(alloc, &prepared, answer.schedule.as_slice(), plan.limits)?;
     Ok(Some(replay))
+}
+
+// The answer of this number, if there is one.
+fn shown_of(shown: Option<usize>, answers: &[NamedAnswer]) -> Option<&NamedAnswer> {
+    answers.get(shown?)
+}
+
+// What the fibers wait for behind the schedule of an answer with this replay.
+fn waits_of(
+    alloc: Global,
+    source: &Source,
+    model: &Model,
+    probe: Probe,
+    plan: Plan,
+    answer: Option<&NamedAnswer>,
+    replay: Option<&Named>,
+) -> Result<Option<Waits>, Refused>
+    requires limits { AreLimits plan.limits }
+{
+    let Some(answer) = answer else {
+        return Ok(None);
+    };
+    let Some(replay) = replay else {
+        return Ok(None);
+    };
+    let prepared = prepare(alloc, source, model, probe)?;
+    let entries = answer.schedule.as_slice();
+    let waits = waits_behind(alloc, &prepared, entries, plan.limits, replay)?;
+    Ok(waits)
 }

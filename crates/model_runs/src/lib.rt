@@ -32,6 +32,7 @@ mod run;
 mod searching;
 mod seeing;
 mod verdicts;
+mod waits;
 mod warnings;
 mod word_places;
 
@@ -40,4 +41,6 @@ pub use named::Named;
 pub use plan::SearchBounds;
 pub use result::{ClaimResult, HeldRef, ModelResult, NamedAnswer, Search};
 pub use run::{check_model, run_model, run_model_watched};
+pub use scheduled_core::Why;
+pub use waits::Waits;
 pub use warnings::Warning;

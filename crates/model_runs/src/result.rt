@@ -1,6 +1,7 @@
 //! The results of a model and its claims.
 
 use crate::named::Named;
+use crate::waits::Waits;
 use crate::warnings::Warning;
 use cell_registry::RunError;
 use effect_term::Value;
@@ -69,6 +70,8 @@ pub struct ClaimResult {
     pub shown: Option<usize>,
     /// The replay of that answer's schedule.
     pub replay: Option<Named>,
+    /// What the fibers wait for that haven't ended there, if that is found.
+    pub waits: Option<Waits>,
 }
 
 /// The result of a model.

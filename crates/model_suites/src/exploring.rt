@@ -1,25 +1,38 @@
 //! The exploration of models, by one thread or several.
 
-ghost use Rattle.std.specs.Prelude.{◌≡◌, IfOk};
+ghost use Rattle.std.specs.Prelude.{◌≡◌, IfOk, false};
 ghost use Rattle.model_runs.specs.Verdicts.{worst};
 
-use crate::board::Board;
+use crate::board::{Board, Far};
+use crate::progress::Progress;
 use crate::suite::{Models, SuiteForm};
 use crate::tested::{Became, Explored, Tested};
-use model_runs::{ModelResult, SearchBounds, TimeLimit, run_model_watched};
-use model_terms::{Refused, Source};
-use model_text::Model;
+use crate::watching::Noting;
+use model_runs::{ModelResult, SearchBounds, run_model_watched};
+use model_terms::Refused;
 use std::alloc::{AllocError, Global};
 use std::sync::Wait;
 use std::thread;
 use std::thread::Threads;
-use std::time::{Clock, Instant};
+use std::time::{Clock, Duration, Instant};
+use text_io::TextOut;
+
+// The greatest number of seconds for which a thread that waits for a model shows progress.
+const MOST_SECONDS: usize = 10_000_000;
+
+// What is noted of a model when its searches begin.
+const START: Far = Far {
+    worlds: 0,
+    rate: 0,
+    depth: 0,
+};
 
 // Explores the model of this number, unless models are only listed.
 fn explore<C: Clock>(
     clock: &C,
     alloc: Global,
     models: &Models<'_>,
+    board: &Board,
     index: usize,
 ) -> Result<Became, AllocError> {
     let Some(entry) = models.entries.get(index) else {
@@ -35,28 +48,41 @@ fn explore<C: Clock>(
     match models.order.form {
         SuiteForm::List => Ok(Became::Listed),
         SuiteForm::Report | SuiteForm::Json | SuiteForm::Tap => {
-            let seconds = models.order.seconds;
-            explore_model(clock, alloc, &file.source, &entry.model, bounds, seconds)
+            board.note(index, START);
+            let mut noting = noting(clock, models.order.seconds, board, index);
+            let begun = noting.begun;
+            let found = run_model_watched(alloc, &file.source, &entry.model, bounds, &mut noting);
+            board.rest(index);
+            became_of(found, milliseconds_since(clock, begun))
         }
     }
 }
 
-// Explores and judges a model, within this number of seconds if one is given.
-fn explore_model<C: Clock>(
-    clock: &C,
-    alloc: Global,
-    source: &Source,
-    model: &Model,
-    bounds: SearchBounds,
+// The watcher of a model whose searches begin now, and end after this number of seconds if one is given.
+fn noting<'w, C: Clock>(
+    clock: &'w C,
     seconds: Option<u64>,
-) -> Result<Became, AllocError> {
-    let mut limit = TimeLimit::new(clock, seconds);
-    let begun = limit.begun;
-    match run_model_watched(alloc, source, model, bounds, &mut limit) {
-        Ok(result) => {
-            let milliseconds = milliseconds_since(clock, begun);
-            Ok(Became::Explored(explored(result, milliseconds)))
-        }
+    board: &'w Board,
+    index: usize,
+) -> Noting<'w, C> {
+    Noting {
+        clock,
+        begun: Instant::now(clock).ok(),
+        seconds,
+        stopped: false,
+        board,
+        index,
+        worlds: 0,
+        since: Duration::ZERO,
+    }
+}
+
+// What became of a model whose exploration took this number of milliseconds.
+fn became_of(found: Result<ModelResult, Refused>, milliseconds: u64) -> Result<Became, AllocError>
+    requires { IfOk found (λ it. it.verdict ≡ worst it.claims.items) }
+{
+    match found {
+        Ok(result) => Ok(Became::Explored(explored(result, milliseconds))),
         Err(Refused::NoMemory) => Err(AllocError),
         Err(Refused::Fault(fault)) => Ok(Became::Refused(fault)),
     }
@@ -92,7 +118,7 @@ fn help<R: Clock + Wait>(rt: &R, alloc: Global, models: &Models<'_>, board: &Boa
         let Some(index) = board.claim() else {
             return;
         };
-        board.put(rt, index, explore(rt, alloc, models, index));
+        board.put(rt, index, explore(rt, alloc, models, board, index));
     }
 }
 
@@ -137,11 +163,38 @@ fn became_at<R: Clock + Wait>(
         let Some(free) = board.claim() else {
             return board.take(rt, index);
         };
-        let found = explore(rt, alloc, models, free);
+        let found = explore(rt, alloc, models, board, free);
         if free == index {
             return found;
         }
         board.put(rt, free, found);
     }
     board.take(rt, index)
+}
+
+/// Waits until the result of the model of this number is on the board, and shows progress each second. Returns at once
+/// if no progress is shown, and after a second if no thread has claimed the model.
+pub(crate) fn show<R: Clock + Wait, E: TextOut>(
+    rt: &R,
+    models: &Models<'_>,
+    board: &Board,
+    index: usize,
+    progress: &mut Progress,
+    err: &mut E,
+)
+    requires { progress.old.failed ≡ false → (E.seen err.old).failed ≡ false }
+    ensures { progress.new.failed ≡ false → (E.seen err.new).failed ≡ false }
+{
+    if !progress.is_shown() {
+        return;
+    }
+    for _ in 0..MOST_SECONDS {
+        if board.waits_a_second(rt, index) {
+            return;
+        }
+        progress.tell(rt, models, board, err);
+        if !board.is_claimed(index) {
+            return;
+        }
+    }
 }

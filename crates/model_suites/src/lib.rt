@@ -9,14 +9,17 @@
 
 mod board;
 mod exploring;
+mod progress;
 mod reading;
 mod statuses;
 mod suite;
 mod terms;
 mod tested;
 mod told;
+mod watching;
 
 pub use board::Board;
+pub use progress::Progress;
 pub use reading::LONGEST;
 pub use statuses::status_of;
 pub use suite::{Suite, SuiteForm, SuiteOrder};

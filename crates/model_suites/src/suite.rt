@@ -1,10 +1,11 @@
 //! The models of files that are tested.
 
-ghost use Rattle.std.specs.Prelude.{◌≡◌, ◌++◌, [], IfOk, OnOk};
+ghost use Rattle.std.specs.Prelude.{◌≡◌, ◌++◌, [], IfOk, OnOk, false};
 ghost use Rattle.model_suites.specs.Statuses.{verdict_in};
 
 use crate::board::Board;
-use crate::exploring::{help_all, tested_at};
+use crate::exploring::{help_all, show, tested_at};
+use crate::progress::Progress;
 use crate::reading::{ReadProblem, read_path};
 use crate::terms::push_terms;
 use crate::tested::Tested;
@@ -21,6 +22,7 @@ use std::rt::Files;
 use std::sync::Wait;
 use std::thread::Threads;
 use std::time::Clock;
+use text_io::TextOut;
 
 /// The form of what is printed.
 #[derive(Clone, Copy, PartialEq, Eq, Debug)]
@@ -182,6 +184,22 @@ impl<'a> Suite<'a> {
         ensures { IfOk result (λ it. it.index ≡ index) }
     {
         tested_at(rt, self.alloc, &self.models, board, index)
+    }
+
+    /// Waits until the result of the model of this number is on the board, and meanwhile shows progress each second.
+    /// Returns at once if no progress is shown, and after a second if no thread has claimed the model.
+    pub fn show<R: Clock + Wait, E: TextOut>(
+        &self,
+        rt: &R,
+        board: &Board,
+        index: usize,
+        progress: &mut Progress,
+        err: &mut E,
+    )
+        requires { progress.old.failed ≡ false → (E.seen err.old).failed ≡ false }
+        ensures { progress.new.failed ≡ false → (E.seen err.new).failed ≡ false }
+    {
+        show(rt, &self.models, board, index, progress, err)
     }
 
     /// Adds the result of a model, and returns what is printed of the model at once. Models are added in the order of
