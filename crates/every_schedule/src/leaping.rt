@@ -153,13 +153,15 @@ fn push_on(
     ensures trail { OnOk result (IsOwnTrail at_once trail.old.items trail.new.items (here current.old)
         (here current.new)) }
 {
-    for done in 0..at_once.most {
+    let mut moved = false;
+    for _again in 0..at_once.most {
         let made = push_fiber(&mut *current, at_once, fiber, &mut *trail)?;
         if !made {
-            return Ok(done > 0);
+            return Ok(moved);
         }
+        moved = true;
     }
-    Ok(at_once.most > 0)
+    Ok(moved)
 }
 
 // Makes an own move of this fiber, if it has one and its call isn't refused. Returns whether it was made.

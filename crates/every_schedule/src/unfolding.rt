@@ -131,14 +131,15 @@ pub(crate) fn unfold(
     let mut current = Current::new(alloc, first)?;
     let registry = current.number()?;
     let numbers = Vec::from_slice(alloc, current.numbers())?;
-    unfold_from(
+    let trail = unfold_from(
         alloc,
         &mut current,
         registry,
         numbers.as_slice(),
         schedule,
         at_once,
-    )
+    )?;
+    Ok(trail)
 }
 
 // Returns the entries that a schedule makes from the world with these numbers, own moves included. What `current` knows

@@ -1,11 +1,39 @@
-use Rattle.std.proofs.{Common.{◌≡◌, ◌+◌, ℕ, List, sym, ◌∙◌, subst, refl, arith}, lemmas.{Grind.common_steps, Option.{gets, slice_get_within}}}
+use Rattle.std.proofs.{Common.{◌≡◌, ◌+◌, ℕ, [], List, sym, ◌∙◌, subst, refl, arith}, lemmas.{Grind.common_steps, Option.{gets, slice_get_within}}}
 use Rattle.std.specs.{Prelude.Some, List.slice_get}
 use Rattle.derived_ops.specs.{Expansion.code_of, Reading.source_of}
 use Rattle.world_search.specs.declared.answers.Answer.{Answer as Found}
-use Rattle.every_schedule.{specs.{Places.first_place, Private.Trails.{AreUnfolded, EndApart, EndsAlone, IsKeptIn, IsUnfolded}}, proofs.Trails.EndsBefore}
+use Rattle.scheduled_core.specs.Fitting.{AllFit}
+use Rattle.every_schedule.specs.{Places.{Place, first_place}, Private.{Numbered.{IsWorldOf, Numbers}, Standing.here, Trails.{AreUnfolded, EndApart, EndsAlone, IsKeptIn, IsUnfolded}}}
+use Rattle.every_schedule.proofs.{Numbered.of_more, Trails.EndsBefore}
 use Rattle.every_schedule.proofs.Trails.{alone_here, alone_next, alone_sorted, apart_next, apart_sorted, before_more, before_next, kept_next, kept_sorted}
 use Rattle.every_schedule.proofs.{Trails.{unfolded_next, unfolded_sorted}, unfolding.unfold_all.Goals.{then-not-branch, else-not-branch}}
 use Rattle.every_schedule.proofs.unfolding.unfold_all.Goals as goal
+
+pub loop-i-init : goal.loop-i-init
+loop-i-init c =
+    let p = here c.in_ok-current.current in
+    let fs = c.number.new.self.fibers in
+    let rs = c.number.new.self.registries in
+    let is : c.in_ok-numbers.numbers.items ≡ c.number.new.self.numbers = c.in_ok-numbers.ensures.items ∙ c.numbers.ensures in
+    let there = subst (λ (l : List ℕ). IsWorldOf fs rs (record { registry = c.in_ok-registry.registry; fibers = l }) p) (sym is) c.in_ok-registry.ensures.row in
+    let first : p ≡ first_place (code_of (source_of c.args.program.now)) c.args.limits = c.in_ok-current.ensures.here ∙ c.in_ok-first.ensures in
+    record {
+      there = subst (λ (q : Place). IsWorldOf fs rs (record { registry = c.in_ok-registry.registry; fibers = c.in_ok-numbers.numbers.items }) q) first there;
+      each = λ i a at. let no : slice_get [] i ≡ Some a = subst (λ (l : List Found). slice_get l i ≡ Some a) c.new-answers.ensures.items at in absurd (cc);
+      before = λ i a at. let no : slice_get [] i ≡ Some a = subst (λ (l : List Found). slice_get l i ≡ Some a) c.new-answers.ensures.items at in absurd (cc);
+      apart = λ all i j a b at other is.
+          let no : slice_get [] i ≡ Some a = subst (λ (l : List Found). slice_get l i ≡ Some a) c.new-answers.ensures.items at in absurd (cc);
+      left = λ isnt. absurd (cc);
+      whole = λ still i a low at. absurd (omega arith);
+    }
+
+pub unfold_from-requires : goal.unfold_from-requires
+unfold_from-requires c =
+    let first = first_place (code_of (source_of c.args.program.now)) c.args.limits in
+    let there : IsWorldOf c.loop-i.current.fibers c.loop-i.current.registries (record { registry = c.in_ok-registry.registry; fibers = c.as_slice.result.now }) first =
+    subst (λ (l : List ℕ). IsWorldOf c.loop-i.current.fibers c.loop-i.current.registries (record { registry = c.in_ok-registry.registry; fibers = l }) first)
+    (sym c.as_slice.ensures.value) c.loop-i.invariant.there in
+    (first.limits, record { place = first; limits = refl; is = there; fits = subst (λ (p : Place). AllFit p.world) c.in_ok-first.ensures c.new.ensures.fits })
 
 pub loop-i-preserved : goal.loop-i-preserved
 loop-i-preserved c =
@@ -21,8 +49,13 @@ loop-i-preserved c =
     let one : Found = record { schedule = s; end = it.end } in
     let at : slice_get found c.loop-i.i ≡ Some it = grind (arith, common_steps, gets) in
     let entries : IsUnfolded n first it.schedule.items s.items =
-    subst (λ (l : List ℕ). IsUnfolded n first l s.items) c.as_slice.ensures.value c.in_ok-schedule.ensures.entries in
+    subst (λ (l : List ℕ). IsUnfolded n first l s.items) c.as_slice-in-loop-i.ensures.value (c.in_ok-schedule.ensures.entries first
+    (subst (λ (l : List ℕ). IsWorldOf c.loop-i.current.fibers c.loop-i.current.registries (record { registry = c.in_ok-registry.registry; fibers = l }) first)
+    (sym c.as_slice.ensures.value) known.there)) in
     record {
+      there = of_more c.loop-i.current.fibers c.unfold_from.new.current.fibers c.loop-i.current.registries c.unfold_from.new.current.registries
+          c.unfold_from.ensures.fibers c.unfold_from.ensures.registries (record { registry = c.in_ok-registry.registry; fibers = c.in_ok-numbers.numbers.items })
+          first known.there;
       each = elim c.if-not-branch.branch [
         | then-not-branch w ↦ subst (AreUnfolded n c.args.most first found) (sym (told.same w.if-not-branch.true)) known.each
         | else-not-branch w ↦
