@@ -8,7 +8,6 @@ use Rattle.world_search.{specs.Systems.run, proofs.Free.run_fault}
 use Rattle.every_schedule.specs.{declared.claims.ClaimWord.{ClaimWord, TheVariants.{Compare, Not, And, Or, Deadlock, Left, Final}}, Claims.{Compares, Meets, View, WasSet, are_seen}}
 use Rattle.every_schedule.specs.{Claims.{first_view, has, holds, is_seen, last_of, noted, seeing, stored_by, viewed, worded}, Places.{Place, bared}}
 use Rattle.every_schedule.{specs.Places.{first_place, placed, stepped, unnoted}, proofs.{Bare.bare_step, Placed.first_bare, OwnKept.{and_true, or_second}}}
-
 use Rattle.every_schedule.specs.{declared.progress.Progress.{Progress, TheVariants.{GoesOn, Deadlocked, LeftBehind, AllOver}}, Standings.IsStanding}
 use Rattle.every_schedule.{specs.Private.Stopping.{meets_here, standing_of}, proofs.{Stopping.{standing_told, stands_so}, Unrest.{final_bare, final_noted}}}
 

@@ -248,10 +248,10 @@ module _ (words : List ClaimWord) (up : (leaning_of words).falls ≡ false) wher
       let is = free_is v f x h e in
       let both = two_true (are_seen v.seen words) (holds (standing_of v.place.world) v.place.world.cells words) met in
       and_true (are_seen x.seen words) (holds (standing_of x.place.world) x.place.world.cells words)
-          (ap (λ (seen : List ℕ). are_seen seen words) is.1 ∙ both.0)
-          (holds_refs (standing_of x.place.world) x.place.world.cells v.place.world.cells
-          (refs_stay v.place x.place f (free_stores v.place f h) is.0) words ∙
-          grown_by v f x (are_stopped v.place.world.cells 0 v.place.world.fibers) refl is.0 both.1)
+      (ap (λ (seen : List ℕ). are_seen seen words) is.1 ∙ both.0)
+      (holds_refs (standing_of x.place.world) x.place.world.cells v.place.world.cells
+      (refs_stay v.place x.place f (free_stores v.place f h) is.0) words ∙
+      grown_by v f x (are_stopped v.place.world.cells 0 v.place.world.fibers) refl is.0 both.1)
 
   -- such a claim, if no world of the reduced search meets it, is met by no world
   pub unmet_all : (first : View) →

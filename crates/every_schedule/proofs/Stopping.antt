@@ -121,10 +121,10 @@ all_stopped s f [] h = refl
 all_stopped s f (x ∷ gs) h =
     let here : zero + f ≡ f = omega arith in
     and_true (is_stopped s f x) (are_stopped s (suc f) gs)
-        (subst (λ n. is_stopped s n x ≡ true) here (h zero x refl))
-        (all_stopped s (suc f) gs (λ i g at.
-            let there : suc i + f ≡ i + suc f = omega arith in
-            subst (λ n. is_stopped s n g ≡ true) there (h (suc i) g at)))
+    (subst (λ n. is_stopped s n x ≡ true) here (h zero x refl))
+    (all_stopped s (suc f) gs (λ i g at.
+    let there : suc i + f ≡ i + suc f = omega arith in
+    subst (λ n. is_stopped s n g ≡ true) there (h (suc i) g at)))
 
 pub past_zero : (i : ℕ) → i + zero ≡ i
 past_zero i = omega arith
@@ -353,7 +353,7 @@ module _ (a : Ask) (r : Reply) (g h : Fiber) (w : IsWaiting a) (asked : Asked g 
   other_masked apart = so_true (has_mask (active_of g)) (λ none.
       let after = waited a r g h w leads in
       apart (due_at h.number h.next h.look h.marks h.running (subst IsGoing (sym after.way) (waiting_goes a g w asked)) after.look
-          (empty_again (some_mask (active_of g) none))))
+      (empty_again (some_mask (active_of g) none))))
 
   pub look_told : (b : Bool) (x : Ask) → (b ≡ true → x ≡ ask.Look) → (b ≡ false → x ≢ ask.Look) → Asked h x → x ≡ ask_of h →
       not b ≡ has_mask (active_of g)

@@ -101,11 +101,7 @@ fn are_stopped(
 }
 
 // Whether the fiber has ended, or rests at a wait that nothing ends.
-fn is_stopped(
-    alloc: Global,
-    config: &Config,
-    registry: &PlainRegistry,
-) -> Result<bool, AllocError>
+fn is_stopped(alloc: Global, config: &Config, registry: &PlainRegistry) -> Result<bool, AllocError>
     requires { Fits (cell_registered registry.now.state config.now.number) config.now }
     ensures { IfOk result (λ it. it ≡ is_stopped registry.now.state config.now.number config.now) }
 {
