@@ -1,3 +1,4 @@
+use Rattle.std.proofs.lemmas.Result.{err_from_is_err_and}
 use Rattle.std.proofs.{Common.{◌≡◌, ◌+◌, ℕ, [], List, sym, ◌∙◌, subst, refl, arith}, lemmas.{Grind.common_steps, Option.{gets, slice_get_within}}}
 use Rattle.std.specs.{Prelude.Some, List.slice_get}
 use Rattle.derived_ops.specs.{Expansion.code_of, Reading.source_of}
@@ -26,6 +27,21 @@ loop-i-init c =
       left = λ isnt. absurd (cc);
       whole = λ still i a low at. absurd (omega arith);
     }
+
+pub returns-in_err-schedule-clause-memory : goal.returns-in_err-schedule-clause-memory
+returns-in_err-schedule-clause-memory c =
+    let p = err_from_is_err_and c.from_residual-in_err-schedule.result c.from_residual-in_err-schedule.ensures.1 in
+    rw (p.1, p.2) c.in_err-schedule.ensures.memory
+
+pub returns-in_err-add-clause-memory : goal.returns-in_err-add-clause-memory
+returns-in_err-add-clause-memory c =
+    let p = err_from_is_err_and c.from_residual-in_err-add.result c.from_residual-in_err-add.ensures.1 in
+    rw (p.1, p.2) refl
+
+pub returns-in_err-sort-clause-memory : goal.returns-in_err-sort-clause-memory
+returns-in_err-sort-clause-memory c =
+    let p = err_from_is_err_and c.from_residual-in_err-sort.result c.from_residual-in_err-sort.ensures.1 in
+    rw (p.1, p.2) refl
 
 pub unfold_from-requires : goal.unfold_from-requires
 unfold_from-requires c =
