@@ -148,8 +148,8 @@ fn comparison<'a>(
     scanner: &mut Scanner<'a>,
     how: Comparison,
 ) -> Result<Spelled<'a>, ClaimFault> {
-    let subject = take_subject(scanner)?;
-    let value = take_value(scanner)?;
+    let subject = take_subject(&mut *scanner)?;
+    let value = take_value(&mut *scanner)?;
     take_closing(scanner)?;
     match subject {
         Subject::Numbered(number) => Ok(compared_number(alloc, number, how, value)?),
