@@ -11,7 +11,6 @@ use crate::spelled::{
     negated, whole_claim as whole_part,
 };
 use crate::words::Joint;
-use effect_term::Value;
 use every_schedule::Comparison;
 use itoa::Buffer;
 use std::alloc::{AllocError, Global};
@@ -148,8 +147,14 @@ fn comparison<'a>(
     scanner: &mut Scanner<'a>,
     how: Comparison,
 ) -> Result<Spelled<'a>, ClaimFault> {
-    let subject = take_subject(&mut *scanner)?;
-    let value = take_value(&mut *scanner)?;
+    let place = scanner.place();
+    let subject = subject_in(scanner.word(), place)?;
+    let place = scanner.place();
+    let word = scanner.word();
+    let Some(value) = value_of(word) else {
+        return Err(ClaimFault::Expected(A_NUMBER, place));
+    };
+    check_plain(word, value.get(), place)?;
     take_closing(scanner)?;
     match subject {
         Subject::Numbered(number) => Ok(compared_number(alloc, number, how, value)?),
@@ -157,15 +162,11 @@ fn comparison<'a>(
     }
 }
 
-// Takes the name or the number of a ref.
-fn take_subject<'a>(scanner: &mut Scanner<'a>) -> Result<Subject<'a>, ClaimFault> {
-    let place = scanner.place();
-    let word = scanner.word();
+// The ref that a word at this place names.
+fn subject_in<'a>(word: &'a [u8], place: usize) -> Result<Subject<'a>, ClaimFault> {
     match subject_of(word) {
         Some(Subject::Numbered(number)) => {
-            if !is_plain(word, i64::from(number)) {
-                return Err(ClaimFault::Expected(PLAIN, place));
-            }
+            check_plain(word, i64::from(number), place)?;
             Ok(Subject::Numbered(number))
         }
         Some(Subject::Named(name)) => Ok(Subject::Named(name)),
@@ -173,17 +174,13 @@ fn take_subject<'a>(scanner: &mut Scanner<'a>) -> Result<Subject<'a>, ClaimFault
     }
 }
 
-// Takes the number that a ref is compared with.
-fn take_value(scanner: &mut Scanner<'_>) -> Result<Value, ClaimFault> {
-    let place = scanner.place();
-    let word = scanner.word();
-    let Some(value) = value_of(word) else {
-        return Err(ClaimFault::Expected(A_NUMBER, place));
-    };
-    if !is_plain(word, value.get()) {
-        return Err(ClaimFault::Expected(PLAIN, place));
+// Refuses a word at this place that spells the number with zeros or a plus sign in front.
+fn check_plain(word: &[u8], number: i64, place: usize) -> Result<(), ClaimFault> {
+    if is_plain(word, number) {
+        Ok(())
+    } else {
+        Err(ClaimFault::Expected(PLAIN, place))
     }
-    Ok(value)
 }
 
 // Whether a word spells a number without zeros or a plus sign in front.
