@@ -68,13 +68,20 @@ pub fn search_outcome_claims<V: Watcher>(
     let sure = none_rise(alloc, claims)?;
     let unfolded = Claimed {
         met,
-        complete: found.complete && sure,
+        complete: are_both(found.complete, sure),
         halted: found.halted,
         worlds: found.worlds,
         bytes: found.bytes,
     };
     let certified = certify(alloc, program, limits, claims, unfolded)?;
     Ok(certified)
+}
+
+// Whether both are true.
+fn are_both(one: bool, other: bool) -> bool
+    ensures { result ≡ true → (one ≡ true) × (other ≡ true) }
+{
+    one && other
 }
 
 // Returns the claims that the search met, with schedules in which each entry is one move.

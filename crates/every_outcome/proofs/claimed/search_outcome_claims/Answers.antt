@@ -7,7 +7,7 @@ use Rattle.cell_registry.specs.declared.limits.Limits.{Limits}
 use Rattle.world_search.specs.declared.claims.Met.{Met}
 use Rattle.world_search.specs.Claims.{IsFew, IsFound}
 use Rattle.every_schedule.specs.Claims.{View, first_view}
-use Rattle.every_schedule.proofs.{Certified.all_kept, Seeing.two_true}
+use Rattle.every_schedule.proofs.{Certified.all_kept}
 use Rattle.every_outcome.specs.Outcomes.{counted}
 use Rattle.every_outcome.specs.Places.{first_place}
 use Rattle.every_outcome.proofs.Moments.{core_met}
@@ -24,7 +24,7 @@ returns-clause-unmet g c = λ complete i words at unfound n schedule met.
     let none = λ (f : IsFound i raw).
     unfound (subst (λ (l : List Met). IsFound i l) (sym (c.in_ok-certified.ensures.whole complete)) (subst (λ m. IsFound m c.in_ok-met.met.items) f.2
     (c.in_ok-met.ensures.all f.1.0 f.0 (subst (λ (l : List Met). slice_get l f.1.0 ≡ Some f.0) (sym c.as_slice.ensures.value) f.1.1)))) in
-    let both = two_true c.in_ok-found.found.complete c.in_ok-sure.sure (c.in_ok-certified.ensures.complete complete) in
+    let both = c.are_both.ensures (c.in_ok-certified.ensures.complete complete) in
     let reduced = c.in_ok-found.ensures.unmet both.0 first there i words at none in
     let core = core_met code k (omega arith) c.in_ok-worlds.ensures.reached words (c.in_ok-sure.ensures both.1 i words at) n schedule met in
     let no : true ≡ false = sym core.2 ∙ unmet_all words first reduced schedule core.0 core.1 in
