@@ -22,49 +22,50 @@ abbrev pub or_stays : Place → Result Place RunError → Place
 or_stays p (Ok q) = q
 or_stays p (Err e) = p
 
-abbrev pub if_own : Bool → Place → ℕ → Place
-if_own true p f = or_stays p (stepped p f)
-if_own false p f = p
+module _ (says : Bool) where
+  abbrev pub if_own : Bool → Place → ℕ → Place
+  if_own true p f = or_stays p (stepped says p f)
+  if_own false p f = p
 
-abbrev pub after_own : Bool → Place → ℕ → Place
-after_own stores p f = if_own (may_next stores p.world f) p f
+  abbrev pub after_own : Bool → Place → ℕ → Place
+  after_own stores p f = if_own (may_next stores p.world f) p f
 
--- one own move of each of the first n fibers that has one, the last of them first
-unfoldable pub swept : Bool → ℕ → Place → Place
-swept stores zero p = p
-swept stores (suc n) p = swept stores n (after_own stores p n)
+  -- one own move of each of the first n fibers that has one, the last of them first
+  unfoldable pub swept : Bool → ℕ → Place → Place
+  swept stores zero p = p
+  swept stores (suc n) p = swept stores n (after_own stores p n)
 
--- one own move of each fiber that has one
-abbrev pub pushed_once : Bool → Place → Place
-pushed_once stores p = swept stores (length p.world.fibers) p
+  -- one own move of each fiber that has one
+  abbrev pub pushed_once : Bool → Place → Place
+  pushed_once stores p = swept stores (length p.world.fibers) p
 
--- at most n own moves of each fiber
-unfoldable pub pushed : Bool → ℕ → Place → Place
-pushed stores zero p = p
-pushed stores (suc n) p = pushed stores n (pushed_once stores p)
+  -- at most n own moves of each fiber
+  unfoldable pub pushed : Bool → ℕ → Place → Place
+  pushed stores zero p = p
+  pushed stores (suc n) p = pushed stores n (pushed_once stores p)
 
--- the result of an entry, with own moves after it
-abbrev pub behind : Bool → Result Place RunError → Result Place RunError
-behind stores (Ok q) = Ok (pushed stores 100 q)
-behind stores (Err e) = Err e
+  -- the result of an entry, with own moves after it
+  abbrev pub behind : Bool → Result Place RunError → Result Place RunError
+  behind stores (Ok q) = Ok (pushed stores 100 q)
+  behind stores (Err e) = Err e
 
-abbrev pub leapt_by : Bool → Place → ℕ → Option Fiber → Result Place RunError
-leapt_by stores p f None = stepped p f
-leapt_by stores p f (Some g) = behind stores (stepped p f)
+  abbrev pub leapt_by : Bool → Place → ℕ → Option Fiber → Result Place RunError
+  leapt_by stores p f None = stepped says p f
+  leapt_by stores p f (Some g) = behind stores (stepped says p f)
 
--- The result of a fiber's entry, with at most 100 own moves of each fiber after it if the fiber was started. Without
--- `stores` none of these own moves sets or changes a ref.
-abbrev pub leapt : Bool → Place → ℕ → Result Place RunError
-leapt stores p f = leapt_by stores p f (slice_get p.world.fibers f)
+  -- The result of a fiber's entry, with at most 100 own moves of each fiber after it if the fiber was started. Without
+  -- `stores` none of these own moves sets or changes a ref.
+  abbrev pub leapt : Bool → Place → ℕ → Result Place RunError
+  leapt stores p f = leapt_by stores p f (slice_get p.world.fibers f)
 
--- the added entries lead from p to y
-pub record IsTrail (old new : List ℕ) (p : Place) (y : Result Place RunError) : Type 0 where
-  pub added : List ℕ
-  pub is : new ≡ old ++ added
-  pub leads : run stepped (Ok p) added ≡ y
-  pub few : All (λ f. f < 1000) added
+  -- the added entries lead from p to y
+  pub record IsTrail (old new : List ℕ) (p : Place) (y : Result Place RunError) : Type 0 where
+    pub added : List ℕ
+    pub is : new ≡ old ++ added
+    pub leads : run (stepped says) (Ok p) added ≡ y
+    pub few : All (λ f. f < 1000) added
 
--- these entries lead to where the schedule leads with own moves after each of its entries
-pub record IsUnfolded (stores : Bool) (first : Place) (schedule entries : List ℕ) : Type 0 where
-  pub leads : run stepped (Ok first) entries ≡ run (leapt stores) (Ok first) schedule
-  pub few : All (λ f. f < 1000) entries
+  -- these entries lead to where the schedule leads with own moves after each of its entries
+  pub record IsUnfolded (stores : Bool) (first : Place) (schedule entries : List ℕ) : Type 0 where
+    pub leads : run (stepped says) (Ok first) entries ≡ run (leapt stores) (Ok first) schedule
+    pub few : All (λ f. f < 1000) entries
