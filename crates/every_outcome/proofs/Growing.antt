@@ -1,6 +1,6 @@
 -- Reports grow: each entry keeps them or adds to them.
 use Rattle.std.proofs.Common.{◌≡◌, ◌⊎◌, inl, inr, ℕ, zero, suc, Bool, ◌+◌, ◌<◌, ◌≤◌, List, [], ◌∷◌, ◌++◌, length, map, set, Some, None, Option, Result, Ok, Err, refl}
-use Rattle.std.{proofs.Common.{sym, ap, ap₂, ◌∙◌, arith, append-nil}, specs.List.slice_get}
+use Rattle.std.{proofs.Common.{sym, ap, ap₂, ◌∙◌, arith, append-nil, length-append}, specs.List.slice_get}
 use Rattle.effect_term.specs.declared.reply.{Outcome.Outcome, Reply.{Reply, TheVariants.Done}}
 use Rattle.derived_ops.specs.Tree.{Mask}
 use Rattle.fiber_frames.specs.{declared.{ask.Look.Look, mark.Mark.Mark}, Path.{Running, Over}, Fiber.{Fiber, Move_case, Looks, Cuts, Reduces, Rests}}
@@ -29,11 +29,6 @@ going : (w : Running) (up : List Mask) (l : Look) (c : Move_case) → case_in w 
 going (Over o) up l c e h = absurd (h (sym e))
 going _ up l c e h = refl
 
--- a list of marks that is continued
-length_more : (ms ns : List Mark) → length (ms ++ ns) ≡ length ms + length ns
-length_more [] ns = refl
-length_more (m ∷ ms) ns = ap suc (length_more ms ns)
-
 module _ (says : Bool) where
   abbrev GrowsOne : Fiber → Fiber → Type 0
   GrowsOne a b = (kept_report says b ≡ kept_report says a) ⊎ (fiber_size (kept_report says a) < fiber_size (kept_report says b))
@@ -45,12 +40,12 @@ module _ (says : Bool) where
   grows_by : (o p : Option Outcome) (ms ns : List Mark) → (o ≡ None) ⊎ (p ≡ o) → (as_told p (ms ++ ns) ≡ as_told o ms) ⊎
       (fiber_size (as_told o ms) < fiber_size (as_told p (ms ++ ns)))
   grows_by None None ms [] h = inl (ap (as_told None) (append-nil ms))
-  grows_by None None ms (n ∷ ns) h = let more = length_more ms (n ∷ ns) in inr (omega arith)
-  grows_by None (Some q) ms ns h = let more = length_more ms ns in inr (omega arith)
-  grows_by (Some o) p ms ns (inl no) = absurd (cc)
+  grows_by None None ms (n ∷ ns) h = let more = length-append ms (n ∷ ns) in inr (omega arith)
+  grows_by None (Some q) ms ns h = let more = length-append ms ns in inr (omega arith)
+  grows_by (Some o) p ms ns (inl none) = absurd (cc)
   grows_by (Some o) p ms [] (inr same) = inl (ap₂ as_told same (append-nil ms))
   grows_by (Some o) p ms (n ∷ ns) (inr same) =
-      let more = length_more ms (n ∷ ns) in
+      let more = length-append ms (n ∷ ns) in
       let alike : one_size p ≡ 2 = ap one_size same in
       inr (omega arith)
 

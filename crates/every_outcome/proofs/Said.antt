@@ -1,4 +1,5 @@
 -- A fiber makes the same moves, and says the same, without the numbers of its masks and the marks that aren't kept.
+use Rattle.std.proofs.Common.{append_assoc, arith, get_or, take, ◌+◌, ◌<◌, zero}
 use Rattle.std.proofs.Common.{◌≡◌, ℕ, suc, Bool, true, false, cond, ◌&&◌, if◌then◌else◌, List, [], ◌∷◌, ◌++◌, length, Option, refl, sym, ap, ap₂, ◌∙◌}
 use Rattle.effect_term.specs.declared.reply.{Outcome.Outcome, Reply.Reply}
 use Rattle.derived_ops.specs.Tree.{Acquired, Act, Action, Bracket_mark, Guarded, Handled, Let, Make, Maker, Mask, Masked, New_deferred, New_ref, Note, Operand}
@@ -45,6 +46,27 @@ module _ (says : Bool) where
       kept_append (kept_marks says old) ms
       ∙ ap₂ (λ (a b : List Mark). a ++ b) (kept_twice old) e
       ∙ sym (kept_append old ns)
+
+-- ---- marks, one after another
+module _ (says : Bool) where
+  kept_taken : (ms : List Mark) (i : ℕ) (d : Mark) → i < length ms →
+      kept_marks says (take (suc i) ms) ≡ kept_marks says (take i ms) ++ kept_marks says (get_or ms i d ∷ [])
+  kept_taken [] i d l = absurd (omega arith)
+  kept_taken (m ∷ ms) zero d l = refl
+  kept_taken (m ∷ ms) (suc i) d l =
+      kept_append says (m ∷ []) (take (suc i) ms)
+      ∙ ap (λ (k : List Mark). kept_marks says (m ∷ []) ++ k) (kept_taken ms i d (omega arith))
+      ∙ sym (append_assoc (kept_marks says (m ∷ [])) (kept_marks says (take i ms)) (kept_marks says (get_or ms i d ∷ [])))
+      ∙ ap (λ (k : List Mark). k ++ kept_marks says (get_or ms i d ∷ [])) (sym (kept_append says (m ∷ []) (take i ms)))
+
+  pub kept_next : (ms : List Mark) (i : ℕ) (d : Mark) (now next : List Mark) → i < length ms → next ≡ now ++ kept_marks says (get_or ms i d ∷ []) →
+      now ≡ kept_marks says (take i ms) → next ≡ kept_marks says (take (i + 1) ms)
+  kept_next ms i d now next l e h =
+      let more : suc i ≡ i + 1 = omega arith in
+      e
+      ∙ ap (λ (k : List Mark). k ++ kept_marks says (get_or ms i d ∷ [])) h
+      ∙ sym (kept_taken ms i d l)
+      ∙ ap (λ (j : ℕ). kept_marks says (take j ms)) more
 
 -- ---- what a term's next move says
 abbrev act_says : Action → List Mark
@@ -179,32 +201,32 @@ module _ (i : ℕ) (to : ℕ → ℕ → Mask) where
 
 -- ---- moves
 module _ (g : Fiber) where
-  abbrev i : ℕ
-  i = g.number
+  abbrev own : ℕ
+  own = g.number
 
-  abbrev ms : List ℕ
-  ms = masks_of g.running
+  abbrev path : List ℕ
+  path = masks_of g.running
 
   abbrev to : ℕ → ℕ → Mask
-  to = placed_in i ms
+  to = placed_in own path
 
-  faithful : Each (Faithful i (own_place i ms)) ms
-  faithful = each_map (HasPlace ms) (Faithful i (own_place i ms)) (λ a h. placed_faithful i ms a h) ms (all_placed ms)
+  faithful : Each (Faithful own (own_place own path)) path
+  faithful = each_map (HasPlace path) (Faithful own (own_place own path)) (λ a h. placed_faithful own path a h) path (all_placed path)
 
-  kept : Each (λ m. IsKept i to (λ p f k. refl) (Pair i m)) ms
-  kept = each_map (Faithful i (own_place i ms)) (λ m. IsKept i to (λ p f k. refl) (Pair i m)) (λ a h. faithful_kept i (own_place i ms) a h) ms faithful
+  kept : Each (λ m. IsKept own to (λ p f k. refl) (Pair own m)) path
+  kept = each_map (Faithful own (own_place own path)) (λ m. IsKept own to (λ p f k. refl) (Pair own m)) (λ a h. faithful_kept own (own_place own path) a h) path faithful
 
   -- the kind of the next move
   case_unmarked : move_case (unmarked g) ≡ move_case g
   unfolding unmarked
-  case_unmarked = same_case g to (suc (length ms)) (λ p f k. refl) (λ m. refl) kept
+  case_unmarked = same_case g to (suc (length path)) (λ p f k. refl) (λ m. refl) kept
 
   row_unmarked : (says : Bool) (r : Reply) → kept_marks says (row_of (unmarked g) r).marks ≡ kept_marks says (row_of g r).marks
   unfolding unmarked
   row_unmarked says r =
-      row_said says i (suc (length ms)) r (run_renumbered i to g.running)
-      ∙ ap (kept_marks says) (run_to i to g.running)
-      ∙ sym (row_said says i g.next r g.running)
+      row_said says own (suc (length path)) r (run_renumbered own to g.running)
+      ∙ ap (kept_marks says) (run_to own to g.running)
+      ∙ sym (row_said says own g.next r g.running)
 
 abbrev with_marks : List Mark → Fiber → Fiber
 with_marks ms g = record g { marks = ms }

@@ -1,7 +1,7 @@
 //! The part of a world by which a search recognizes the world.
 ghost use Rattle.std.specs.Prelude.{◌≡◌, ◌≢◌, IfOk, false, map, true};
 ghost use Rattle.scheduled_core.specs.Fitting.{world_of};
-ghost use Rattle.every_outcome.specs.Places.{marks_of, shown, unmarked_world};
+ghost use Rattle.every_outcome.specs.Places.{marks_of, shown, unmarked_world, with_says};
 
 use crate::says::kept_of;
 use cell_registry::PlainRegistry;
@@ -31,12 +31,12 @@ impl Model for ShownFiber {
 }
 
 impl ShownFiber {
-    // What the search keeps of a fiber; with `says` also its says.
-    fn of(alloc: Global, fiber: &Config, says: bool) -> Result<ShownFiber, AllocError>
-        ensures { IfOk result (λ it. it ≡ shown says fiber.now) }
+    // What the search with this number keeps of a fiber.
+    fn of(alloc: Global, fiber: &Config, search: u8) -> Result<ShownFiber, AllocError>
+        ensures { IfOk result (λ it. it ≡ shown (with_says search) fiber.now) }
     {
         let shape = FiberShape::of(alloc, fiber)?;
-        let marks = kept_of(alloc, fiber, says)?;
+        let marks = kept_of(alloc, fiber, search)?;
         Ok(ShownFiber { shape, marks })
     }
 
@@ -109,19 +109,19 @@ impl Model for WorldShape {
 }
 
 impl WorldShape {
-    /// The shape of a world of these fibers and this registry; with `says` it has the says of the fibers.
+    /// The shape of a world of these fibers and this registry, with the marks that the search with this number keeps.
     pub(crate) fn of(
         alloc: Global,
         fibers: &[Config],
         registry: &PlainRegistry,
-        says: bool,
+        search: u8,
     ) -> Result<WorldShape, AllocError>
         ensures { IfOk result (λ it. it ≡ record {
           limits = registry.now.limits;
-          world = unmarked_world says (world_of fibers.now registry.now.state);
+          world = unmarked_world (with_says search) (world_of fibers.now registry.now.state);
         }) }
     {
-        let shapes = shapes_of(alloc, fibers, says)?;
+        let shapes = shapes_of(alloc, fibers, search)?;
         let mut bare = registry.copy(alloc)?;
         bare.forget_waits();
         bare.forget_counts();
@@ -158,12 +158,12 @@ impl WorldShape {
 }
 
 // What the search keeps of fibers.
-fn shapes_of(alloc: Global, fibers: &[Config], says: bool) -> Result<Vec<ShownFiber>, AllocError>
-    ensures { IfOk result (λ shapes. shapes.items ≡ map (shown says) fibers.now) }
+fn shapes_of(alloc: Global, fibers: &[Config], search: u8) -> Result<Vec<ShownFiber>, AllocError>
+    ensures { IfOk result (λ shapes. shapes.items ≡ map (shown (with_says search)) fibers.now) }
 {
     let mut shapes = Vec::with_capacity(alloc, fibers.len())?;
     for fiber in fibers {
-        shapes.push(ShownFiber::of(alloc, fiber, says)?)?;
+        shapes.push(ShownFiber::of(alloc, fiber, search)?)?;
     }
     Ok(shapes)
 }

@@ -15,7 +15,7 @@ ghost use Rattle.every_outcome.specs.Private.Reduced.{leapt};
 use crate::core_world::CoreWorld;
 use crate::leaping::leap;
 use crate::own_moves::stored_by;
-use crate::says::{keeps_says, reports_of};
+use crate::says::reports_of;
 use crate::shape::WorldShape;
 use cell_registry::{Limits, RunError};
 use effect_term::{Program, facts_of};
@@ -71,7 +71,7 @@ impl<const SAYS: u8> SeenWorld<SAYS> {
         requires { AllFit core.world }
         ensures { IfOk result (λ it. it ≡ unmarked_place (with_says SAYS) core) }
     {
-        let shape = WorldShape::of(alloc, core.fibers(), core.registry(), keeps_says(SAYS))?;
+        let shape = WorldShape::of(alloc, core.fibers(), core.registry(), SAYS)?;
         Ok(SeenWorld { core, shape })
     }
 
@@ -151,7 +151,7 @@ impl<const SAYS: u8> SeenWorld<SAYS> {
     pub(crate) fn report(&self, alloc: Global) -> Result<Report, AllocError>
         ensures { IfOk result (λ it. it ≡ report_at (with_says SAYS) self.now) }
     {
-        let reports = reports_of(alloc, self.core.fibers(), keeps_says(SAYS))?;
+        let reports = reports_of(alloc, self.core.fibers(), SAYS)?;
         Ok(Report {
             fibers: FiberReports::new(reports),
         })

@@ -76,7 +76,7 @@ impl<const SAYS: u8> SeenWorlds<SAYS> {
 
     // Adds a world, which gets the next number.
     fn file(&mut self, world: SeenWorld<SAYS>) -> Result<(), AllocError>
-        ensures places { OnOk result (self.new.places ≡ self.old.places ++ world ∷ []) }
+        ensures places { OnOk result (self.new.places ≡ self.old.places ++ world.entry ∷ []) }
         ensures kept { OnErr result (self.new.places ≡ self.old.places) }
         ensures faults { self.new.faults ≡ self.old.faults }
     {
@@ -106,7 +106,7 @@ impl<const SAYS: u8> SeenWorlds<SAYS> {
     fn keep(&mut self, world: SeenWorld<SAYS>, most: usize) -> Result<Entered, AllocError>
         ensures faults { self.new.faults ≡ self.old.faults }
         ensures places { OnOk result (IsMore self.old.places self.new.places) }
-        ensures kept { IfOk result (λ it. IsKept self.new.places it world) }
+        ensures kept { IfOk result (λ it. IsKept self.new.places it world.entry) }
         ensures room { OnOk result (length self.new.places ≤ max most (length self.old.places)) }
         ensures next { IfOk result (IsNext (length self.old.places) (length self.new.places) most) }
     {

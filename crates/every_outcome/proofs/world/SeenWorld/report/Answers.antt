@@ -10,5 +10,5 @@ returns g c =
     let here : report_at says c.args.self.now ≡ record { fibers = map (kept_report says) s.core.world.fibers } =
     ap (report_at says) (sym c.self.view_is) ∙ report_stays says s.core.limits s.core.world in
     ap (λ (l : List FiberReport). let r : Report = record { fibers = l } in r)
-    (c.new.ensures ∙ c.in_ok-reports.ensures ∙ ap (λ t. map (kept_report t) c.fibers.result.now) c.keeps_says.ensures ∙ ap (map (kept_report says)) c.fibers.ensures)
+    (c.new.ensures ∙ c.in_ok-reports.ensures ∙ ap (map (kept_report says)) c.fibers.ensures)
     ∙ sym here
