@@ -12,7 +12,7 @@ use Rattle.scheduled_core.specs.Core.{World, core, entered, first_world, wish_of
 use Rattle.world_search.specs.Systems.{run}
 use Rattle.every_schedule.specs.declared.claims.ClaimWord.{ClaimWord}
 use Rattle.every_schedule.specs.declared.progress.Progress.TheVariants.{GoesOn}
-use Rattle.every_schedule.specs.Private.Leanings.{leaning_of}
+use Rattle.every_schedule.specs.Leanings.{leaning_of}
 use Rattle.every_schedule.proofs.Leans.{truth_leans}
 use Rattle.every_schedule.specs.Claims.{Meets, View, WasSet, are_seen, first_view, has, holds, is_met, noted, seeing, stored_by, stored_in, viewed}
 use Rattle.every_schedule.proofs.OwnKept.{and_true}

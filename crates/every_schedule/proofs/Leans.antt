@@ -12,7 +12,7 @@ use Rattle.every_schedule.specs.declared.leanings.Leaning.{Leaning}
 use Rattle.every_schedule.specs.declared.progress.Progress.{Progress}
 use Rattle.every_schedule.specs.declared.progress.Progress.TheVariants.{GoesOn}
 use Rattle.every_schedule.specs.Claims.{compares, holds, is_deadlock, is_final, is_left, last_of, without_last, worded}
-use Rattle.every_schedule.specs.Private.Leanings.{both, last_leaning, leaned, leaning_of, rest_of, steady, turned, upward}
+use Rattle.every_schedule.specs.Leanings.{both, last_leaning, leaned, leaning_of, rest_of, steady, turned, upward}
 use Rattle.cell_registry.specs.Cells.{ref_of}
 
 -- a truth value where some fiber can go on, and where none can

@@ -26,7 +26,7 @@ use Rattle.every_schedule.specs.Claims.{View, are_seen, holds, last_of, noted, s
 use Rattle.every_schedule.specs.Places.{Place, entering, moves_at, placed, stepped, unnoted, wants}
 use Rattle.every_schedule.specs.Reduced.{IsMade, has_birth, hundred_still, is_birth, is_birth_call, leapt, may_be}
 use Rattle.every_schedule.specs.declared.progress.Progress.{Progress}
-use Rattle.every_schedule.specs.Private.Leanings.{leaning_of}
+use Rattle.every_schedule.specs.Leanings.{leaning_of}
 use Rattle.every_schedule.specs.Private.Stopping.{are_stopped, meets_here, standing_of}
 use Rattle.scheduled_core.specs.Core.{entered}
 use Rattle.scheduled_core.specs.Finals.{IsFinal}

@@ -6,3 +6,4 @@ pub mod Claims
 pub mod Fairness
 pub mod Private
 pub mod Standings
+pub mod Leanings

@@ -11,4 +11,3 @@ pub mod Trails
 pub mod Seen
 pub mod Looking
 pub mod Stopping
-pub mod Leanings

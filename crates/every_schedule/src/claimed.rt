@@ -10,7 +10,7 @@ ghost use Rattle.world_search.specs.Claims.{IsFew, IsFound};
 ghost use Rattle.world_search.specs.Lists.{IsMore};
 ghost use Rattle.every_schedule.specs.declared.claims.ClaimWord.{ClaimWord as TheClaimWord};
 ghost use Rattle.every_schedule.specs.Claims.{IsMetIn, Meets};
-ghost use Rattle.every_schedule.specs.Private.Leanings.{leaning_of};
+ghost use Rattle.every_schedule.specs.Leanings.{leaning_of};
 
 use crate::claims::{Claim, SeenWorld};
 use crate::core_world::CoreWorld;

@@ -2,22 +2,22 @@
 ghost use Rattle.std.specs.Prelude.{◌≡◌, ◌++◌, ◌∷◌, [], IfOk, OnOk, Some, false, true, ℕ, List};
 ghost use Rattle.std.specs.List.{slice_get};
 ghost use Rattle.every_schedule.specs.declared.claims.ClaimWord.{ClaimWord as TheClaimWord};
-ghost use Rattle.every_schedule.specs.Private.Leanings.{both, last_leaning, leaned, leaning_of, rest_of, steady, turned};
+ghost use Rattle.every_schedule.specs.Leanings.{both, last_leaning, leaned, leaning_of, rest_of, steady, turned};
 
 use crate::claims::{Claim, ClaimWord};
 use std::alloc::{AllocError, Global};
 
 /// How a truth value depends on the words about the whole world.
 #[derive(Clone, Copy)]
-pub struct Leaning {
+pub(crate) struct Leaning {
     /// It may be true only because no fiber can go on.
     pub rises: bool,
     /// It may be false only because no fiber can go on.
     pub falls: bool,
 }
 
-/// How the truth of a claim depends on the words about the whole world.
-pub fn leaning_of(alloc: Global, claim: &Claim) -> Result<Leaning, AllocError>
+// How the truth of a claim depends on the words about the whole world.
+fn leaning_of(alloc: Global, claim: &Claim) -> Result<Leaning, AllocError>
     ensures { IfOk result (λ it. it ≡ leaning_of claim.now) }
 {
     lean_all(alloc, claim.words())

@@ -55,7 +55,7 @@ pub use exploration::{Answer, Answers, Exploration, Schedule};
 pub use explored::{explore, explore_full, explore_watched};
 pub use fair_endings::explore_ends;
 pub use fair_ends::{Cycle, Ending};
-pub use leanings::{Leaning, leaning_of, none_rise};
+pub use leanings::none_rise;
 pub use moments::note_met;
 pub use own_moves::stored_in;
 pub use progress::Progress;

@@ -204,7 +204,7 @@ fn looks_no_more(alloc: Global, config: &Config, reply: Reply) -> Result<bool, A
     ensures { IfOk result (λ it. it ≡ has_mask (active_of config.now)) }
 {
     let mut next = config.copy(alloc)?;
-    // What the ask tells of the move.
+    // The fiber asks for what such a reply answers.
     facts_of(config.ask());
     next.resume(reply)?;
     Ok(!is_look(next.ask()))

@@ -27,7 +27,8 @@ pub struct Claim {
     pub probe: Probe,
     /// The condition that an answer has to meet.
     pub condition: Condition,
-    /// The condition that each moment, or some moment, has to meet. None if the claim is judged by answers alone.
+    /// The condition that each moment, or some moment, has to meet; a claim on refs at the end is one about the moments
+    /// at which no fiber can go on. None if the claim is judged by answers alone.
     pub moment: Option<Vec<MomentWord>>,
     /// The ways to end that a `want` names, in its order; empty for another claim.
     pub wants: Vec<Want>,

@@ -1,6 +1,7 @@
-//! Claims at any moment, in the form that a search checks in each world.
+//! Claims on refs at any moment and at the end, in the form that a search checks in each world.
 
 use crate::condition::{Comparison, Word};
+use crate::judging::Rule;
 use effect_term::Value;
 use std::alloc::{AllocError, Global};
 
@@ -17,6 +18,8 @@ pub enum MomentWord {
     And,
     /// Whether one of the last two truths is true.
     Or,
+    /// Whether no fiber can go on.
+    Final,
 }
 
 /// Returns the words of a condition in the form that a search checks in each world. None unless the condition compares
@@ -34,6 +37,27 @@ pub(crate) fn moment_words(
             return Ok(None);
         };
         moment.push(word)?;
+    }
+    Ok(Some(moment))
+}
+
+/// Returns the words of a condition at the end, as [`moment_words`] does: of a claim about every end, that the
+/// condition holds or some fiber can go on; of a claim about some end, that it holds and no fiber can go on.
+pub(crate) fn final_words(
+    alloc: Global,
+    rule: Rule,
+    words: &[Word],
+) -> Result<Option<Vec<MomentWord>>, AllocError> {
+    let Some(mut moment) = moment_words(alloc, words)? else {
+        return Ok(None);
+    };
+    moment.push(MomentWord::Final)?;
+    match rule {
+        Rule::Every => {
+            moment.push(MomentWord::Not)?;
+            moment.push(MomentWord::Or)?;
+        }
+        Rule::Some => moment.push(MomentWord::And)?,
     }
     Ok(Some(moment))
 }

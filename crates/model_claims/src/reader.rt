@@ -3,9 +3,10 @@
 use crate::claim::{Claim, Want};
 use crate::compile::{OUTCOME_WANTED, compile};
 use crate::condition::{Condition, Wanted, Who, Word, empty_condition};
+use crate::endless::has_forever;
 use crate::faults::{plain_fault, quoting_fault};
 use crate::judging::Rule;
-use crate::moment::{MomentWord, moment_words};
+use crate::moment::{MomentWord, final_words, moment_words};
 use crate::names::{needs_names, who_at};
 use crate::numbering::numbers_tell_names;
 use crate::parts::{
@@ -29,8 +30,11 @@ const SEVERAL_REFS: &str =
 const REF_AND_FIBERS: &str =
     "a claim on a ref and fibers at one moment isn't supported: state it of the ref alone";
 
-const REF_AT_THE_END: &str =
-    "the value of a ref at the end isn't supported: let main read it and end with it";
+const REFS_AT_THE_END: &str =
+    "a claim on a ref at the end speaks of refs that main makes first, each under a name of its own";
+
+const NO_END: &str =
+    "a ref at the end isn't supported in a model with a loop without end: let main read it and end with it";
 
 // Where a claim is checked.
 #[derive(Drop)]
@@ -301,8 +305,33 @@ fn at_the_end(
     let strict = rule == Rule::Some;
     let subjects = only_condition(alloc, place, at, strict, condition)?;
     match subjects.cell {
-        Some(_) => Err(ref_fault(alloc, place, at, REF_AT_THE_END)),
+        Some(_) => {
+            let look = look_at_the_end(alloc, place, at, rule, subjects, condition)?;
+            Ok((rule, look))
+        }
         None => Ok((rule, Look::Ends(names_probe(place, subjects.names)))),
+    }
+}
+
+// Where a condition on refs at the end is checked: in each world, of which those count in which no fiber can go on.
+// Without a `forever` every schedule leads to such a world.
+fn look_at_the_end(
+    alloc: Global,
+    place: &Place,
+    at: usize,
+    rule: Rule,
+    subjects: Subjects,
+    condition: &Condition,
+) -> Result<Look, Refused> {
+    if subjects.fibers {
+        return Err(ref_fault(alloc, place, at, REF_AND_FIBERS));
+    }
+    if has_forever(place.term) {
+        return Err(ref_fault(alloc, place, at, NO_END));
+    }
+    match final_words(alloc, rule, condition.words.as_slice())? {
+        Some(words) => Ok(Look::Worlds(words)),
+        None => Err(ref_fault(alloc, place, at, REFS_AT_THE_END)),
     }
 }
 

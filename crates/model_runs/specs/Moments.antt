@@ -40,6 +40,7 @@ claim_word (moments.Compares r comparison v) = its.Compare r (claim_comparison c
 claim_word moments.Not = its.Not
 claim_word moments.And = its.And
 claim_word moments.Or = its.Or
+claim_word moments.Final = its.Final
 
 abbrev pub turning : Rule → List ClaimWord
 turning rules.Every = its.Not ∷ []

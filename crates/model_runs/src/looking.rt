@@ -45,6 +45,7 @@ fn sought_word(word: MomentWord) -> ClaimWord
         MomentWord::Not => ClaimWord::Not,
         MomentWord::And => ClaimWord::And,
         MomentWord::Or => ClaimWord::Or,
+        MomentWord::Final => ClaimWord::Final,
     }
 }
 

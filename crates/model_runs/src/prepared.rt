@@ -4,6 +4,7 @@ use crate::origins::{Origin, origins_of};
 use code_sources::code_sources;
 use derived_ops::{expand, program_of};
 use effect_term::{Program, TermError};
+use model_claims::has_forever;
 use model_forms::form_bytes;
 use model_terms::{ModelTerm, Probe, Refused, Source, SourceFault, translate};
 use model_text::Model;
@@ -33,24 +34,12 @@ pub(crate) fn prepare(
     let code = expand(alloc, &program)?;
     let sources = code_sources(alloc, term.text.as_slice(), code.words().len())?;
     let origins = origins_of(alloc, &term, sources.as_slice())?;
-    let endless = has_forever(term.text.as_slice());
+    let endless = has_forever(&term);
     Ok(Prepared {
         program,
         origins,
         endless,
     })
-}
-
-// Whether a term has a `forever`.
-fn has_forever(text: &[u8]) -> bool {
-    for at in 0..text.len() {
-        if let Some(rest) = text.get(at..) {
-            if rest.starts_with(b"(forever") {
-                return true;
-            }
-        }
-    }
-    false
 }
 
 /// Returns the program of a model's term. A term that exceeds a limit is a fault of the model.

@@ -3,7 +3,7 @@ use Rattle.std.specs.List.{fold}
 use Rattle.std.proofs.lemmas.List.{take_all}
 use Rattle.std.proofs.lemmas.Option.{slice_get_read}
 use Rattle.every_schedule.specs.declared.leanings.Leaning.{Leaning}
-use Rattle.every_schedule.specs.Private.Leanings.{last_leaning, leaned}
+use Rattle.every_schedule.specs.Leanings.{last_leaning, leaned}
 use Rattle.every_schedule.proofs.Prefixes.{fold_next}
 use Rattle.every_schedule.proofs.leanings.lean_all.Goals as goal
 

@@ -1,6 +1,6 @@
 use Rattle.std.proofs.Common.{◌≡◌, [], take}
 use Rattle.std.specs.List.{fold}
-use Rattle.every_schedule.specs.Private.Leanings.{leaned}
+use Rattle.every_schedule.specs.Leanings.{leaned}
 use Rattle.every_schedule.proofs.leanings.lean_all.Given as goal
 
 -- the stack after the words so far

@@ -1,6 +1,6 @@
 use Rattle.std.{proofs.Common.{◌≡◌, ℕ, ◌<◌, List, Some, false}, specs.List.slice_get}
 use Rattle.every_schedule.specs.declared.claims.ClaimWord.{ClaimWord}
-use Rattle.every_schedule.specs.Private.Leanings.{leaning_of}
+use Rattle.every_schedule.specs.Leanings.{leaning_of}
 use Rattle.every_schedule.proofs.leanings.none_fall.Given as goal
 
 -- so it is of the claims so far

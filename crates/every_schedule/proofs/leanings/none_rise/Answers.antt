@@ -1,7 +1,7 @@
 use Rattle.std.{proofs.{Common.{◌≡◌, ℕ, List, Some, false, sym, ap, ◌∙◌, arith}, lemmas.{Grind.common_steps, Option.{gets, slice_get_within}}}, specs.List.slice_get}
 use Rattle.every_schedule.specs.declared.claims.ClaimWord.{ClaimWord}
 use Rattle.every_schedule.specs.declared.leanings.Leaning.{Leaning}
-use Rattle.every_schedule.specs.Private.Leanings.{leaning_of}
+use Rattle.every_schedule.specs.Leanings.{leaning_of}
 use Rattle.every_schedule.proofs.Leans.{one_more}
 use Rattle.every_schedule.proofs.leanings.none_rise.Goals as goal
 
