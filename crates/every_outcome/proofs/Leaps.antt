@@ -9,7 +9,7 @@ use Rattle.world_search.specs.Free.Leads.{Here, On}
 use Rattle.every_schedule.specs.Reduced.{may_be}
 use Rattle.every_schedule.proofs.Seeing.{two_true}
 use Rattle.every_outcome.specs.Places.{Place, stepped, unmarked_place, unmarked_world}
-use Rattle.every_outcome.specs.Private.Reduced.{after_own, behind, if_own, leapt, leapt_by, may_next, or_stays, owns_next, pushed, pushed_once, swept}
+use Rattle.every_outcome.specs.Private.Reduced.{after_own, behind, if_own, if_there, leapt, leapt_by, masks_next, may_next, moved_on, or_stays, owns_next, pushed, pushed_once, swept}
 use Rattle.every_outcome.proofs.Commuting.{IsFree, free_from, led_unmarked, other_stays, own_are_free}
 use Rattle.every_outcome.proofs.Stepping.{get_past, get_unmarked, unborn_stays}
 
@@ -35,12 +35,53 @@ pub swept_none : (stores : Bool) (p : Place) → swept stores 0 p ≡ p
 unfolding swept
 swept_none stores p = refl
 
-swept_more : (stores : Bool) (n : ℕ) (p : Place) → swept stores (suc n) p ≡ swept stores n (after_own stores p n)
+swept_more : (stores : Bool) (n : ℕ) (p : Place) → swept stores (suc n) p ≡ swept stores n (moved_on stores 50 n p)
 unfolding swept
 swept_more stores n p = refl
 
-pub swept_next : (stores : Bool) (n m : ℕ) (p q : Place) → n ≡ suc m → q ≡ after_own stores p m → swept stores n p ≡ swept stores m q
+pub swept_next : (stores : Bool) (n m : ℕ) (p q : Place) → n ≡ suc m → q ≡ moved_on stores 50 m p → swept stores n p ≡ swept stores m q
 swept_next stores n m p q e h = ap (λ i. swept stores i p) e ∙ swept_more stores m p ∙ ap (swept stores m) (sym h)
+
+-- ---- several own moves of one fiber
+-- whether the next move of fiber f enters a mask
+abbrev pub at_mask : Place → ℕ → Bool
+at_mask p f = masks_next (slice_get p.world.fibers f)
+
+there_same : (b : Bool) (p : Place) → if_there b p p ≡ p
+there_same true p = refl
+there_same false p = refl
+
+module _ (stores : Bool) (f : ℕ) where
+  pub on_none : (p : Place) → moved_on stores 0 f p ≡ p
+  unfolding moved_on
+  on_none p = refl
+
+  on_more : (n : ℕ) (p : Place) → moved_on stores (suc n) f p ≡
+      if_there (at_mask (after_own stores p f) f) (after_own stores p f) (moved_on stores n f (after_own stores p f))
+  unfolding moved_on
+  on_more n p = refl
+
+  on_from : (n m : ℕ) (p q : Place) → n ≡ suc m → q ≡ after_own stores p f →
+      moved_on stores n f p ≡ if_there (at_mask q f) q (moved_on stores m f q)
+  on_from n m p q e h =
+      ap (λ i. moved_on stores i f p) e ∙ on_more m p ∙ ap (λ (x : Place). if_there (at_mask x f) x (moved_on stores m f x)) (sym h)
+
+  -- the next moves after one
+  pub on_next : (n m : ℕ) (p q : Place) → n ≡ suc m → q ≡ after_own stores p f → at_mask q f ≡ false →
+      moved_on stores n f p ≡ moved_on stores m f q
+  on_next n m p q e h none = on_from n m p q e h ∙ ap (λ b. if_there b q (moved_on stores m f q)) none
+
+  -- no move after one behind which the next enters a mask
+  pub on_mask : (n m : ℕ) (p q : Place) → n ≡ suc m → q ≡ after_own stores p f → at_mask q f ≡ true → moved_on stores n f p ≡ q
+  on_mask n m p q e h there = on_from n m p q e h ∙ ap (λ b. if_there b q (moved_on stores m f q)) there
+
+  -- if no own move is made, none is made later
+  pub on_stays : (n : ℕ) (p : Place) → after_own stores p f ≡ p → moved_on stores n f p ≡ p
+  unfolding moved_on
+  on_stays zero p e = refl
+  on_stays (suc n) p e =
+      ap (λ (x : Place). if_there (at_mask x f) x (moved_on stores n f x)) e ∙
+      ap (if_there (at_mask p f) p) (on_stays n p e) ∙ there_same (at_mask p f) p
 
 -- ---- the own move of one fiber
 module _ (stores : Bool) (p : Place) (f : ℕ) where
@@ -92,16 +133,48 @@ module _ (stores : Bool) where
     led_own q true e on = led_once q (stepped p f) e refl on
     led_own q false e on = on
 
+  -- several own moves of one fiber
+  module _ (f : ℕ) where
+    there_unmarked : (b : Bool) (p q : Place) → unmarked_place p ≡ p → unmarked_place q ≡ q → unmarked_place (if_there b p q) ≡ if_there b p q
+    there_unmarked true p q e h = e
+    there_unmarked false p q e h = h
+
+    after_unmarked : (p : Place) → unmarked_place p ≡ p → unmarked_place (after_own stores p f) ≡ after_own stores p f
+    after_unmarked p none = own_none p f none (may_next stores p.world f)
+
+    on_unmarked : (n : ℕ) (p : Place) → unmarked_place p ≡ p → unmarked_place (moved_on stores n f p) ≡ moved_on stores n f p
+    unfolding moved_on
+    on_unmarked zero p none = none
+    on_unmarked (suc n) p none =
+        let next = after_unmarked p none in
+        there_unmarked (at_mask (after_own stores p f) f) (after_own stores p f) (moved_on stores n f (after_own stores p f)) next
+        (on_unmarked n (after_own stores p f) next)
+
+    after_leads : (p q : Place) → unmarked_place p ≡ p → Lead (after_own stores p f) q → Lead p q
+    after_leads p q none on = led_own p f none q (may_next stores p.world f) refl on
+
+    there_leads : (b : Bool) (p q x : Place) → (Lead p x → Lead q x) → Lead (if_there b q p) x → Lead q x
+    there_leads true p q x h on = on
+    there_leads false p q x h on = h on
+
+    on_leads : (n : ℕ) (p q : Place) → unmarked_place p ≡ p → Lead (moved_on stores n f p) q → Lead p q
+    unfolding moved_on
+    on_leads zero p q none on = on
+    on_leads (suc n) p q none on =
+        after_leads p q none
+        (there_leads (at_mask (after_own stores p f) f) (moved_on stores n f (after_own stores p f)) (after_own stores p f) q
+        (on_leads n (after_own stores p f) q (after_unmarked p none)) on)
+
   swept_unmarked : (n : ℕ) (p : Place) → unmarked_place p ≡ p → unmarked_place (swept stores n p) ≡ swept stores n p
   unfolding swept
   swept_unmarked zero p none = none
-  swept_unmarked (suc n) p none = swept_unmarked n (after_own stores p n) (own_none p n none (may_next stores p.world n))
+  swept_unmarked (suc n) p none = swept_unmarked n (moved_on stores 50 n p) (on_unmarked n 50 p none)
 
   swept_leads : (n : ℕ) (p q : Place) → unmarked_place p ≡ p → Lead (swept stores n p) q → Lead p q
   unfolding swept
   swept_leads zero p q none on = on
   swept_leads (suc n) p q none on =
-      led_own p n none q (may_next stores p.world n) refl (swept_leads n (after_own stores p n) q (own_none p n none (may_next stores p.world n)) on)
+      on_leads n 50 p q none (swept_leads n (moved_on stores 50 n p) q (on_unmarked n 50 p none) on)
 
   pushed_leads : (n : ℕ) (p : Place) → unmarked_place p ≡ p → Lead p (pushed stores n p)
   unfolding pushed
@@ -111,7 +184,7 @@ module _ (stores : Bool) where
       (pushed_leads n (pushed_once stores p) (swept_unmarked (length p.world.fibers) p none))
 
   behind_leaps : (p : Place) (f : ℕ) (y : Result Place RunError) → stepped p f ≡ y → Leaps stepped (MayFree stores) y (behind stores y)
-  behind_leaps p f (Ok q) e = (pushed stores 100 q, pushed_leads 100 q (led_unmarked p f q e), refl)
+  behind_leaps p f (Ok q) e = (pushed stores 12 q, pushed_leads 12 q (led_unmarked p f q e), refl)
   behind_leaps p f (Err d) e = refl
 
   alone_leaps : (y : Result Place RunError) → Leaps stepped (MayFree stores) y y

@@ -19,7 +19,7 @@ use Rattle.every_schedule.proofs.OwnKept.{and_true}
 use Rattle.every_schedule.proofs.Seeing.{noted_has, noted_keeps, refs_seen}
 use Rattle.every_schedule.proofs.SeenLeaps.{holds_refs}
 use Rattle.every_outcome.specs.Outcomes.{counted}
-use Rattle.every_outcome.specs.Places.{Place, first_place, stepped, unmarked_world}
+use Rattle.every_outcome.specs.{Places.{Place, first_place, stepped, unmarked_world}, Private.Reduced.{masks_next, wants_mask}}
 use Rattle.every_outcome.proofs.Running.{IfWorld, Lawful, bare_place, core_stays, first_lawful, lawful_entered}
 use Rattle.every_outcome.proofs.Stepping.{Same, get_unmarked, step_same}
 
@@ -34,6 +34,18 @@ stored_same w f h = ap stored_by (get_unmarked w.fibers f (slice_get w.fibers f)
 
 pub stored_none : (w : World) (f : ℕ) → slice_get w.fibers f ≡ None → stored_by (slice_get (unmarked_world w).fibers f) ≡ None
 stored_none w f e = ap stored_by (get_unmarked w.fibers f None e)
+
+-- whether a fiber's next move enters a mask is the same without marks
+masks_unmarked : (o : Option Fiber) → ((g : Fiber) → o ≡ Some g → Reached g) → masks_next (option_map unmarked o) ≡ masks_next o
+masks_unmarked None h = refl
+masks_unmarked (Some g) h = ap (λ a. wants_mask (wish_of a)) (ask_unmarked g (h g refl))
+
+pub masks_same : (w : World) (f : ℕ) → ((g : Fiber) → slice_get w.fibers f ≡ Some g → Reached g) →
+    masks_next (slice_get (unmarked_world w).fibers f) ≡ masks_next (slice_get w.fibers f)
+masks_same w f h = ap masks_next (get_unmarked w.fibers f (slice_get w.fibers f) refl) ∙ masks_unmarked (slice_get w.fibers f) h
+
+pub masks_none : (w : World) (f : ℕ) → slice_get w.fibers f ≡ None → masks_next (slice_get (unmarked_world w).fibers f) ≡ false
+masks_none w f e = ap masks_next (get_unmarked w.fibers f None e)
 
 module _ (k : Limits) (n : ℕ) (some : 0 < k.count) where
   abbrev seen_at : World → List ℕ → View

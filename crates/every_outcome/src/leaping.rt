@@ -3,16 +3,20 @@ ghost use Rattle.std.specs.Prelude.{◌≡◌, ◌⊎◌, ◌++◌, ◌<◌, ◌
 ghost use Rattle.std.specs.Prelude.{Ok as GoesWell, Err as Fails};
 ghost use Rattle.scheduled_core.specs.Fitting.{AllFit};
 ghost use Rattle.every_outcome.specs.Places.{unmarked_place};
-ghost use Rattle.every_outcome.specs.Private.Reduced.{IsTrail, after_own, leapt, pushed, pushed_once};
+ghost use Rattle.every_outcome.specs.Private.Reduced.{IsTrail, after_own, leapt, moved_on, pushed, pushed_once};
 
 use crate::core_world::CoreWorld;
-use crate::own_moves::may_move;
+use crate::own_moves::{enters_mask, may_move};
 use cell_registry::RunError;
 use effect_term::facts_of;
 use std::alloc::AllocError;
 
-// The greatest number of own moves of each fiber after an entry.
-const MOST: usize = 100;
+// The number of rounds of own moves after an entry. In each turn a loop enters the same masks. If their number divides
+// that of the rounds, own moves lead from its masks back to the same mask, not to every place in the loop.
+const ROUNDS: usize = 12;
+
+// The greatest number of own moves of a fiber in a round.
+const MOST: usize = 50;
 
 /// Makes the entry of a fiber, and then own moves of each fiber; without `stores`, none that sets or changes a ref.
 /// Adds these entries to the trail, also one that ends in a fault. For a fiber that wasn't started, makes and adds
@@ -60,15 +64,15 @@ fn add(trail: &mut Vec<u16>, fiber: u16) -> Result<(), AllocError>
     Ok(())
 }
 
-// Makes own moves of each fiber, until no fiber has one or the greatest number was made.
+// Makes the rounds of own moves, until no fiber has one.
 fn push(world: &mut CoreWorld, stores: bool, trail: &mut Vec<u16>) -> Result<(), AllocError>
     requires { AllFit world.old.world }
     ensures fits { OnOk result (AllFit world.new.world) }
-    ensures goes { OnOk result (unmarked_place world.new ≡ pushed stores 100 (unmarked_place world.old)) }
+    ensures goes { OnOk result (unmarked_place world.new ≡ pushed stores 12 (unmarked_place world.old)) }
     ensures trail { OnOk result (IsTrail trail.old.items trail.new.items (unmarked_place world.old)
         (GoesWell (unmarked_place world.new))) }
 {
-    for _move in 0..MOST {
+    for _round in 0..ROUNDS {
         let moved = push_once(&mut *world, stores, &mut *trail)?;
         if !moved {
             return Ok(());
@@ -77,7 +81,7 @@ fn push(world: &mut CoreWorld, stores: bool, trail: &mut Vec<u16>) -> Result<(),
     Ok(())
 }
 
-// Makes one own move of each fiber that has one, the last fiber first. Returns whether any was made.
+// Makes the own moves of a round, the last fiber first. Returns whether any was made.
 fn push_once(world: &mut CoreWorld, stores: bool, trail: &mut Vec<u16>) -> Result<bool, AllocError>
     requires { AllFit world.old.world }
     ensures fits { OnOk result (AllFit world.new.world) }
@@ -91,7 +95,7 @@ fn push_once(world: &mut CoreWorld, stores: bool, trail: &mut Vec<u16>) -> Resul
     let mut moved = false;
     for done in 0..born {
         let fiber = (born - 1 - done) as u16;
-        let made = push_fiber(&mut *world, fiber, stores, &mut *trail)?;
+        let made = push_on(&mut *world, fiber, stores, &mut *trail)?;
         moved = either(moved, made);
     }
     Ok(moved)
@@ -102,6 +106,36 @@ fn either(one: bool, other: bool) -> bool
     ensures { result ≡ false → (one ≡ false) × (other ≡ false) }
 {
     one || other
+}
+
+// Makes own moves of this fiber: as long as it has one, at most `MOST`, and none after one behind which the next move
+// enters a mask. Returns whether any was made.
+fn push_on(
+    world: &mut CoreWorld,
+    fiber: u16,
+    stores: bool,
+    trail: &mut Vec<u16>,
+) -> Result<bool, AllocError>
+    requires few { fiber < 1000 }
+    requires fits { AllFit world.old.world }
+    ensures fits { OnOk result (AllFit world.new.world) }
+    ensures goes { OnOk result (unmarked_place world.new ≡ moved_on stores 50 fiber (unmarked_place world.old)) }
+    ensures stays { IfOk result (λ it. it ≡ false → unmarked_place world.new ≡ unmarked_place world.old) }
+    ensures trail { OnOk result (IsTrail trail.old.items trail.new.items (unmarked_place world.old)
+        (GoesWell (unmarked_place world.new))) }
+{
+    let mut moved = false;
+    for _again in 0..MOST {
+        let made = push_fiber(&mut *world, fiber, stores, &mut *trail)?;
+        if !made {
+            return Ok(moved);
+        }
+        moved = true;
+        if enters_mask(&*world, fiber) {
+            return Ok(moved);
+        }
+    }
+    Ok(moved)
 }
 
 // Makes the own move of this fiber, if it has one that is allowed. Returns whether the move was made.

@@ -8,7 +8,7 @@ ghost use Rattle.every_schedule.specs.Reduced.{IsNamed, has_come_to_end as has_e
 ghost use Rattle.every_schedule.specs.Reduced.{is_completed as is_filled, is_kept as is_own_number};
 ghost use Rattle.every_schedule.specs.Reduced.{is_left_alone as has_no_other, is_own_call as is_so};
 ghost use Rattle.every_outcome.specs.Places.{unmarked_world};
-ghost use Rattle.every_outcome.specs.Private.Reduced.{may_next, owns_next};
+ghost use Rattle.every_outcome.specs.Private.Reduced.{is_mask, masks_next, may_next, owns_next, wants_mask};
 ghost use Rattle.every_schedule.specs.Claims.{stored_by as the_stored_by};
 
 use crate::core_world::CoreWorld;
@@ -35,6 +35,41 @@ pub(crate) fn stored_by(world: &CoreWorld, by: u16) -> Option<u16>
     match world.fibers().get(usize::from(by)) {
         None => None,
         Some(it) => stored_in(Wish::of(it.ask())),
+    }
+}
+
+/// Whether the next move of a fiber enters a mask.
+pub(crate) fn enters_mask(world: &CoreWorld, by: u16) -> bool
+    requires { AllFit world.now.world }
+    ensures { result ≡ masks_next (slice_get (unmarked_world world.now.world).fibers by) }
+{
+    match world.fibers().get(usize::from(by)) {
+        None => false,
+        Some(it) => wants_mask(Wish::of(it.ask())),
+    }
+}
+
+// Whether a move with this wish enters a mask.
+fn wants_mask(wish: Wish) -> bool
+    ensures { result ≡ wants_mask wish }
+{
+    match wish {
+        Wish::Shared(call) => is_mask_call(call),
+        Wish::Alone | Wish::Nothing => false,
+    }
+}
+
+// Whether a call enters a mask.
+fn is_mask_call(call: Call) -> bool
+    ensures { result ≡ is_mask call }
+{
+    match call {
+        Call::Mask => true,
+        Call::Look | Call::Unmask | Call::Cut | Call::Finish(_) | Call::Start => false,
+        Call::Cancel(_) | Call::Join(_) | Call::Get(_) | Call::Set(_, _) | Call::Modify(_, _) => {
+            false
+        }
+        Call::NewRef | Call::NewDeferred | Call::Complete(_, _) | Call::Read(_) => false,
     }
 }
 

@@ -2,9 +2,13 @@
 use Rattle.std.specs.Prelude.{◌≡◌, ◌++◌, ◌&&◌, ◌<◌, ℕ, zero, suc, Bool, true, false, List, length, Option, Some, None}
 use Rattle.std.specs.Prelude.{Result, Ok, Err}
 use Rattle.std.specs.List.{All, slice_get}
+use Rattle.cell_registry.specs.declared.call.Call.{Call}
+use Rattle.cell_registry.specs.declared.call.Call.TheVariants.{Mask}
 use Rattle.cell_registry.specs.declared.limits.RunError.{RunError}
-use Rattle.fiber_frames.specs.Fiber.{Fiber}
-use Rattle.scheduled_core.specs.Core.{World}
+use Rattle.fiber_frames.specs.Fiber.{Fiber, ask_of}
+use Rattle.scheduled_core.specs.declared.wish.Wish.{Wish}
+use Rattle.scheduled_core.specs.declared.wish.Wish.TheVariants.{Shared, Alone, Nothing}
+use Rattle.scheduled_core.specs.Core.{World, wish_of}
 use Rattle.every_schedule.specs.Reduced.{has_own, may_be}
 use Rattle.world_search.specs.Systems.{run}
 use Rattle.every_outcome.specs.Places.{Place, stepped}
@@ -29,31 +33,58 @@ if_own false p f = p
 abbrev pub after_own : Bool → Place → ℕ → Place
 after_own stores p f = if_own (may_next stores p.world f) p f
 
--- one own move of each of the first n fibers that has one, the last of them first
+-- whether a call enters a mask; a move with this wish
+abbrev pub is_mask : Call → Bool
+is_mask Mask = true
+is_mask _ = false
+
+abbrev pub wants_mask : Wish → Bool
+wants_mask (Shared c) = is_mask c
+wants_mask Alone = false
+wants_mask Nothing = false
+
+-- the fiber's next move enters a mask
+abbrev pub masks_next : Option Fiber → Bool
+masks_next None = false
+masks_next (Some g) = wants_mask (wish_of (ask_of g))
+
+-- the first place if the flag is true, else the second
+abbrev pub if_there : Bool → Place → Place → Place
+if_there true p q = p
+if_there false p q = q
+
+-- own moves of fiber f, one after another: at most n, and none after one behind which the next move enters a mask
+unfoldable pub moved_on : Bool → ℕ → ℕ → Place → Place
+moved_on stores zero f p = p
+moved_on stores (suc n) f p =
+    if_there (masks_next (slice_get (after_own stores p f).world.fibers f)) (after_own stores p f)
+    (moved_on stores n f (after_own stores p f))
+
+-- such moves of each of the first n fibers, at most 50 of each, the last fiber first
 unfoldable pub swept : Bool → ℕ → Place → Place
 swept stores zero p = p
-swept stores (suc n) p = swept stores n (after_own stores p n)
+swept stores (suc n) p = swept stores n (moved_on stores 50 n p)
 
--- one own move of each fiber that has one
+-- a round: such moves of each fiber
 abbrev pub pushed_once : Bool → Place → Place
 pushed_once stores p = swept stores (length p.world.fibers) p
 
--- at most n own moves of each fiber
+-- n rounds
 unfoldable pub pushed : Bool → ℕ → Place → Place
 pushed stores zero p = p
 pushed stores (suc n) p = pushed stores n (pushed_once stores p)
 
 -- the result of an entry, with own moves after it
 abbrev pub behind : Bool → Result Place RunError → Result Place RunError
-behind stores (Ok q) = Ok (pushed stores 100 q)
+behind stores (Ok q) = Ok (pushed stores 12 q)
 behind stores (Err e) = Err e
 
 abbrev pub leapt_by : Bool → Place → ℕ → Option Fiber → Result Place RunError
 leapt_by stores p f None = stepped p f
 leapt_by stores p f (Some g) = behind stores (stepped p f)
 
--- The result of a fiber's entry, with at most 100 own moves of each fiber after it if the fiber was started. Without
--- `stores` none of these own moves sets or changes a ref.
+-- The result of a fiber's entry, with 12 rounds of own moves after it if the fiber was started. Without `stores` none of
+-- these own moves sets or changes a ref.
 abbrev pub leapt : Bool → Place → ℕ → Result Place RunError
 leapt stores p f = leapt_by stores p f (slice_get p.world.fibers f)
 

@@ -3,45 +3,45 @@ use Rattle.every_outcome.{specs.{Places.unmarked_place, Private.Reduced.pushed},
 use Rattle.every_outcome.proofs.Trails.{trail_none}
 use Rattle.every_outcome.proofs.leaping.push.Goals as goal
 
-pub loop-move-init : goal.loop-move-init
-loop-move-init c = record {
-  goes = ap (λ i. pushed c.args.stores i (unmarked_place c.args.world.now)) (let e : 100 ≡ 100 - 0 = omega arith in e);
+pub loop-round-init : goal.loop-round-init
+loop-round-init c = record {
+  goes = ap (λ i. pushed c.args.stores i (unmarked_place c.args.world.now)) (let e : 12 ≡ 12 - 0 = omega arith in e);
   fits = c.requires;
   trail = trail_none c.args.trail.now.items (unmarked_place c.args.world.now);
 }
 
 pub returns-then-not-moved-clause-goes : goal.returns-then-not-moved-clause-goes
 returns-then-not-moved-clause-goes c =
-    let known = c.loop-move.invariant in
+    let known = c.loop-round.invariant in
     let told = c.in_ok-moved.ensures in
     let next = unmarked_place c.push_once.new.world in
-    let m : ℕ = 100 - (c.loop-move._move + 1) in
-    let left : 100 - c.loop-move._move ≡ suc m = omega arith in
-    sym (known.goes ∙ pushed_next c.args.stores (100 - c.loop-move._move) m (unmarked_place c.loop-move.world) next left told.goes ∙
+    let m : ℕ = 12 - (c.loop-round._round + 1) in
+    let left : 12 - c.loop-round._round ≡ suc m = omega arith in
+    sym (known.goes ∙ pushed_next c.args.stores (12 - c.loop-round._round) m (unmarked_place c.loop-round.world) next left told.goes ∙
     pushed_stays c.args.stores m next (told.stays c.if-not-moved.true))
 
 pub returns-then-not-moved-clause-trail : goal.returns-then-not-moved-clause-trail
 returns-then-not-moved-clause-trail c =
-    trail_more c.args.trail.now.items c.loop-move.trail.items c.push_once.new.trail.items (unmarked_place c.args.world.now)
-    (unmarked_place c.loop-move.world) (Ok (unmarked_place c.push_once.new.world)) c.loop-move.invariant.trail c.in_ok-moved.ensures.trail
+    trail_more c.args.trail.now.items c.loop-round.trail.items c.push_once.new.trail.items (unmarked_place c.args.world.now)
+    (unmarked_place c.loop-round.world) (Ok (unmarked_place c.push_once.new.world)) c.loop-round.invariant.trail c.in_ok-moved.ensures.trail
 
-pub loop-move-preserved : goal.loop-move-preserved
-loop-move-preserved c =
-    let known = c.loop-move.invariant in
+pub loop-round-preserved : goal.loop-round-preserved
+loop-round-preserved c =
+    let known = c.loop-round.invariant in
     let told = c.in_ok-moved.ensures in
     let next = unmarked_place c.push_once.new.world in
-    let m : ℕ = 100 - (c.loop-move._move + 1) in
-    let left : 100 - c.loop-move._move ≡ suc m = omega arith in
+    let m : ℕ = 12 - (c.loop-round._round + 1) in
+    let left : 12 - c.loop-round._round ≡ suc m = omega arith in
     record {
-      goes = known.goes ∙ pushed_next c.args.stores (100 - c.loop-move._move) m (unmarked_place c.loop-move.world) next left told.goes;
+      goes = known.goes ∙ pushed_next c.args.stores (12 - c.loop-round._round) m (unmarked_place c.loop-round.world) next left told.goes;
       fits = told.fits;
-      trail = trail_more c.args.trail.now.items c.loop-move.trail.items c.push_once.new.trail.items (unmarked_place c.args.world.now)
-          (unmarked_place c.loop-move.world) (Ok next) known.trail told.trail;
+      trail = trail_more c.args.trail.now.items c.loop-round.trail.items c.push_once.new.trail.items (unmarked_place c.args.world.now)
+          (unmarked_place c.loop-round.world) (Ok next) known.trail told.trail;
     }
 
 pub returns-clause-goes : goal.returns-clause-goes
 returns-clause-goes c =
-    let known = c.loop-move.invariant in
-    let now = unmarked_place c.loop-move.world in
-    let none : 100 - c.loop-move._move ≡ 0 = omega arith in
+    let known = c.loop-round.invariant in
+    let now = unmarked_place c.loop-round.world in
+    let none : 12 - c.loop-round._round ≡ 0 = omega arith in
     sym (known.goes ∙ ap (λ i. pushed c.args.stores i now) none ∙ pushed_none c.args.stores now)

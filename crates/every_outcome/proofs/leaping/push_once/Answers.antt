@@ -17,7 +17,7 @@ loop-done-preserved c =
     let known = c.loop-done.invariant in
     let told = c.in_ok-made.ensures in
     let now = unmarked_place c.loop-done.world in
-    let next = unmarked_place c.push_fiber.new.world in
+    let next = unmarked_place c.push_on.new.world in
     let m : ℕ = c.few_born-born.result - 1 - c.loop-done.done in
     let place : m ≡ c.few_born-born.result - (c.loop-done.done + 1) = omega arith in
     let left : c.few_born-born.result - c.loop-done.done ≡ suc m = omega arith in
@@ -26,7 +26,7 @@ loop-done-preserved c =
           ap (λ i. swept c.args.stores i next) place;
       stays = λ none. let both = c.either-moved.ensures none in told.stays both.1 ∙ known.stays both.0;
       fits = told.fits;
-      trail = trail_more c.args.trail.now.items c.loop-done.trail.items c.push_fiber.new.trail.items (unmarked_place c.args.world.now) now
+      trail = trail_more c.args.trail.now.items c.loop-done.trail.items c.push_on.new.trail.items (unmarked_place c.args.world.now) now
           (Ok next) known.trail told.trail;
     }
 
