@@ -19,7 +19,7 @@ use crate::plan::Plan;
 use crate::prepared::prepare;
 use crate::result::{ClaimResult, NamedAnswer, Search};
 use crate::waits::{Waits, waits_behind};
-use model_claims::{Claim, Judged, Truth, judge, truth_in};
+use model_claims::{Claim, Judged, MomentWord, Truth, judge, truth_in};
 use model_terms::{Probe, Refused, Source};
 use model_text::Model;
 use std::alloc::{AllocError, Global};
@@ -136,6 +136,8 @@ pub(crate) fn moment_result(
         judged.shown,
         answers,
     )?;
+    let shown = shown_of(judged.shown, answers);
+    let waits = waits_at_end(alloc, source, model, claim, plan, shown, replay.as_ref())?;
     Ok(ClaimResult {
         form: claim.form,
         rule: claim.rule,
@@ -145,8 +147,44 @@ pub(crate) fn moment_result(
         at_moment: judged.at_moment,
         shown: judged.shown,
         replay,
-        waits: None,
+        waits,
     })
+}
+
+// What the fibers wait for at the end that decides a claim on refs at the end; `None` for another claim at any moment.
+fn waits_at_end(
+    alloc: Global,
+    source: &Source,
+    model: &Model,
+    claim: &Claim,
+    plan: Plan,
+    answer: Option<&NamedAnswer>,
+    replay: Option<&Named>,
+) -> Result<Option<Waits>, Refused>
+    requires limits { AreLimits plan.limits }
+{
+    if !is_at_end(claim) {
+        return Ok(None);
+    }
+    waits_of(alloc, source, model, claim.probe, plan, answer, replay)
+}
+
+// Whether a claim at any moment is one at the end.
+fn is_at_end(claim: &Claim) -> bool {
+    match &claim.moment {
+        None => false,
+        Some(words) => have_final(words.as_slice()),
+    }
+}
+
+// Whether one of these words asks whether no fiber can go on.
+fn have_final(words: &[MomentWord]) -> bool {
+    for word in words {
+        if matches!(*word, MomentWord::Final) {
+            return true;
+        }
+    }
+    false
 }
 
 // The answers that include the one that decides a claim.
