@@ -313,8 +313,8 @@ fn at_the_end(
     }
 }
 
-// Where a condition on refs at the end is checked: in each world, of which those count in which no fiber can go on.
-// Without a `forever` every schedule leads to such a world.
+// Where a condition on refs at the end is checked: in each world in which no fiber can go on. Without a `forever` every
+// schedule leads to such a world.
 fn look_at_the_end(
     alloc: Global,
     place: &Place,
