@@ -7,14 +7,18 @@ nothing_left : {X : Type 0} (l : List X) → length l ≡ 0 → l ≡ []
 nothing_left [] h = cc
 nothing_left (x ∷ xs) h = absurd (omega arith)
 
-pub answer-requires-clause-within : goal.answer-requires-clause-within
-answer-requires-clause-within g c =
+pub answer-requires : goal.answer-requires
+answer-requires g c =
     let says = with_says g.row.SAYS in
     let at = c.loop-it in
     let first = first_place says (code_of (source_of c.args.program.now)) c.args.limits in
     let steps : into_iter_items at.it-iterator ≡ c.in-Some.it ∷ into_iter_items c.next.new.self = c.in-Some.ensures.steps.0 in
-    next_within says c.args.worlds.now first c.args.found.items (into_iter_items c.next.new.self) at.answers.items c.in-Some.it
-    (subst (λ l. SoFar says c.args.worlds.now first c.args.found.items l at.answers.items) steps at.invariant.told) c.requires.within
+    (
+      omega arith,
+      (c.requires.limits,
+      next_within says c.args.worlds.now first c.args.found.items (into_iter_items c.next.new.self) at.answers.items c.in-Some.it
+          (subst (λ l. SoFar says c.args.worlds.now first c.args.found.items l at.answers.items) steps at.invariant.told) c.requires.within),
+    )
 
 pub loop-it-preserved : goal.loop-it-preserved
 loop-it-preserved g c =
