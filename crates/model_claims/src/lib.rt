@@ -11,8 +11,8 @@
 //! if none does and there are no other answers. A claim about some answer passes only if an answer meets it, and fails
 //! only if none does and there are no other answers. Otherwise a claim is undecided. `fails` exchanges passed and
 //! failed. The shown answer is the first that decides. [`truth_of`] and [`truth_in`] are proved to run the words of a
-//! condition over the fibers of the answer, as `specs/Conditions.antt` states. For [`read_claims`] and
-//! [`read_settings`] only safety and termination are proved.
+//! condition over the fibers of the answer, as `specs/Conditions.antt` states. For [`read_claims`], [`read_settings`]
+//! and [`has_forever`] only safety and termination are proved.
 #![tactic(auto)]
 
 mod answer;
