@@ -5,6 +5,7 @@ pub mod NoteLemmas
 pub mod ReasonLemmas
 pub mod RecordLemmas
 pub mod RunLemmas
+pub mod SaidEnds
 pub mod WorkerLemmas
 pub mod CompareLemmas
 pub mod TestLemmas

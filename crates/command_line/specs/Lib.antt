@@ -9,6 +9,7 @@ pub mod Replays
 pub mod RunReasons
 pub mod Runs
 pub mod Samplings
+pub mod Sayings
 pub mod Seekings
 pub mod Tests
 pub mod Unmarkings

@@ -6,7 +6,8 @@ use Rattle.text_io.specs.declared.status.Status.{Status}
 use Rattle.text_io.specs.Devices.{Devices}
 use Rattle.command_words.specs.declared.requests.Request.{Request}
 use Rattle.command_words.specs.declared.requests.Request.TheVariants.{Check, Show, Replay, Explore, Run, Sample}
-use Rattle.command_words.specs.declared.requests.Request.TheVariants.{Compare, Decide, Judge, Seek, Test, Terms, Unmark}
+use Rattle.command_words.specs.declared.requests.Request.TheVariants.{Compare, Decide, Judge, Say, Seek, Test, Terms}
+use Rattle.command_words.specs.declared.requests.Request.TheVariants.{Unmark}
 use Rattle.command_line.specs.Checks.{ObeysCheck, ObeysShow}
 use Rattle.command_line.specs.Comparings.{ObeysCompare}
 use Rattle.command_line.specs.Decidings.{ObeysDecide}
@@ -15,6 +16,7 @@ use Rattle.command_line.specs.Judgings.{ObeysJudge}
 use Rattle.command_line.specs.Replays.{ObeysReplay}
 use Rattle.command_line.specs.Runs.{ObeysRun}
 use Rattle.command_line.specs.Samplings.{ObeysSample}
+use Rattle.command_line.specs.Sayings.{ObeysSay}
 use Rattle.command_line.specs.Seekings.{ObeysSeek}
 use Rattle.command_line.specs.Tests.{ObeysTest}
 use Rattle.command_line.specs.Unmarkings.{ObeysUnmark}
@@ -32,6 +34,7 @@ ObeysRequest (Seek seeking) before after status = ObeysSeek seeking before after
 ObeysRequest (Decide deciding) before after status = ObeysDecide deciding before after status
 ObeysRequest (Judge judging) before after status = ObeysJudge judging before after status
 ObeysRequest (Unmark unmarking) before after status = ObeysUnmark unmarking before after status
+ObeysRequest (Say saying) before after status = ObeysSay saying before after status
 ObeysRequest (Run running) before after status = ObeysRun running before after status
 ObeysRequest (Sample sampling) before after status = ObeysSample sampling before after status
 ObeysRequest (Compare comparing) before after status = (after.input ≡ before.input) ×

@@ -15,6 +15,7 @@ use crate::judge_order::obey_judge;
 use crate::replay_order::obey_replay;
 use crate::run_order::obey_run;
 use crate::sample_order::obey_sample;
+use crate::say_order::obey_say;
 use crate::seek_order::obey_seek;
 use crate::test_order::{obey_terms, obey_test};
 use crate::unmark_order::obey_unmark;
@@ -85,6 +86,7 @@ where
         Request::Decide(deciding) => obey_decide(rt, rt.alloc(), deciding, input, out, err),
         Request::Judge(judging) => obey_judge(rt.alloc(), judging, input, out, err),
         Request::Unmark(unmarking) => obey_unmark(rt, rt.alloc(), unmarking, input, out, err),
+        Request::Say(saying) => obey_say(rt, rt.alloc(), saying, input, out, err),
         Request::Run(running) => obey_run(rt, rt.alloc(), running, input, out, err),
         Request::Sample(sampling) => obey_sample(rt.alloc(), sampling, input, out, err),
         Request::Compare(comparing) => obey_compare(rt, rt.alloc(), comparing, out, err),

@@ -20,6 +20,7 @@ mod run_answers;
 mod run_order;
 mod run_reasons;
 mod sample_order;
+mod say_order;
 mod seek_order;
 mod spelling;
 mod test_order;

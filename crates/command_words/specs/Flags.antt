@@ -5,6 +5,8 @@ use Rattle.command_words.specs.declared.exploring.Beside.{Beside}
 use Rattle.command_words.specs.declared.exploring.Beside.TheVariants as beside
 use Rattle.command_words.specs.declared.exploring.ExploreForm.{ExploreForm}
 use Rattle.command_words.specs.declared.exploring.ExploreForm.TheVariants as explores
+use Rattle.command_words.specs.declared.marks.Marks.{Marks}
+use Rattle.command_words.specs.declared.marks.Marks.TheVariants as kept
 use Rattle.command_words.specs.declared.replay.AnswerForm.{AnswerForm}
 use Rattle.command_words.specs.declared.replay.AnswerForm.TheVariants.{Report, Timeline, Picture, Json}
 use Rattle.command_words.specs.declared.running.RunForm.{RunForm}
@@ -70,12 +72,14 @@ SaysRunForm options runs.Json false =
     IsLeftOut (codes "explain") options
 SaysRunForm options runs.Json true = ⊥
 
--- whether reports have marks, by the text of an option; they have them if the option isn't given
-abbrev pub SaysMarks : Option Text → Bool → Type 0
-SaysMarks None true = Unit {0}
-SaysMarks None false = ⊥
-SaysMarks (Some text) true = text ≡ codes "all"
-SaysMarks (Some text) false = text ≡ codes "none"
+-- which marks reports have, by the text of an option: all if the option isn't given
+abbrev pub SaysMarks : Option Text → Marks → Type 0
+SaysMarks None kept.All = Unit {0}
+SaysMarks None kept.Says = ⊥
+SaysMarks None kept.Nothing = ⊥
+SaysMarks (Some text) kept.All = text ≡ codes "all"
+SaysMarks (Some text) kept.Says = text ≡ codes "say"
+SaysMarks (Some text) kept.Nothing = text ≡ codes "none"
 
 -- whether fiber 0 is the only one, by the text of an option; no other fiber can be named
 abbrev pub SaysOnly : Option Text → Bool → Type 0

@@ -1,5 +1,5 @@
 -- The request that the words of a command line make.
-use Rattle.std.specs.Prelude.{◌≡◌, ◌≤◌, ⊤, ℕ, true, false, List, [], map, Option, Some, None, codes, option_map}
+use Rattle.std.specs.Prelude.{◌≡◌, ◌≤◌, ⊤, ℕ, List, [], map, Option, Some, None, codes, option_map}
 use Rattle.std.specs.List.{All}
 use Rattle.std.specs.Option.{unwrap_or}
 use Rattle.clap.specs.Words.{Row, Text, all_of, first_of, subcommand_of}
@@ -17,13 +17,16 @@ use Rattle.command_words.specs.declared.comparing.Comparing.{Comparing}
 use Rattle.command_words.specs.declared.deciding.Deciding.{Deciding}
 use Rattle.command_words.specs.declared.exploring.Exploring.{Exploring}
 use Rattle.command_words.specs.declared.judging.Judging.{Judging}
+use Rattle.command_words.specs.declared.marks.Marks.TheVariants as kept
 use Rattle.command_words.specs.declared.ranges.NumberRange.{NumberRange}
 use Rattle.command_words.specs.declared.replay.Replay.{Replay as ReplayFields}
 use Rattle.command_words.specs.declared.requests.Request.{Request}
 use Rattle.command_words.specs.declared.requests.Request.TheVariants.{Check, Show, Replay, Explore, Run, Sample}
-use Rattle.command_words.specs.declared.requests.Request.TheVariants.{Compare, Decide, Judge, Seek, Test, Terms, Unmark}
+use Rattle.command_words.specs.declared.requests.Request.TheVariants.{Compare, Decide, Judge, Say, Seek, Test, Terms}
+use Rattle.command_words.specs.declared.requests.Request.TheVariants.{Unmark}
 use Rattle.command_words.specs.declared.running.Running.{Running}
 use Rattle.command_words.specs.declared.sampling.Sampling.{Sampling}
+use Rattle.command_words.specs.declared.saying.Saying.{Saying}
 use Rattle.command_words.specs.declared.seeking.Seeking.{Seeking}
 use Rattle.command_words.specs.declared.testing.Testing.{Testing}
 use Rattle.command_words.specs.declared.testing.Translating.{Translating}
@@ -139,18 +142,18 @@ pub record SaysDeciding (options : List Row) (deciding : Deciding) : Type 0 wher
   pub seconds_are : SaysSeconds (first_of (codes "seconds") options) deciding.seconds
   pub beside : SaysBeside options deciding.beside
 
--- reports have marks, and all fibers are reported
+-- reports have all marks, and all fibers are reported
 abbrev pub HasMarks : List Row → Type 0
-HasMarks options = SaysMarks (first_of (codes "marks") options) true × (first_of (codes "only") options ≡ None)
+HasMarks options = SaysMarks (first_of (codes "marks") options) kept.All × (first_of (codes "only") options ≡ None)
 
--- no option is given that only an exploration with marks takes
+-- no option is given that only an exploration with all marks takes
 abbrev pub GoWithoutMarks : List Row → Type 0
 GoWithoutMarks options = IsLeftOut (codes "timeline") options × IsLeftOut (codes "first") options ×
     IsLeftOut (codes "ends") options × (first_of (codes "count") options ≡ None)
 
 -- the exploration without marks that the options of `explore` ask for
 pub record SaysUnmarking (options : List Row) (unmarking : Unmarking) : Type 0 where
-  pub marks : SaysMarks (first_of (codes "marks") options) false
+  pub marks : SaysMarks (first_of (codes "marks") options) kept.Nothing
   pub only : SaysOnly (first_of (codes "only") options) unmarking.only_first
   pub claims : HasNoClaims options
   pub alone : GoWithoutMarks options
@@ -158,6 +161,17 @@ pub record SaysUnmarking (options : List Row) (unmarking : Unmarking) : Type 0 w
   pub json : SaysFlag (codes "json") options unmarking.json
   pub seconds_are : SaysSeconds (first_of (codes "seconds") options) unmarking.seconds
   pub beside : SaysBeside options unmarking.beside
+
+-- the exploration of outcomes and says that the options of `explore` ask for
+pub record SaysSaying (options : List Row) (saying : Saying) : Type 0 where
+  pub marks : SaysMarks (first_of (codes "marks") options) kept.Says
+  pub all_fibers : first_of (codes "only") options ≡ None
+  pub claims : HasNoClaims options
+  pub alone : GoWithoutMarks options
+  pub order : SaysExplore options saying.order
+  pub json : SaysFlag (codes "json") options saying.json
+  pub seconds_are : SaysSeconds (first_of (codes "seconds") options) saying.seconds
+  pub beside : SaysBeside options saying.beside
 
 -- the run that the options of `run` ask for
 pub record SaysRunning (options : List Row) (running : Running) : Type 0 where
@@ -223,6 +237,7 @@ Says said (Seek seeking) =
 Says said (Decide deciding) = (said.0 ≡ codes "explore") × HasMarks said.1 × SaysDeciding said.1 deciding
 Says said (Judge judging) = (said.0 ≡ codes "explore") × HasMarks said.1 × SaysJudging said.1 judging
 Says said (Unmark unmarking) = (said.0 ≡ codes "explore") × SaysUnmarking said.1 unmarking
+Says said (Say saying) = (said.0 ≡ codes "explore") × SaysSaying said.1 saying
 Says said (Run running) = (said.0 ≡ codes "run") × SaysRunning said.1 running
 Says said (Sample sampling) = (said.0 ≡ codes "sample") × SaysSampling said.1 sampling
 Says said (Compare comparing) = (said.0 ≡ codes "compare") × SaysComparing said.1 comparing
@@ -250,6 +265,7 @@ IsSettledByInput (Seek seeking) = ⊥
 IsSettledByInput (Decide deciding) = ⊥
 IsSettledByInput (Judge judging) = ⊤
 IsSettledByInput (Unmark unmarking) = ⊥
+IsSettledByInput (Say saying) = ⊥
 IsSettledByInput (Run running) = ⊥
 IsSettledByInput (Sample sampling) = HasNoTexts sampling → ⊥
 IsSettledByInput (Compare comparing) = ⊥

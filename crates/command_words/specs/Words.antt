@@ -188,7 +188,7 @@ with_claims app =
     with_rule (with_rule (with_rule app (claim_option (codes "always"))) (claim_option (codes "never")))
     (claim_option (codes "reach"))
 
--- with the option for whether reports have marks, and the option for the only fiber that is reported
+-- with the option for the marks that reports have, and the option for the only fiber that is reported
 abbrev pub with_marks : App → App
 with_marks app = with_rule (with_rule app (text_option (codes "marks"))) (text_option (codes "only"))
 

@@ -141,6 +141,9 @@ Example that finds a lock for which a fiber waits for ever:
 Example of a loop without end, which has one outcome:
   echo '(forever (bracket x (pure 1) (cede) (pure 2)))' | fiber_cli explore --marks none
 
+Example of the values that fibers say, without their other marks:
+  echo '(ref r 0 (start f (set r 1) (let x (get r) (say x))))' | fiber_cli explore --marks say
+
 'fiber_cli --help' explains the reports. Each is below a schedule, under which replay gives it.
 
 Exit status:
@@ -349,9 +352,9 @@ wanted. Before the search 3000 schedules are drawn at random";
 pub const ENDS: &str = "Print behind the answer whether every fair schedule ends, in which each
 fiber that can go on does so again and again, or else a cycle that goes on";
 
-pub const MARKS: &str = "Whether reports have marks: all or none. With none the answers are the
-outcomes of the fibers, and loops with masks and brackets close
-[default: all]";
+pub const MARKS: &str = "Which marks reports have: all, say (say V and dropped C alone) or none
+(the outcomes alone). With say and none, a loop with masks and brackets
+that says nothing closes [default: all]";
 
 pub const ONLY: &str = "With --marks none: 0, for one answer for each outcome of fiber 0, and
 nothing of the other fibers";

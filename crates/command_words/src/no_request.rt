@@ -2,6 +2,7 @@
 
 use crate::flags::{given, text_of};
 use crate::judge_requests::has_claims;
+use crate::marks::Marks;
 use crate::memory::bytes_of;
 use crate::test_requests::coloring;
 use crate::unmark_requests::{marks_said, only_of};
@@ -177,10 +178,11 @@ fn claims_reason(alloc: Global, other: &str) -> Result<String, AllocError> {
 fn marks_reason(alloc: Global, explore: &ArgMatches<'_>) -> Result<Option<String>, AllocError> {
     let marks = text_of(explore, "marks").unwrap_or("all");
     match marks_said(marks) {
-        Some(true) => only_reason(alloc, explore),
-        Some(false) => unmarked_reason(alloc, explore),
+        Some(Marks::All) => only_reason(alloc, explore),
+        Some(Marks::Says) => says_reason(alloc, explore),
+        Some(Marks::Nothing) => unmarked_reason(alloc, explore),
         None => {
-            let expected = "expected 'all' or 'none'";
+            let expected = "expected 'all', 'say' or 'none'";
             Ok(Some(value_reason(alloc, marks, "--marks <MARKS>", expected)?))
         }
     }
@@ -195,18 +197,38 @@ fn only_reason(alloc: Global, explore: &ArgMatches<'_>) -> Result<Option<String>
     Ok(Some(reason))
 }
 
-// Why the options of an exploration without marks give no request, or `None` if they give one.
-fn unmarked_reason(alloc: Global, explore: &ArgMatches<'_>) -> Result<Option<String>, AllocError> {
+// Why the options of an exploration with says give no request, or `None` if they give one.
+fn says_reason(alloc: Global, explore: &ArgMatches<'_>) -> Result<Option<String>, AllocError> {
+    match marked_reason(alloc, explore, "marks say")? {
+        Some(reason) => Ok(Some(reason)),
+        None => only_reason(alloc, explore),
+    }
+}
+
+// The reason if an option is given that only an exploration with all marks takes, beside `marks`, which asks for fewer.
+fn marked_reason(
+    alloc: Global,
+    explore: &ArgMatches<'_>,
+    marks: &str,
+) -> Result<Option<String>, AllocError> {
     if has_claims(explore) {
-        return Ok(Some(claims_reason(alloc, "marks none")?));
+        return Ok(Some(claims_reason(alloc, marks)?));
     }
     for other in ["timeline", "first", "ends"] {
         if given(explore, other) {
-            return Ok(Some(reason_of_two(alloc, "marks none", other)?));
+            return Ok(Some(reason_of_two(alloc, marks, other)?));
         }
     }
     if text_of(explore, "count").is_some() {
-        return Ok(Some(reason_of_two(alloc, "marks none", "count")?));
+        return Ok(Some(reason_of_two(alloc, marks, "count")?));
+    }
+    Ok(None)
+}
+
+// Why the options of an exploration without marks give no request, or `None` if they give one.
+fn unmarked_reason(alloc: Global, explore: &ArgMatches<'_>) -> Result<Option<String>, AllocError> {
+    if let Some(reason) = marked_reason(alloc, explore, "marks none")? {
+        return Ok(Some(reason));
     }
     match text_of(explore, "only") {
         Some(text) if only_of(explore).is_none() => Ok(Some(value_reason(

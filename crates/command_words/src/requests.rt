@@ -1,7 +1,6 @@
 //! The request that the words of a command line make.
 
-ghost use Rattle.std.specs.Prelude.{◌≡◌, ◌≢◌, ◌≤◌, ◌<◌, ℕ, codes, IfOk, IfSome, IfNone, List, Option, Some, false};
-ghost use Rattle.std.specs.Prelude.{map, true};
+ghost use Rattle.std.specs.Prelude.{◌≡◌, ◌≢◌, ◌≤◌, ◌<◌, ℕ, codes, IfOk, IfSome, IfNone, List, Option, Some, map};
 ghost use Rattle.cell_registry.specs.declared.limits.Limits.{Limits};
 ghost use Rattle.cell_registry.specs.Cells.{AreLimits};
 ghost use Rattle.clap.specs.Words.{first_of, found_of, rows_of, subcommand_rows_of};
@@ -32,6 +31,7 @@ use crate::exploring::Exploring;
 use crate::flags::{beside, explore_form, given, replay_form, run_form, text_of};
 use crate::judge_requests::{has_claims, judging_of};
 use crate::judging::Judging;
+use crate::marks::Marks;
 use crate::memory::bytes_of;
 use crate::ranges::{
     BAND, BUDGET, COUNT, ENTRIES, FEW, MEMORY, MOVES, NumberRange, SECONDS, SEED, TIMES, WORKERS,
@@ -40,6 +40,8 @@ use crate::ranges::{
 use crate::replay::Replay;
 use crate::running::Running;
 use crate::sampling::Sampling;
+use crate::say_requests::saying_of;
+use crate::saying::Saying;
 use crate::seek_requests::seeking_of;
 use crate::seeking::Seeking;
 use crate::test_requests::{testing_of, texts_of, translating_of};
@@ -71,6 +73,8 @@ pub enum Request<'a> {
     Judge(Judging<'a>),
     /// To explore every schedule of the text's program for the outcomes of its fibers, without their marks.
     Unmark(Unmarking),
+    /// To explore every schedule of the text's program for the outcomes and says of its fibers.
+    Say(Saying),
     /// To run the text's program on workers, and to print its report.
     Run(Running),
     /// To draw schedules of the text's program at random, and to count the reports and faults.
@@ -401,8 +405,23 @@ fn explore_request<'a>(
     ensures { IfOk result (GivesRequest (Some (codes "explore", rows_of (found_of options.now)))) }
 {
     match marks_of(options) {
-        Some(true) => whole_request(alloc, options),
-        Some(false) => unmarked_request(alloc, options),
+        Some(Marks::All) => whole_request(alloc, options),
+        Some(Marks::Says) => says_request(alloc, options),
+        Some(Marks::Nothing) => unmarked_request(alloc, options),
+        None => Ok(None),
+    }
+}
+
+// The request of `explore` for reports with says.
+fn says_request<'a>(
+    alloc: Global,
+    options: &ArgMatches<'a>,
+) -> Result<Option<Request<'a>>, AllocError>
+    requires { SaysMarks (first_of (codes "marks") (rows_of (found_of options.now))) Marks.Says }
+    ensures { IfOk result (GivesRequest (Some (codes "explore", rows_of (found_of options.now)))) }
+{
+    match saying_of(alloc, options)? {
+        Some(saying) => Ok(Some(Request::Say(saying))),
         None => Ok(None),
     }
 }
@@ -412,7 +431,7 @@ fn unmarked_request<'a>(
     alloc: Global,
     options: &ArgMatches<'a>,
 ) -> Result<Option<Request<'a>>, AllocError>
-    requires { SaysMarks (first_of (codes "marks") (rows_of (found_of options.now))) false }
+    requires { SaysMarks (first_of (codes "marks") (rows_of (found_of options.now))) Marks.Nothing }
     ensures { IfOk result (GivesRequest (Some (codes "explore", rows_of (found_of options.now)))) }
 {
     match unmarking_of(alloc, options)? {
@@ -421,12 +440,12 @@ fn unmarked_request<'a>(
     }
 }
 
-// The request of `explore` for reports with marks.
+// The request of `explore` for reports with all marks.
 fn whole_request<'a>(
     alloc: Global,
     options: &ArgMatches<'a>,
 ) -> Result<Option<Request<'a>>, AllocError>
-    requires { SaysMarks (first_of (codes "marks") (rows_of (found_of options.now))) true }
+    requires { SaysMarks (first_of (codes "marks") (rows_of (found_of options.now))) Marks.All }
     ensures { IfOk result (GivesRequest (Some (codes "explore", rows_of (found_of options.now)))) }
 {
     if has_text(options, "only") {
@@ -435,7 +454,7 @@ fn whole_request<'a>(
     marked_request(alloc, options)
 }
 
-// The request of `explore` for reports with marks, without `--only`.
+// The request of `explore` for reports with all marks, without `--only`.
 fn marked_request<'a>(
     alloc: Global,
     options: &ArgMatches<'a>,

@@ -2,38 +2,41 @@
 
 ghost use Rattle.std.specs.Prelude.{◌≡◌, ◌≢◌, Bool, codes, false, IfNone, IfOk, IfSome, None, true};
 ghost use Rattle.clap.specs.Words.{first_of, found_of, rows_of};
+ghost use Rattle.command_words.specs.declared.marks.Marks.{Marks as TheMarks};
 ghost use Rattle.command_words.specs.declared.unmarking.Unmarking.{Unmarking};
 ghost use Rattle.command_words.specs.Flags.{SaysMarks, SaysOnly};
 ghost use Rattle.command_words.specs.Requests.{GoWithoutMarks, SaysUnmarking};
 
 use crate::flags::{beside, given, text_of};
 use crate::judge_requests::has_claims;
+use crate::marks::Marks;
 use crate::requests::{explore_order, seconds_of};
 use crate::unmarking::Unmarking;
 use clap::ArgMatches;
 use std::alloc::{AllocError, Global};
 
-/// Whether the options of `explore` ask for reports with marks, or `None` if the text of `--marks` is wrong.
-pub(crate) fn marks_of(explore: &ArgMatches<'_>) -> Option<bool>
+/// The marks for which the options of `explore` ask, or `None` if the text of `--marks` is wrong.
+pub(crate) fn marks_of(explore: &ArgMatches<'_>) -> Option<Marks>
     ensures said { IfSome result (SaysMarks (first_of (codes "marks") (rows_of (found_of explore.now)))) }
-    ensures none { IfNone result ((marks : Bool) →
+    ensures none { IfNone result ((marks : TheMarks) →
         SaysMarks (first_of (codes "marks") (rows_of (found_of explore.now))) marks → ⊥) }
 {
     match text_of(explore, "marks") {
         Some(text) => marks_said(text),
-        None => Some(true),
+        None => Some(Marks::All),
     }
 }
 
-/// Whether a text asks for reports with marks, or `None` if it is neither `all` nor `none`.
+/// The marks for which a text asks, or `None` if it is none of the three words that are accepted.
 #[tactic(auto, using(crate::proofs::UnmarkLemmas::no_marks))]
-pub(crate) fn marks_said(text: &str) -> Option<bool>
+pub(crate) fn marks_said(text: &str) -> Option<Marks>
     ensures said { IfSome result (SaysMarks (Some text.now)) }
-    ensures none { IfNone result ((marks : Bool) → SaysMarks (Some text.now) marks → ⊥) }
+    ensures none { IfNone result ((marks : TheMarks) → SaysMarks (Some text.now) marks → ⊥) }
 {
     match text {
-        "all" => Some(true),
-        "none" => Some(false),
+        "all" => Some(Marks::All),
+        "say" => Some(Marks::Says),
+        "none" => Some(Marks::Nothing),
         _ => None,
     }
 }
@@ -75,7 +78,7 @@ pub(crate) fn unmarking_of(
     alloc: Global,
     explore: &ArgMatches<'_>,
 ) -> Result<Option<Unmarking>, AllocError>
-    requires { SaysMarks (first_of (codes "marks") (rows_of (found_of explore.now))) false }
+    requires { SaysMarks (first_of (codes "marks") (rows_of (found_of explore.now))) Marks.Nothing }
     ensures said { IfOk result (λ found. IfSome found (SaysUnmarking (rows_of (found_of explore.now)))) }
     ensures none { IfOk result (λ found. IfNone found ((said : Unmarking) →
         SaysUnmarking (rows_of (found_of explore.now)) said → ⊥)) }
@@ -104,8 +107,8 @@ pub(crate) fn unmarking_of(
     }
 }
 
-// Whether an option is given that only an exploration with marks takes.
-fn is_with_marks(explore: &ArgMatches<'_>) -> bool
+/// Whether an option is given that only an exploration with all marks takes.
+pub(crate) fn is_with_marks(explore: &ArgMatches<'_>) -> bool
     ensures some { result ≡ true → GoWithoutMarks (rows_of (found_of explore.now)) → ⊥ }
     ensures none { result ≡ false → GoWithoutMarks (rows_of (found_of explore.now)) }
 {

@@ -183,7 +183,7 @@ fn with_claims<'a>(alloc: Global, command: Command<'a>) -> Result<Command<'a>, A
     command.arg(claim_option(alloc, "reach", help::REACH))
 }
 
-// Adds the option for whether reports have marks, and the option for the only fiber that is reported.
+// Adds the option for the marks that reports have, and the option for the only fiber that is reported.
 fn with_marks<'a>(alloc: Global, command: Command<'a>) -> Result<Command<'a>, AllocError>
     ensures shape { IfOk result (λ c. app_of c ≡ with_marks (app_of command.entry)) }
     ensures local { IfOk result (λ c. (out-Command c).has_globals ≡ (out-Command command.entry).has_globals) }

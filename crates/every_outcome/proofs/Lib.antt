@@ -1,11 +1,14 @@
 pub mod Cells
+pub mod Said
 pub mod Stepping
 pub mod Running
 pub mod Own
 pub mod Commuting
 pub mod Growing
 pub mod Leaps
+pub mod SameReports
 pub mod Told
+pub mod Bare
 pub mod Listing
 pub mod Trails
 pub mod Seen

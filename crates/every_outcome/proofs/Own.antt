@@ -17,7 +17,7 @@ use Rattle.cell_registry.specs.{declared.{cell.Cell.Cell, call.Call.Call}, Cells
 use Rattle.scheduled_core.specs.{declared.wish.Wish.{Wish, TheVariants.{Alone, Nothing, Shared}}, Core.{World, wish_of}}
 use Rattle.every_schedule.specs.{Places.wants, Reduced.{has_come_to_end, has_own, is_another, is_completed, is_kept, is_left_alone, is_own, is_own_call, keeps}}
 use Rattle.every_schedule.specs.Reduced.{next_of, others, rests}
-use Rattle.every_outcome.{specs.{Places.unmarked_world, Private.Reduced.owns_next}, proofs.{Cells.{plain, plain_cell, plain_is}, Stepping.get_unmarked}}
+use Rattle.every_outcome.{specs.{Places.{shown, unmarked_world}, Private.Reduced.owns_next}, proofs.{Cells.{plain, plain_cell, plain_is}, Stepping.get_unmarked}}
 use Rattle.derived_ops.specs.Naming as naming
 use Rattle.derived_ops.specs.Tree as tree
 use Rattle.effect_term.specs.declared.reply.Reply.TheVariants as reply
@@ -171,62 +171,63 @@ goes_unmarked g = goes_renumbered g.number (placed_in g.number (masks_of g.runni
 moves_unmarked : (g : Fiber) → wants (wish_of (ask_of (unmarked g))) ≡ wants (wish_of (ask_of g))
 moves_unmarked g = moves (unmarked g) ∙ goes_unmarked g ∙ sym (moves g)
 
-rests_unmarked : (gs : List Fiber) (i : ℕ) → rests (slice_get (map unmarked gs) i) ≡ rests (slice_get gs i)
-rests_unmarked gs i = ap rests (get_unmarked gs i (slice_get gs i) refl) ∙ go (slice_get gs i)
-  where
-    go : (o : Option Fiber) → rests (option_map unmarked o) ≡ rests o
-    go None = refl
-    go (Some g) = ap not (moves_unmarked g)
+module _ (says : Bool) where
+  rests_unmarked : (gs : List Fiber) (i : ℕ) → rests (slice_get (map (shown says) gs) i) ≡ rests (slice_get gs i)
+  rests_unmarked gs i = ap rests (get_unmarked says gs i (slice_get gs i) refl) ∙ go (slice_get gs i)
+    where
+      go : (o : Option Fiber) → rests (option_map (shown says) o) ≡ rests o
+      go None = refl
+      go (Some g) = ap not (moves_unmarked g)
 
--- ---- the other fibers
-others_unmarked : (p : Fiber → Bool) → ((b : Fiber) → p (unmarked b) ≡ p b) → (f i : ℕ) (gs : List Fiber) → others p f i (map unmarked gs) ≡ others p f i gs
-others_unmarked p same f i [] = refl
-others_unmarked p same f i (b ∷ gs) = ap₂ (λ (s t : Bool). (nat_eq i f || s) && t) (same b) (others_unmarked p same f (suc i) gs)
+  -- ---- the other fibers
+  others_unmarked : (p : Fiber → Bool) → ((b : Fiber) → p (shown says b) ≡ p b) → (f i : ℕ) (gs : List Fiber) → others p f i (map (shown says) gs) ≡ others p f i gs
+  others_unmarked p same f i [] = refl
+  others_unmarked p same f i (b ∷ gs) = ap₂ (λ (s t : Bool). (nat_eq i f || s) && t) (same b) (others_unmarked p same f (suc i) gs)
 
-keeps_unmarked : (u : Use) (n : ℕ) (b : Fiber) → keeps u n (unmarked b) ≡ keeps u n b
-keeps_unmarked u n b = ap (λ (m : ℕ). not (is_some m)) (uses_unmarked u n b)
+  keeps_unmarked : (u : Use) (n : ℕ) (b : Fiber) → keeps u n (shown says b) ≡ keeps u n b
+  keeps_unmarked u n b = ap (λ (m : ℕ). not (is_some m)) (uses_unmarked u n b)
 
-another_unmarked : (f : ℕ) (b : Fiber) → is_another f (unmarked b) ≡ is_another f b
-another_unmarked f b = ap (λ (m : ℕ). not (nat_eq m f)) (number_unmarked b)
+  another_unmarked : (f : ℕ) (b : Fiber) → is_another f (shown says b) ≡ is_another f b
+  another_unmarked f b = ap (λ (m : ℕ). not (nat_eq m f)) (number_unmarked b)
 
-next_unmarked : (s : Cells) (k : naming.Place) → next_of k (without_counts (without_waits s)) ≡ next_of k s
-next_unmarked s naming.A_fiber = refl
-next_unmarked s _ = refl
+  next_unmarked : (s : Cells) (k : naming.Place) → next_of k (without_counts (without_waits s)) ≡ next_of k s
+  next_unmarked s naming.A_fiber = refl
+  next_unmarked s _ = refl
 
-cell_unmarked : (s : Cells) (i : ℕ) → cell_of (without_counts (without_waits s)) i ≡ plain (cell_of s i)
-cell_unmarked s i = ap (λ (x : Cells). cell_of x i) (plain_is s) ∙ plain_cell s i
+  cell_unmarked : (s : Cells) (i : ℕ) → cell_of (without_counts (without_waits s)) i ≡ plain (cell_of s i)
+  cell_unmarked s i = ap (λ (x : Cells). cell_of x i) (plain_is s) ∙ plain_cell s i
 
--- ---- own moves
-module _ (w : World) (f : ℕ) where
-  kept_unmarked : (u : Use) (n : ℕ) → is_kept u (unmarked_world w) f n ≡ is_kept u w f n
-  kept_unmarked u n =
-      ap₂ (λ (m : ℕ) (t : Bool). nat_lt n m && t) (next_unmarked w.cells (used_place u)) (others_unmarked (keeps u n) (keeps_unmarked u n) f 0 w.fibers)
+  -- ---- own moves
+  module _ (w : World) (f : ℕ) where
+    kept_unmarked : (u : Use) (n : ℕ) → is_kept u (unmarked_world says w) f n ≡ is_kept u w f n
+    kept_unmarked u n =
+        ap₂ (λ (m : ℕ) (t : Bool). nat_lt n m && t) (next_unmarked w.cells (used_place u)) (others_unmarked (keeps u n) (keeps_unmarked u n) f 0 w.fibers)
 
-  two_unmarked : (u v : Use) (n : ℕ) → is_kept u (unmarked_world w) f n && is_kept v (unmarked_world w) f n ≡ is_kept u w f n && is_kept v w f n
-  two_unmarked u v n = ap₂ (λ (s t : Bool). s && t) (kept_unmarked u n) (kept_unmarked v n)
+    two_unmarked : (u v : Use) (n : ℕ) → is_kept u (unmarked_world says w) f n && is_kept v (unmarked_world says w) f n ≡ is_kept u w f n && is_kept v w f n
+    two_unmarked u v n = ap₂ (λ (s t : Bool). s && t) (kept_unmarked u n) (kept_unmarked v n)
 
-  left_unmarked : is_left_alone (unmarked_world w) f ≡ is_left_alone w f
-  left_unmarked = ap₂ (λ (s t : Bool). s && t) (kept_unmarked Cancels f) (others_unmarked (is_another f) (another_unmarked f) f 0 w.fibers)
+    left_unmarked : is_left_alone (unmarked_world says w) f ≡ is_left_alone w f
+    left_unmarked = ap₂ (λ (s t : Bool). s && t) (kept_unmarked Cancels f) (others_unmarked (is_another f) (another_unmarked f) f 0 w.fibers)
 
-  end_unmarked : (i : ℕ) → has_come_to_end (unmarked_world w) i ≡ has_come_to_end w i
-  end_unmarked i = ap₂ (λ (s : Bool) (c : Cell). s && has_ended c.stage) (rests_unmarked w.fibers i) (cell_unmarked w.cells i)
+    end_unmarked : (i : ℕ) → has_come_to_end (unmarked_world says w) i ≡ has_come_to_end w i
+    end_unmarked i = ap₂ (λ (s : Bool) (c : Cell). s && has_ended c.stage) (rests_unmarked w.fibers i) (cell_unmarked w.cells i)
 
-  own_call_unmarked : (c : Call) → is_own_call (unmarked_world w) f c ≡ is_own_call w f c
-  own_call_unmarked call.Look = ap₂ (λ (c : Cell) (t : Bool). c.request || t) (cell_unmarked w.cells f) left_unmarked
-  own_call_unmarked call.Cut = ap (λ (c : Cell). not (has_ended c.stage)) (cell_unmarked w.cells f)
-  own_call_unmarked (call.Cancel i) = end_unmarked i
-  own_call_unmarked (call.Join i) = end_unmarked i
-  own_call_unmarked (call.Finish o) = ap₂ (λ (s t : Bool). s && t) left_unmarked (kept_unmarked Joins f)
-  own_call_unmarked (call.Get r) = kept_unmarked Stores r
-  own_call_unmarked (call.Set r v) = two_unmarked Stores Gets r
-  own_call_unmarked (call.Modify r v) = two_unmarked Stores Gets r
-  own_call_unmarked (call.Complete d v) = ap (λ (t : Bool). is_completed w d || t) (two_unmarked Completes Awaits d)
-  own_call_unmarked _ = refl
+    own_call_unmarked : (c : Call) → is_own_call (unmarked_world says w) f c ≡ is_own_call w f c
+    own_call_unmarked call.Look = ap₂ (λ (c : Cell) (t : Bool). c.request || t) (cell_unmarked w.cells f) left_unmarked
+    own_call_unmarked call.Cut = ap (λ (c : Cell). not (has_ended c.stage)) (cell_unmarked w.cells f)
+    own_call_unmarked (call.Cancel i) = end_unmarked i
+    own_call_unmarked (call.Join i) = end_unmarked i
+    own_call_unmarked (call.Finish o) = ap₂ (λ (s t : Bool). s && t) left_unmarked (kept_unmarked Joins f)
+    own_call_unmarked (call.Get r) = kept_unmarked Stores r
+    own_call_unmarked (call.Set r v) = two_unmarked Stores Gets r
+    own_call_unmarked (call.Modify r v) = two_unmarked Stores Gets r
+    own_call_unmarked (call.Complete d v) = ap (λ (t : Bool). is_completed w d || t) (two_unmarked Completes Awaits d)
+    own_call_unmarked _ = refl
 
-  pub is_own_unmarked : (g : Fiber) (x : Wish) → is_own (unmarked_world w) f g x ≡ is_own w f g x
-  is_own_unmarked g (Shared c) = own_call_unmarked c
-  is_own_unmarked g Alone = refl
-  is_own_unmarked g Nothing = refl
+    pub is_own_unmarked : (g : Fiber) (x : Wish) → is_own (unmarked_world says w) f g x ≡ is_own w f g x
+    is_own_unmarked g (Shared c) = own_call_unmarked c
+    is_own_unmarked g Alone = refl
+    is_own_unmarked g Nothing = refl
 
 -- ---- who waits without a call
 under_stops : (up : List Mask) (l : Look) → case_under up l ≡ Rests → ⊥
@@ -275,18 +276,18 @@ module _ (g : Fiber) (h : Reached g) where
       ∙ waited_to _ (kind_of g reply.Done)
       ∙ sym (alone_kind g e)
 
-  module _ (w : World) (f : ℕ) where
-    own_so : (x : Wish) → wish_of (ask_of g) ≡ x → is_own (unmarked_world w) f (unmarked g) x ≡ is_own w f g x
-    own_so (Shared c) e = own_call_unmarked w f c
+  module _ (says : Bool) (w : World) (f : ℕ) where
+    own_so : (x : Wish) → wish_of (ask_of g) ≡ x → is_own (unmarked_world says w) f (shown says g) x ≡ is_own w f g x
+    own_so (Shared c) e = own_call_unmarked says w f c
     own_so Alone e = ap not (waits_unmarked e)
     own_so Nothing e = refl
 
     -- the next move of a reached fiber is an own move without marks exactly if it is one with them
-    pub own_unmarked : slice_get w.fibers f ≡ Some g → owns_next (unmarked_world w) f ≡ has_own w f (Some g)
+    pub own_unmarked : slice_get w.fibers f ≡ Some g → owns_next (unmarked_world says w) f ≡ has_own w f (Some g)
     own_unmarked e =
-        ap (has_own (unmarked_world w) f) (get_unmarked w.fibers f (Some g) e)
-        ∙ ap (λ (a : Ask). is_own (unmarked_world w) f (unmarked g) (wish_of a)) (ask_unmarked g h)
+        ap (has_own (unmarked_world says w) f) (get_unmarked says w.fibers f (Some g) e)
+        ∙ ap (λ (a : Ask). is_own (unmarked_world says w) f (shown says g) (wish_of a)) (ask_unmarked g h)
         ∙ own_so (wish_of (ask_of g)) refl
 
-pub none_own : (w : World) (f : ℕ) → slice_get w.fibers f ≡ None → owns_next (unmarked_world w) f ≡ false
-none_own w f e = ap (has_own (unmarked_world w) f) (get_unmarked w.fibers f None e)
+pub none_own : (says : Bool) (w : World) (f : ℕ) → slice_get w.fibers f ≡ None → owns_next (unmarked_world says w) f ≡ false
+none_own says w f e = ap (has_own (unmarked_world says w) f) (get_unmarked says w.fibers f None e)

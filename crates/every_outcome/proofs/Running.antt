@@ -1,5 +1,5 @@
 -- A schedule leads from a world of the core where it leads from the same world without marks, counts and notes.
-use Rattle.std.proofs.Common.{◌≡◌, ◌⊎◌, inl, inr, ◌<◌, ◌≤◌, ℕ, zero, suc, ◌+◌, List, [], ◌∷◌, ◌++◌, length, set, Option, Some, None, Result, Ok, Err, refl, sym}
+use Rattle.std.proofs.Common.{◌≡◌, ◌⊎◌, inl, inr, ◌<◌, ◌≤◌, ℕ, zero, suc, ◌+◌, Bool, List, [], ◌∷◌, ◌++◌, length, set, Option, Some, None, Result, Ok, Err, refl, sym}
 use Rattle.std.{proofs.{Common.{ap, ◌∙◌, subst, arith, get_or, replicate, length-append}, lemmas.Option.{same_Some, slice_get_within}}, specs.List.fold}
 use Rattle.std.specs.List.{slice_get}
 use Rattle.derived_ops.specs.Tree.{Tree}
@@ -160,80 +160,81 @@ module _ (k : Limits) (w : World) (f m : ℕ) (h : AtMost m w.cells) where
   pub count_entered : IfWorld Counts (entered k (Ok w) f)
   count_entered = count_turned (slice_get w.fibers f)
 
--- ---- schedules
-module _ (k : Limits) (n : ℕ) (some : 0 < k.count) where
-  abbrev pub bare_place : World → Place
-  bare_place w = record { limits = k; world = unmarked_world w }
+module _ (says : Bool) where
+  -- ---- schedules
+  module _ (k : Limits) (n : ℕ) (some : 0 < k.count) where
+    abbrev pub bare_place : World → Place
+    bare_place w = record { limits = k; world = unmarked_world says w }
 
-  fault_stays : (e : RunError) (s : List ℕ) → search.run stepped (Err e) s ≡ Err e
-  fault_stays e [] = refl
-  fault_stays e (f ∷ s) = fault_stays e s
+    fault_stays : (e : RunError) (s : List ℕ) → search.run (stepped says) (Err e) s ≡ Err e
+    fault_stays e [] = refl
+    fault_stays e (f ∷ s) = fault_stays e s
 
-  pub core_stays : (e : RunError) (s : List ℕ) → fold (entered (counted k n)) (Err e) s ≡ Err e
-  core_stays e [] = refl
-  core_stays e (f ∷ s) = core_stays e s
+    pub core_stays : (e : RunError) (s : List ℕ) → fold (entered (counted k n)) (Err e) s ≡ Err e
+    core_stays e [] = refl
+    core_stays e (f ∷ s) = core_stays e s
 
-  -- where a schedule of the core has led, without marks, counts and notes; nothing is said if a count is used up
-  abbrev pub Led : Result World RunError → Result Place RunError → Type 0
-  Led (Ok v) y = y ≡ Ok (bare_place v)
-  Led (Err (run.Full b m)) y = y ≡ Err (run.Full b m)
-  Led (Err e) y = Unit {0}
+    -- where a schedule of the core has led, without marks, counts and notes; nothing is said if a count is used up
+    abbrev pub Led : Result World RunError → Result Place RunError → Type 0
+    Led (Ok v) y = y ≡ Ok (bare_place v)
+    Led (Err (run.Full b m)) y = y ≡ Err (run.Full b m)
+    Led (Err e) y = Unit {0}
 
-  led_stopped : (e : RunError) (s : List ℕ) (y : Result Place RunError) → Led (Err e) y → Led (fold (entered (counted k n)) (Err e) s) (search.run stepped y s)
-  led_stopped (run.Full b m) s y h =
-      subst (λ x. Led x (search.run stepped y s)) (sym (core_stays (run.Full b m) s)) (ap (λ x. search.run stepped x s) h ∙ fault_stays (run.Full b m) s)
-  led_stopped run.NoMemory s y h = subst (λ x. Led x (search.run stepped y s)) (sym (core_stays run.NoMemory s)) tt
-  led_stopped (run.Spent g) s y h = subst (λ x. Led x (search.run stepped y s)) (sym (core_stays (run.Spent g) s)) tt
-  led_stopped (run.Lost g) s y h = subst (λ x. Led x (search.run stepped y s)) (sym (core_stays (run.Lost g) s)) tt
-  led_stopped run.NoWorker s y h = subst (λ x. Led x (search.run stepped y s)) (sym (core_stays run.NoWorker s)) tt
+    led_stopped : (e : RunError) (s : List ℕ) (y : Result Place RunError) → Led (Err e) y → Led (fold (entered (counted k n)) (Err e) s) (search.run (stepped says) y s)
+    led_stopped (run.Full b m) s y h =
+        subst (λ x. Led x (search.run (stepped says) y s)) (sym (core_stays (run.Full b m) s)) (ap (λ x. search.run (stepped says) x s) h ∙ fault_stays (run.Full b m) s)
+    led_stopped run.NoMemory s y h = subst (λ x. Led x (search.run (stepped says) y s)) (sym (core_stays run.NoMemory s)) tt
+    led_stopped (run.Spent g) s y h = subst (λ x. Led x (search.run (stepped says) y s)) (sym (core_stays (run.Spent g) s)) tt
+    led_stopped (run.Lost g) s y h = subst (λ x. Led x (search.run (stepped says) y s)) (sym (core_stays (run.Lost g) s)) tt
+    led_stopped run.NoWorker s y h = subst (λ x. Led x (search.run (stepped says) y s)) (sym (core_stays run.NoWorker s)) tt
 
-  same_led : (w : World) (f : ℕ) (x : Result World RunError) (y : Result Place RunError) → Same k n some w f x y → Led x y
-  same_led w f (Ok v) y h = h
-  same_led w f (Err (run.Full b m)) y h = h
-  same_led w f _ y h = tt
+    same_led : (w : World) (f : ℕ) (x : Result World RunError) (y : Result Place RunError) → Same says k n some w f x y → Led x y
+    same_led w f (Ok v) y h = h
+    same_led w f (Err (run.Full b m)) y h = h
+    same_led w f _ y h = tt
 
-  led_next : (s : List ℕ) → ((w : World) → Lawful w → Led (fold (entered (counted k n)) (Ok w) s) (search.run stepped (Ok (bare_place w)) s)) →
-      (x : Result World RunError) (y : Result Place RunError) → IfWorld Lawful x → Led x y → Led (fold (entered (counted k n)) x s) (search.run stepped y s)
-  led_next s rest (Ok v) y law h = subst (λ z. Led (fold (entered (counted k n)) (Ok v) s) (search.run stepped z s)) (sym h) (rest v law)
-  led_next s rest (Err e) y law h = led_stopped e s y h
+    led_next : (s : List ℕ) → ((w : World) → Lawful w → Led (fold (entered (counted k n)) (Ok w) s) (search.run (stepped says) (Ok (bare_place w)) s)) →
+        (x : Result World RunError) (y : Result Place RunError) → IfWorld Lawful x → Led x y → Led (fold (entered (counted k n)) x s) (search.run (stepped says) y s)
+    led_next s rest (Ok v) y law h = subst (λ z. Led (fold (entered (counted k n)) (Ok v) s) (search.run (stepped says) z s)) (sym h) (rest v law)
+    led_next s rest (Err e) y law h = led_stopped e s y h
 
-  pub led : (s : List ℕ) (w : World) → Lawful w → Led (fold (entered (counted k n)) (Ok w) s) (search.run stepped (Ok (bare_place w)) s)
-  led [] w h = refl
-  led (f ∷ s) w h =
-      led_next s (led s) (entered (counted k n) (Ok w) f) (stepped (bare_place w) f) (lawful_entered (counted k n) w f h)
-      (same_led w f (entered (counted k n) (Ok w) f) (stepped (bare_place w) f) (step_same k n some w f (λ g e. h.reached f g e)))
+    pub led : (s : List ℕ) (w : World) → Lawful w → Led (fold (entered (counted k n)) (Ok w) s) (search.run (stepped says) (Ok (bare_place w)) s)
+    led [] w h = refl
+    led (f ∷ s) w h =
+        led_next s (led s) (entered (counted k n) (Ok w) f) (stepped says (bare_place w) f) (lawful_entered (counted k n) w f h)
+        (same_led w f (entered (counted k n) (Ok w) f) (stepped says (bare_place w) f) (step_same says k n some w f (λ g e. h.reached f g e)))
 
-  -- ---- where no count is used up
-  abbrev pub Fully : Result World RunError → Result Place RunError → Type 0
-  Fully (Ok v) y = y ≡ Ok (bare_place v)
-  Fully (Err (run.Full b m)) y = y ≡ Err (run.Full b m)
-  Fully (Err e) y = ⊥
+    -- ---- where no count is used up
+    abbrev pub Fully : Result World RunError → Result Place RunError → Type 0
+    Fully (Ok v) y = y ≡ Ok (bare_place v)
+    Fully (Err (run.Full b m)) y = y ≡ Err (run.Full b m)
+    Fully (Err e) y = ⊥
 
-  fully_stopped : (e : RunError) (s : List ℕ) (y : Result Place RunError) → Fully (Err e) y → Fully (fold (entered (counted k n)) (Err e) s) (search.run stepped y s)
-  fully_stopped (run.Full b m) s y h =
-      subst (λ x. Fully x (search.run stepped y s)) (sym (core_stays (run.Full b m) s)) (ap (λ x. search.run stepped x s) h ∙ fault_stays (run.Full b m) s)
-  fully_stopped _ s y h = absurd h
+    fully_stopped : (e : RunError) (s : List ℕ) (y : Result Place RunError) → Fully (Err e) y → Fully (fold (entered (counted k n)) (Err e) s) (search.run (stepped says) y s)
+    fully_stopped (run.Full b m) s y h =
+        subst (λ x. Fully x (search.run (stepped says) y s)) (sym (core_stays (run.Full b m) s)) (ap (λ x. search.run (stepped says) x s) h ∙ fault_stays (run.Full b m) s)
+    fully_stopped _ s y h = absurd h
 
-  same_fully : (w : World) (f : ℕ) (x : Result World RunError) (y : Result Place RunError) → (cell_of w.cells f).count < n → Same k n some w f x y → Fully x y
-  same_fully w f (Ok v) y l h = h
-  same_fully w f (Err (run.Full b m)) y l h = h
-  same_fully w f (Err (run.Spent g)) y l h = absurd (omega (arith, l, h))
-  same_fully w f _ y l h = absurd h
+    same_fully : (w : World) (f : ℕ) (x : Result World RunError) (y : Result Place RunError) → (cell_of w.cells f).count < n → Same says k n some w f x y → Fully x y
+    same_fully w f (Ok v) y l h = h
+    same_fully w f (Err (run.Full b m)) y l h = h
+    same_fully w f (Err (run.Spent g)) y l h = absurd (omega (arith, l, h))
+    same_fully w f _ y l h = absurd h
 
-  fully_next : (s : List ℕ) (m : ℕ) → ((w : World) → Lawful w → AtMost m w.cells → Fully (fold (entered (counted k n)) (Ok w) s) (search.run stepped (Ok (bare_place w)) s)) →
-      (x : Result World RunError) (y : Result Place RunError) → IfWorld Lawful x → IfWorld (λ v. AtMost m v.cells) x → Fully x y →
-      Fully (fold (entered (counted k n)) x s) (search.run stepped y s)
-  fully_next s m rest (Ok v) y law counts h = subst (λ z. Fully (fold (entered (counted k n)) (Ok v) s) (search.run stepped z s)) (sym h) (rest v law counts)
-  fully_next s m rest (Err e) y law counts h = fully_stopped e s y h
+    fully_next : (s : List ℕ) (m : ℕ) → ((w : World) → Lawful w → AtMost m w.cells → Fully (fold (entered (counted k n)) (Ok w) s) (search.run (stepped says) (Ok (bare_place w)) s)) →
+        (x : Result World RunError) (y : Result Place RunError) → IfWorld Lawful x → IfWorld (λ v. AtMost m v.cells) x → Fully x y →
+        Fully (fold (entered (counted k n)) x s) (search.run (stepped says) y s)
+    fully_next s m rest (Ok v) y law counts h = subst (λ z. Fully (fold (entered (counted k n)) (Ok v) s) (search.run (stepped says) z s)) (sym h) (rest v law counts)
+    fully_next s m rest (Err e) y law counts h = fully_stopped e s y h
 
-  pub fully : (s : List ℕ) (m : ℕ) → m + length s ≤ n → (w : World) → Lawful w → AtMost m w.cells →
-      Fully (fold (entered (counted k n)) (Ok w) s) (search.run stepped (Ok (bare_place w)) s)
-  fully [] m l w h counts = refl
-  fully (f ∷ s) m l w h counts =
-      let here = counts f in
-      fully_next s (suc m) (λ v law more. fully s (suc m) (omega arith) v law more) (entered (counted k n) (Ok w) f) (stepped (bare_place w) f)
-      (lawful_entered (counted k n) w f h) (count_entered (counted k n) w f m counts)
-      (same_fully w f (entered (counted k n) (Ok w) f) (stepped (bare_place w) f) (omega arith) (step_same k n some w f (λ g e. h.reached f g e)))
+    pub fully : (s : List ℕ) (m : ℕ) → m + length s ≤ n → (w : World) → Lawful w → AtMost m w.cells →
+        Fully (fold (entered (counted k n)) (Ok w) s) (search.run (stepped says) (Ok (bare_place w)) s)
+    fully [] m l w h counts = refl
+    fully (f ∷ s) m l w h counts =
+        let here = counts f in
+        fully_next s (suc m) (λ v law more. fully s (suc m) (omega arith) v law more) (entered (counted k n) (Ok w) f) (stepped says (bare_place w) f)
+        (lawful_entered (counted k n) w f h) (count_entered (counted k n) w f m counts)
+        (same_fully w f (entered (counted k n) (Ok w) f) (stepped says (bare_place w) f) (omega arith) (step_same says k n some w f (λ g e. h.reached f g e)))
 
 -- ---- the first world
 pub first_lawful : (code : Tree) (k : Limits) → Reached (begins 0 code) → Lawful (first_world code k)
@@ -248,16 +249,17 @@ fresh_counts zero f = omega arith
 fresh_counts (suc n) zero = omega arith
 fresh_counts (suc n) (suc f) = fresh_counts n f
 
-module _ (code : Tree) (k : Limits) (some : 0 < k.count) (first : Reached (begins 0 code)) where
+module _ (says : Bool) (code : Tree) (k : Limits) (some : 0 < k.count) (first : Reached (begins 0 code)) where
   -- where a schedule leads under another count
-  pub core_led : (n : ℕ) (s : List ℕ) → Led k n some (core code (counted k n) s) (search.run stepped (Ok (first_place code k)) s)
+  pub core_led : (n : ℕ) (s : List ℕ) → Led says k n some (core code (counted k n) s) (search.run (stepped says) (Ok (first_place says code k)) s)
   unfolding core
-  core_led n s = led k n some s (first_world code (counted k n)) (first_lawful code (counted k n) first)
+  core_led n s = led says k n some s (first_world code (counted k n)) (first_lawful code (counted k n) first)
 
-  pub core_fully : (n : ℕ) (s : List ℕ) → length s ≤ n → Fully k n some (core code (counted k n) s) (search.run stepped (Ok (first_place code k)) s)
+  pub core_fully : (n : ℕ) (s : List ℕ) → length s ≤ n → Fully says k n some (core code (counted k n) s) (search.run (stepped says) (Ok (first_place says code k)) s)
   unfolding core
-  core_fully n s l = fully k n some s 0 (omega arith) (first_world code (counted k n)) (first_lawful code (counted k n) first) (λ f. fresh_counts k.fibers f)
+  core_fully n s l = fully says k n some s 0 (omega arith) (first_world code (counted k n)) (first_lawful code (counted k n) first) (λ f. fresh_counts k.fibers f)
 
+module _ (code : Tree) (k : Limits) (some : 0 < k.count) (first : Reached (begins 0 code)) where
   abbrev Lawfully : Result World RunError → Type 0
   Lawfully (Ok w) = Lawful w
   Lawfully (Err e) = Unit {0}

@@ -19,18 +19,18 @@ use Rattle.every_outcome.proofs.Leaps.{MayFree, leaps, may_are_free}
 
 -- an own move that sets and changes no ref
 abbrev IsStill : View → ℕ → Type 0
-IsStill v f = MayFree false v.place f
+IsStill v f = MayFree false false v.place f
 
 none_stored : (v : View) (f : ℕ) → IsStill v f → stored_by (slice_get v.place.world.fibers f) ≡ None
 none_stored v f h = no_store (slice_get v.place.world.fibers f) h.may
 
-free_step : (v : View) (f : ℕ) → IsStill v f → viewed stepped v f ≡ seeing v.seen (stepped v.place f)
-free_step v f h = ap (λ s. seeing s (stepped v.place f)) (ap (noted v.seen) (none_stored v f h))
+free_step : (v : View) (f : ℕ) → IsStill v f → viewed (stepped false) v f ≡ seeing v.seen (stepped false v.place f)
+free_step v f h = ap (λ s. seeing s (stepped false v.place f)) (ap (noted v.seen) (none_stored v f h))
 
-free_is : (v : View) (f : ℕ) (x : View) → IsStill v f → viewed stepped v f ≡ Ok x → (stepped v.place f ≡ Ok x.place) × (x.seen ≡ v.seen)
-free_is v f x h e = seeing_is v.seen (stepped v.place f) x (sym (free_step v f h) ∙ e)
+free_is : (v : View) (f : ℕ) (x : View) → IsStill v f → viewed (stepped false) v f ≡ Ok x → (stepped false v.place f ≡ Ok x.place) × (x.seen ≡ v.seen)
+free_is v f x h e = seeing_is v.seen (stepped false v.place f) x (sym (free_step v f h) ∙ e)
 
-module _ (v : View) (f g : ℕ) (x : View) (h : IsStill v f) (e : viewed stepped v f ≡ Ok x) (apart : g ≢ f) where
+module _ (v : View) (f g : ℕ) (x : View) (h : IsStill v f) (e : viewed (stepped false) v f ≡ Ok x) (apart : g ≢ f) where
   abbrev then_seen : List ℕ
   then_seen = noted v.seen (stored_by (slice_get v.place.world.fibers g))
 
@@ -38,9 +38,9 @@ module _ (v : View) (f g : ℕ) (x : View) (h : IsStill v f) (e : viewed stepped
   behind_same =
       let is = free_is v f x h e in
       ap₂ (λ (s : List ℕ) (o : Option Fiber). noted s (stored_by o)) is.1
-      (ap (λ (p : Place). slice_get p.world.fibers g) (step_goes_to v.place f h.free x.place is.0) ∙ same_after v.place f h.free g apart)
+      (ap (λ (p : Place). slice_get p.world.fibers g) (step_goes_to false v.place f h.free x.place is.0) ∙ same_after false v.place f h.free g apart)
 
-  commute_by : (y : Result Place RunError) → Commutes stepped (MayFree false) f x.place g y → Commutes (viewed stepped) IsStill f x g (seeing then_seen y)
+  commute_by : (y : Result Place RunError) → Commutes (stepped false) (MayFree false false) f x.place g y → Commutes (viewed (stepped false)) IsStill f x g (seeing then_seen y)
   commute_by (Ok y) pair =
       let z : View = record { place = pair.1; seen = then_seen } in
       let there : View = record { place = y; seen = then_seen } in (
@@ -51,42 +51,43 @@ module _ (v : View) (f g : ℕ) (x : View) (h : IsStill v f) (e : viewed stepped
       )
   commute_by (Err d) pair = ap₂ seeing behind_same pair
 
-free_views : AreFree (viewed stepped) IsStill
+free_views : AreFree (viewed (stepped false)) IsStill
 free_views = record {
   goes = λ v f h.
-      let q = (may_are_free false).goes v.place f h in
+      let q = (may_are_free false false).goes v.place f h in
       (record { place = q.0; seen = v.seen }, free_step v f h ∙ ap (seeing v.seen) q.1);
   commutes = λ v f x h e g apart.
       let is = free_is v f x h e in
-      commute_by v f g x h e apart (stepped v.place g) ((may_are_free false).commutes v.place f x.place h is.0 g apart);
+      commute_by v f g x h e apart (stepped false v.place g) ((may_are_free false false).commutes v.place f x.place h is.0 g apart);
 }
 
-led_views : (seen : List ℕ) (a b : Place) → Leads stepped (MayFree false) a b →
-    Leads (viewed stepped) IsStill (record { place = a; seen = seen }) (record { place = b; seen = seen })
+led_views : (seen : List ℕ) (a b : Place) → Leads (stepped false) (MayFree false false) a b →
+    Leads (viewed (stepped false)) IsStill (record { place = a; seen = seen }) (record { place = b; seen = seen })
 led_views seen a b (Here x y same) = Here _ _ (ap (λ (p : Place). let v : View = record { place = p; seen = seen } in v) same)
 led_views seen a b (On x f y z h e on) =
     On _ f (record { place = y; seen = seen }) _ h (free_step (record { place = x; seen = seen }) f h ∙ ap (seeing seen) e) (led_views seen y z on)
 
-leaps_seeing : (seen : List ℕ) (y z : Result Place RunError) → Leaps stepped (MayFree false) y z →
-    Leaps (viewed stepped) IsStill (seeing seen y) (seeing seen z)
+leaps_seeing : (seen : List ℕ) (y z : Result Place RunError) → Leaps (stepped false) (MayFree false false) y z →
+    Leaps (viewed (stepped false)) IsStill (seeing seen y) (seeing seen z)
 leaps_seeing seen (Ok x) z h =
     (record { place = h.0; seen = seen }, led_views seen x h.0 h.1, ap (seeing seen) h.2)
 leaps_seeing seen (Err d) z h = ap (seeing seen) h
 
-leaps_views : (v : View) (f : ℕ) → Leaps (viewed stepped) IsStill (viewed stepped v f) (viewed (leapt false) v f)
+leaps_views : (v : View) (f : ℕ) → Leaps (viewed (stepped false)) IsStill (viewed (stepped false) v f) (viewed (leapt false false) v f)
 leaps_views v f =
-    leaps_seeing (noted v.seen (stored_by (slice_get v.place.world.fibers f))) (stepped v.place f) (leapt false v.place f) (leaps false v.place f)
+    leaps_seeing (noted v.seen (stored_by (slice_get v.place.world.fibers f))) (stepped false v.place f) (leapt false false v.place f) (leaps false false v.place f)
 
-keeps_claims : (words : List ClaimWord) (v : View) (f : ℕ) (x : View) → IsStill v f → viewed stepped v f ≡ Ok x → is_met GoesOn x words ≡ is_met GoesOn v words
+keeps_claims : (words : List ClaimWord) (v : View) (f : ℕ) (x : View) → IsStill v f → viewed (stepped false) v f ≡ Ok x → is_met GoesOn x words ≡ is_met GoesOn v words
 keeps_claims words v f x h e =
     let is = free_is v f x h e in
     ap₂ (λ (seen : List ℕ) (t : Bool). are_seen seen words && t) is.1
-    (holds_refs GoesOn x.place.world.cells v.place.world.cells (refs_after v.place f h.free x.place (none_stored v f h) is.0) words)
+    (holds_refs GoesOn x.place.world.cells v.place.world.cells (refs_after false v.place f h.free x.place (none_stored v f h) is.0) words)
 
 -- a claim that no world of the reduced search meets is met by no world
 pub unmet_all : (words : List ClaimWord) (first : View) →
-    ((t : List ℕ) (w : View) → run (viewed (leapt false)) (Ok first) t ≡ Ok w → is_met GoesOn w words ≡ false) →
-    (s : List ℕ) (w : View) → run (viewed stepped) (Ok first) s ≡ Ok w → is_met GoesOn w words ≡ false
+    ((t : List ℕ) (w : View) → run (viewed (leapt false false)) (Ok first) t ≡ Ok w → is_met GoesOn w words ≡ false) →
+    (s : List ℕ) (w : View) → run (viewed (stepped false)) (Ok first) s ≡ Ok w → is_met GoesOn w words ≡ false
 unmet_all words first none s w led =
-    unmet_up (viewed stepped) IsStill (early (viewed stepped) IsStill free_views) (viewed (leapt false)) leaps_views (λ v. is_met GoesOn v words)
+    unmet_up (viewed (stepped false)) IsStill (early (viewed (stepped false)) IsStill free_views) (viewed (leapt false false)) leaps_views
+    (λ v. is_met GoesOn v words)
     (keeps_claims words) first none s w led

@@ -19,24 +19,25 @@ few_append xs ys a b = all_from (λ f. f < 1000) (xs ++ ys) (λ i x e. elim (par
   | inr h ↦ all_at (λ f. f < 1000) ys h.0 x h.2 b
 ])
 
-pub trail_none : (old : List ℕ) (p : Place) → IsTrail old old p (Ok p)
-trail_none old p = record { added = []; is = sym (append-nil old); leads = refl; few = none_few }
+module _ (says : Bool) where
+  pub trail_none : (old : List ℕ) (p : Place) → IsTrail says old old p (Ok p)
+  trail_none old p = record { added = []; is = sym (append-nil old); leads = refl; few = none_few }
 
-pub trail_one : (old : List ℕ) (p : Place) (f : ℕ) (y : Result Place RunError) → f < 1000 → stepped p f ≡ y → IsTrail old (old ++ f ∷ []) p y
-trail_one old p f y low e = record { added = f ∷ []; is = refl; leads = e; few = All-push (λ g. g < 1000) [] f none_few low }
+  pub trail_one : (old : List ℕ) (p : Place) (f : ℕ) (y : Result Place RunError) → f < 1000 → stepped says p f ≡ y → IsTrail says old (old ++ f ∷ []) p y
+  trail_one old p f y low e = record { added = f ∷ []; is = refl; leads = e; few = All-push (λ g. g < 1000) [] f none_few low }
 
-pub trail_more : (old mid new : List ℕ) (p q : Place) (y : Result Place RunError) → IsTrail old mid p (Ok q) → IsTrail mid new q y → IsTrail old new p y
-trail_more old mid new p q y a b = record {
-  added = a.added ++ b.added;
-  is = b.is ∙ ap (λ l. l ++ b.added) a.is ∙ append_assoc old a.added b.added;
-  leads = run-append stepped (Ok p) a.added b.added ∙ ap (λ x. run stepped x b.added) a.leads ∙ b.leads;
-  few = few_append a.added b.added a.few b.few;
-}
+  pub trail_more : (old mid new : List ℕ) (p q : Place) (y : Result Place RunError) → IsTrail says old mid p (Ok q) → IsTrail says mid new q y → IsTrail says old new p y
+  trail_more old mid new p q y a b = record {
+    added = a.added ++ b.added;
+    is = b.is ∙ ap (λ l. l ++ b.added) a.is ∙ append_assoc old a.added b.added;
+    leads = run-append (stepped says) (Ok p) a.added b.added ∙ ap (λ x. run (stepped says) x b.added) a.leads ∙ b.leads;
+    few = few_append a.added b.added a.few b.few;
+  }
 
--- the whole trail
-pub trail_whole : (stores : Bool) (first : Place) (schedule new : List ℕ) (y : Result Place RunError) → IsTrail [] new first y →
-    run (leapt stores) (Ok first) schedule ≡ y → IsUnfolded stores first schedule new
-trail_whole stores first schedule new y t e = subst (IsUnfolded stores first schedule) (sym t.is) (record { leads = t.leads ∙ sym e; few = t.few })
+  -- the whole trail
+  pub trail_whole : (stores : Bool) (first : Place) (schedule new : List ℕ) (y : Result Place RunError) → IsTrail says [] new first y →
+      run (leapt says stores) (Ok first) schedule ≡ y → IsUnfolded says stores first schedule new
+  trail_whole stores first schedule new y t e = subst (IsUnfolded says stores first schedule) (sym t.is) (record { leads = t.leads ∙ sym e; few = t.few })
 
 -- an error other than `e` is the fault
 pub refused_with : (d e : RunError) (P : Type 0) → (d ≡ e → ⊥) → (d ≡ e) ⊎ P → P

@@ -1,3 +1,4 @@
+pub mod Bare
 pub mod Keeping
 pub mod Reduced
 pub mod Telling

@@ -28,7 +28,7 @@ use world_search::{Claims, Entered, Landing, Worlds};
 /// A world, and the refs that were set before, in the order of their first sets.
 #[derive(Drop)]
 pub(crate) struct ClaimWorld {
-    world: SeenWorld,
+    world: SeenWorld<0>,
     seen: Vec<u16>,
 }
 
@@ -50,18 +50,18 @@ impl ClaimWorld {
     // The world of a program before the first move.
     fn first(alloc: Global, program: &Program, limits: Limits) -> Result<ClaimWorld, AllocError>
         requires { AreLimits limits }
-        ensures first { IfOk result (λ w. w ≡ first_view (first_place (code_of (source_of program.now)) limits)) }
+        ensures first { IfOk result (λ w. w ≡ first_view (first_place false (code_of (source_of program.now)) limits)) }
         ensures reached { IfOk result (λ w. Reached (begins 0 (code_of (source_of program.now)))) }
     {
-        let world = SeenWorld::first(alloc, program, limits)?;
+        let world = SeenWorld::<0>::first(alloc, program, limits)?;
         let seen = Vec::new(alloc);
         Ok(ClaimWorld { world, seen })
     }
 
     // The world after the entry of a fiber and the own moves that follow, none of which sets or changes a ref.
     fn after(&self, alloc: Global, fiber: u16) -> Result<ClaimWorld, RunError>
-        ensures goes { IfOk result (λ w. viewed (leapt false) self.now fiber ≡ GoesWell w) }
-        ensures stops { IfErr result (λ e. (e ≡ RunError.NoMemory) ⊎ (viewed (leapt false) self.now fiber ≡ Fails e)) }
+        ensures goes { IfOk result (λ w. viewed (leapt false false) self.now fiber ≡ GoesWell w) }
+        ensures stops { IfErr result (λ e. (e ≡ RunError.NoMemory) ⊎ (viewed (leapt false false) self.now fiber ≡ Fails e)) }
     {
         let seen = seen_after(alloc, self.seen.as_slice(), self.world.stored_by(fiber))?;
         let world = self.world.after(alloc, fiber, false)?;
@@ -70,7 +70,7 @@ impl ClaimWorld {
 
     // The number of fibers that were started. An entry of another fiber changes nothing.
     fn born(&self) -> u16
-        ensures rests { (f : ℕ) → result ≤ f → viewed (leapt false) self.now f ≡ GoesWell self.now }
+        ensures rests { (f : ℕ) → result ≤ f → viewed (leapt false false) self.now f ≡ GoesWell self.now }
         ensures most { result ≤ 1000 }
     {
         self.world.born()
@@ -142,7 +142,7 @@ impl ClaimWorlds {
     ) -> Result<ClaimWorlds, AllocError>
         requires { AreLimits limits }
         ensures views { IfOk result (λ s. s.views ≡
-            first_view (first_place (code_of (source_of program.now)) limits) ∷ []) }
+            first_view (first_place false (code_of (source_of program.now)) limits) ∷ []) }
         ensures reached { IfOk result (λ _. Reached (begins 0 (code_of (source_of program.now)))) }
     {
         let first = ClaimWorld::first(alloc, program, limits)?;
@@ -221,7 +221,7 @@ impl Worlds for ClaimWorlds {
 
     ghost faults = { λ s. s.faults };
 
-    ghost step = { viewed (leapt false) };
+    ghost step = { viewed (leapt false false) };
 
     ghost report = { λ v. tt };
 

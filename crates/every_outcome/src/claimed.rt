@@ -11,7 +11,7 @@ ghost use Rattle.every_schedule.specs.Claims.{IsMetIn, Meets};
 ghost use Rattle.every_outcome.specs.Outcomes.{counted};
 
 use crate::claim_worlds::ClaimWorlds;
-use crate::exploring::GREATEST_COUNT;
+use crate::reporting::GREATEST_COUNT;
 use crate::unfolding::unfold;
 use cell_registry::{Limits, RunError};
 use effect_term::Program;

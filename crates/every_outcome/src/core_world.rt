@@ -1,5 +1,5 @@
 //! One world of the core.
-ghost use Rattle.std.specs.Prelude.{◌≡◌, ◌⊎◌, ℕ, IfOk, IfErr, OnOk, Some};
+ghost use Rattle.std.specs.Prelude.{◌≡◌, ◌⊎◌, ℕ, Bool, IfOk, IfErr, OnOk, Some};
 ghost use Rattle.std.specs.Prelude.{Ok as GoesWell, Err as Fails};
 ghost use Rattle.std.specs.List.{slice_get};
 ghost use Rattle.derived_ops.specs.Expansion.{code_of};
@@ -51,7 +51,8 @@ impl CoreWorld {
         limits: Limits,
     ) -> Result<CoreWorld, AllocError>
         requires { AreLimits limits }
-        ensures first { IfOk result (λ w. unmarked_place w ≡ first_place (code_of (source_of program.now)) limits) }
+        ensures first { IfOk result (λ w. (says : Bool) →
+            unmarked_place says w ≡ first_place says (code_of (source_of program.now)) limits) }
         ensures fits { IfOk result (λ w. AllFit w.world) }
         ensures reached { IfOk result (λ _. Reached (begins 0 (code_of (source_of program.now)))) }
     {
@@ -81,9 +82,10 @@ impl CoreWorld {
     pub(crate) fn enter(&mut self, fiber: u16) -> Result<(), RunError>
         requires { AllFit self.old.world }
         ensures fits { OnOk result (AllFit self.new.world) }
-        ensures goes { OnOk result (stepped (unmarked_place self.old) fiber ≡ GoesWell (unmarked_place self.new)) }
+        ensures goes { OnOk result ((says : Bool) →
+            stepped says (unmarked_place says self.old) fiber ≡ GoesWell (unmarked_place says self.new)) }
         ensures stops { IfErr result (λ e. (e ≡ RunError.NoMemory) ⊎
-            (stepped (unmarked_place self.old) fiber ≡ Fails e)) }
+            ((says : Bool) → stepped says (unmarked_place says self.old) fiber ≡ Fails e)) }
     {
         // The registry is within its limits, and the fiber is reached.
         facts_of(self.registry.limits());

@@ -1,5 +1,5 @@
 //! Lists the outcomes that a program can have under every schedule.
-ghost use Rattle.std.specs.Prelude.{◌≡◌, ◌<◌, ◌≤◌, ◌++◌, ℕ, List, [], ◌∷◌, max, IfOk, IfErr, OnOk, true, false};
+ghost use Rattle.std.specs.Prelude.{◌≡◌, ◌<◌, ◌≤◌, ℕ, List, max, IfOk, IfErr, true, false};
 ghost use Rattle.std.specs.Prelude.{Ok as GoesWell};
 ghost use Rattle.std.specs.List.{All};
 ghost use Rattle.derived_ops.specs.Expansion.{code_of};
@@ -10,17 +10,14 @@ ghost use Rattle.scheduled_core.specs.Finals.{IsSettled};
 ghost use Rattle.world_search.specs.Answers.{IsAtBound};
 ghost use Rattle.every_outcome.specs.Outcomes.{IsCovered, IsListed, IsReached, ListOnce, counted};
 ghost use Rattle.every_outcome.specs.Outcomes.{outcomes};
-ghost use Rattle.every_outcome.specs.Places.{first_place};
-ghost use Rattle.every_outcome.specs.Private.Keeping.{AreSingle};
-ghost use Rattle.every_outcome.specs.Private.Telling.{AreTold, IsEnd, IsTold, IsWithin};
 
-use crate::outcomes::{OutcomeAnswer, OutcomeExploration, Outcomes, Schedule};
-use crate::unfolding::unfold;
-use crate::worlds::SeenWorlds;
+use crate::bare_answers::bare_answers;
+use crate::outcomes::OutcomeExploration;
+use crate::reporting::search_reports;
 use cell_registry::{Limits, RunError};
-use effect_term::{Program, facts_of};
-use std::alloc::{AllocError, Global};
-use world_search::{Bounds, Landing, Watcher, search};
+use effect_term::Program;
+use std::alloc::Global;
+use world_search::{Bounds, Watcher};
 
 /// Lists the outcomes that a program can have under every schedule and every count of changes: the outcomes that no
 /// further entry changes, and the bands of numbers that can be used up. Each comes with a schedule that leads to it.
@@ -65,14 +62,8 @@ pub fn explore_outcomes<V: Watcher>(
     ensures numbers { IfOk result (λ it. All (λ a. All (λ f. f < 1000) a.schedule) it.answers.items) }
     ensures memory { IfErr result (λ e. e ≡ RunError.NoMemory) }
 {
-    // The count has no effect on the answers. The search uses the greatest one, which no fiber uses up.
-    let explored = Limits {
-        count: GREATEST_COUNT,
-        ..limits
-    };
-    let mut worlds = SeenWorlds::new(alloc, program, explored)?;
-    let found = search(alloc, &mut worlds, bounds, watcher)?;
-    let answers = told(alloc, program, explored, &worlds, found.answers)?;
+    let found = search_reports::<0, V>(alloc, program, limits, bounds, watcher)?;
+    let answers = bare_answers(alloc, found.answers.as_slice())?;
     Ok(OutcomeExploration {
         answers,
         worlds: found.worlds,
@@ -80,73 +71,4 @@ pub fn explore_outcomes<V: Watcher>(
         complete: found.complete,
         halted: found.halted,
     })
-}
-
-/// The greatest count that limits can have.
-pub(crate) const GREATEST_COUNT: u64 = (1 << 40) - 1;
-
-// The answers of a search, each with its outcomes or fault.
-fn told(
-    alloc: Global,
-    program: &Program,
-    limits: Limits,
-    worlds: &SeenWorlds,
-    found: Vec<world_search::Answer>,
-) -> Result<Vec<OutcomeAnswer>, RunError>
-    requires limits { AreLimits limits }
-    requires within { All (λ a. IsWithin worlds.now a.end) found.items }
-    ensures told { IfOk result (λ answers. AreTold worlds.now (first_place (code_of (source_of program.now)) limits)
-        found.items answers.items) }
-    ensures single { AreSingle worlds.now.faults }
-    ensures memory { IfErr result (λ e. e ≡ RunError.NoMemory) }
-{
-    // No fault was kept twice.
-    facts_of(worlds.many_faults());
-    let mut answers = Vec::new(alloc);
-    for it in found {
-        let one = answer(alloc, program, limits, worlds, it)?;
-        add(&mut answers, one)?;
-    }
-    Ok(answers)
-}
-
-// Adds an answer.
-fn add(answers: &mut Vec<OutcomeAnswer>, one: OutcomeAnswer) -> Result<(), AllocError>
-    ensures { OnOk result (answers.new.items ≡ answers.old.items ++ one ∷ []) }
-{
-    answers.push(one)?;
-    Ok(())
-}
-
-// An answer of a search, with its outcomes or fault, and with each move as an entry of its schedule.
-fn answer(
-    alloc: Global,
-    program: &Program,
-    limits: Limits,
-    worlds: &SeenWorlds,
-    found: world_search::Answer,
-) -> Result<OutcomeAnswer, RunError>
-    requires limits { AreLimits limits }
-    requires within { IsWithin worlds.now found.end }
-    ensures told { IfOk result (λ answer.
-        IsTold worlds.now (first_place (code_of (source_of program.now)) limits) found answer) }
-    ensures memory { IfErr result (λ e. e ≡ RunError.NoMemory) }
-{
-    let end = end(worlds, found.end)?;
-    let schedule = unfold(alloc, program, limits, found.schedule.as_slice(), true)?;
-    Ok(OutcomeAnswer {
-        schedule: Schedule::new(schedule),
-        end,
-    })
-}
-
-// The outcomes of a world that was found, or a fault.
-fn end(worlds: &SeenWorlds, found: Landing) -> Result<Result<Outcomes, RunError>, AllocError>
-    requires { IsWithin worlds.now found }
-    ensures { IfOk result (λ end. IsEnd worlds.now found end) }
-{
-    match found {
-        Landing::World(world) => Ok(Ok(worlds.outcomes(world)?)),
-        Landing::Fault(number) => Ok(Err(worlds.fault(number))),
-    }
 }

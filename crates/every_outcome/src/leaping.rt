@@ -1,5 +1,5 @@
 //! Entries with own moves after them.
-ghost use Rattle.std.specs.Prelude.{◌≡◌, ◌⊎◌, ◌++◌, ◌<◌, ◌≤◌, [], ◌∷◌, length, false, IfErr, IfOk, OnOk};
+ghost use Rattle.std.specs.Prelude.{◌≡◌, ◌⊎◌, Bool, ◌++◌, ◌<◌, ◌≤◌, [], ◌∷◌, length, false, IfErr, IfOk, OnOk};
 ghost use Rattle.std.specs.Prelude.{Ok as GoesWell, Err as Fails};
 ghost use Rattle.scheduled_core.specs.Fitting.{AllFit};
 ghost use Rattle.every_outcome.specs.Places.{unmarked_place};
@@ -29,12 +29,13 @@ pub(crate) fn leap(
 ) -> Result<(), RunError>
     requires { AllFit world.old.world }
     ensures fits { OnOk result (AllFit world.new.world) }
-    ensures goes { OnOk result (leapt stores (unmarked_place world.old) fiber ≡ GoesWell (unmarked_place world.new)) }
-    ensures trail { OnOk result (IsTrail trail.old.items trail.new.items (unmarked_place world.old)
-        (GoesWell (unmarked_place world.new))) }
-    ensures stops { IfErr result (λ e. (e ≡ RunError.NoMemory) ⊎
-        ((leapt stores (unmarked_place world.old) fiber ≡ Fails e) ×
-        IsTrail trail.old.items trail.new.items (unmarked_place world.old) (Fails e))) }
+    ensures goes { OnOk result ((says : Bool) →
+        leapt says stores (unmarked_place says world.old) fiber ≡ GoesWell (unmarked_place says world.new)) }
+    ensures trail { OnOk result ((says : Bool) → IsTrail says trail.old.items trail.new.items
+        (unmarked_place says world.old) (GoesWell (unmarked_place says world.new))) }
+    ensures stops { IfErr result (λ e. (e ≡ RunError.NoMemory) ⊎ ((says : Bool) →
+        (leapt says stores (unmarked_place says world.old) fiber ≡ Fails e) ×
+        IsTrail says trail.old.items trail.new.items (unmarked_place says world.old) (Fails e))) }
 {
     if usize::from(fiber) >= few_born(&*world) {
         return Ok(());
@@ -68,9 +69,10 @@ fn add(trail: &mut Vec<u16>, fiber: u16) -> Result<(), AllocError>
 fn push(world: &mut CoreWorld, stores: bool, trail: &mut Vec<u16>) -> Result<(), AllocError>
     requires { AllFit world.old.world }
     ensures fits { OnOk result (AllFit world.new.world) }
-    ensures goes { OnOk result (unmarked_place world.new ≡ pushed stores 12 (unmarked_place world.old)) }
-    ensures trail { OnOk result (IsTrail trail.old.items trail.new.items (unmarked_place world.old)
-        (GoesWell (unmarked_place world.new))) }
+    ensures goes { OnOk result ((says : Bool) →
+        unmarked_place says world.new ≡ pushed says stores 12 (unmarked_place says world.old)) }
+    ensures trail { OnOk result ((says : Bool) → IsTrail says trail.old.items trail.new.items
+        (unmarked_place says world.old) (GoesWell (unmarked_place says world.new))) }
 {
     for _round in 0..ROUNDS {
         let moved = push_once(&mut *world, stores, &mut *trail)?;
@@ -85,11 +87,12 @@ fn push(world: &mut CoreWorld, stores: bool, trail: &mut Vec<u16>) -> Result<(),
 fn push_once(world: &mut CoreWorld, stores: bool, trail: &mut Vec<u16>) -> Result<bool, AllocError>
     requires { AllFit world.old.world }
     ensures fits { OnOk result (AllFit world.new.world) }
-    ensures goes { OnOk result (unmarked_place world.new ≡ pushed_once stores (unmarked_place world.old)) }
-    ensures stays { IfOk result (λ it. it ≡ false →
-        pushed_once stores (unmarked_place world.new) ≡ unmarked_place world.new) }
-    ensures trail { OnOk result (IsTrail trail.old.items trail.new.items (unmarked_place world.old)
-        (GoesWell (unmarked_place world.new))) }
+    ensures goes { OnOk result ((says : Bool) →
+        unmarked_place says world.new ≡ pushed_once says stores (unmarked_place says world.old)) }
+    ensures stays { IfOk result (λ it. it ≡ false → (says : Bool) →
+        pushed_once says stores (unmarked_place says world.new) ≡ unmarked_place says world.new) }
+    ensures trail { OnOk result ((says : Bool) → IsTrail says trail.old.items trail.new.items
+        (unmarked_place says world.old) (GoesWell (unmarked_place says world.new))) }
 {
     let born = few_born(&*world);
     let mut moved = false;
@@ -119,10 +122,12 @@ fn push_on(
     requires few { fiber < 1000 }
     requires fits { AllFit world.old.world }
     ensures fits { OnOk result (AllFit world.new.world) }
-    ensures goes { OnOk result (unmarked_place world.new ≡ moved_on stores 50 fiber (unmarked_place world.old)) }
-    ensures stays { IfOk result (λ it. it ≡ false → unmarked_place world.new ≡ unmarked_place world.old) }
-    ensures trail { OnOk result (IsTrail trail.old.items trail.new.items (unmarked_place world.old)
-        (GoesWell (unmarked_place world.new))) }
+    ensures goes { OnOk result ((says : Bool) →
+        unmarked_place says world.new ≡ moved_on says stores 50 fiber (unmarked_place says world.old)) }
+    ensures stays { IfOk result (λ it. it ≡ false → (says : Bool) →
+        unmarked_place says world.new ≡ unmarked_place says world.old) }
+    ensures trail { OnOk result ((says : Bool) → IsTrail says trail.old.items trail.new.items
+        (unmarked_place says world.old) (GoesWell (unmarked_place says world.new))) }
 {
     let mut moved = false;
     for _again in 0..MOST {
@@ -148,10 +153,12 @@ fn push_fiber(
     requires few { fiber < 1000 }
     requires fits { AllFit world.old.world }
     ensures fits { OnOk result (AllFit world.new.world) }
-    ensures goes { OnOk result (unmarked_place world.new ≡ after_own stores (unmarked_place world.old) fiber) }
-    ensures stays { IfOk result (λ it. it ≡ false → unmarked_place world.new ≡ unmarked_place world.old) }
-    ensures trail { OnOk result (IsTrail trail.old.items trail.new.items (unmarked_place world.old)
-        (GoesWell (unmarked_place world.new))) }
+    ensures goes { OnOk result ((says : Bool) →
+        unmarked_place says world.new ≡ after_own says stores (unmarked_place says world.old) fiber) }
+    ensures stays { IfOk result (λ it. it ≡ false → (says : Bool) →
+        unmarked_place says world.new ≡ unmarked_place says world.old) }
+    ensures trail { OnOk result ((says : Bool) → IsTrail says trail.old.items trail.new.items
+        (unmarked_place says world.old) (GoesWell (unmarked_place says world.new))) }
 {
     if !may_move(&*world, fiber, stores) {
         return Ok(false);

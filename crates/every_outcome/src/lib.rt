@@ -7,6 +7,9 @@
 //! influence. The crate promises that a complete search lists the outcomes of each settled world under every count of
 //! changes, and that the schedule of each answer leads to it.
 //!
+//! A search can keep *says*, marks of two kinds: the values that a fiber said, and the codes that were dropped
+//! (`explore_says`). Worlds with different says are then two, and so are answers.
+//!
 //! A search for claims checks claims on refs in each of these worlds. There no own move that sets or changes a ref is
 //! made at once. If the search is complete, no schedule leads to a world that meets a claim which it doesn't return.
 //!
@@ -21,6 +24,7 @@
 //! ```
 #![tactic(auto)]
 
+mod bare_answers;
 mod claim_worlds;
 mod claimed;
 mod core_world;
@@ -29,6 +33,9 @@ mod faults;
 mod leaping;
 mod outcomes;
 mod own_moves;
+mod reporting;
+mod saying;
+mod says;
 mod shape;
 mod unfolding;
 mod world;
@@ -38,4 +45,5 @@ pub use claimed::search_outcome_claims;
 pub use every_schedule::{Claim, ClaimWord, Comparison};
 pub use exploring::explore_outcomes;
 pub use outcomes::{OutcomeAnswer, OutcomeExploration, Outcomes, Schedule, shortened};
+pub use saying::explore_says;
 pub use world_search::{Bounds, Claimed, Met, Unwatched, Watcher};

@@ -1,5 +1,5 @@
 //! Own moves: moves that no other fiber can see or influence. The search makes them directly after an entry.
-ghost use Rattle.std.specs.Prelude.{◌≡◌, ◌<◌, Some};
+ghost use Rattle.std.specs.Prelude.{◌≡◌, ◌<◌, ◌&&◌, ◌||◌, Bool, Some, is_none};
 ghost use Rattle.std.specs.List.{slice_get};
 ghost use Rattle.fiber_frames.specs.Reached.{Reached};
 ghost use Rattle.fiber_frames.specs.Uses.{used_place};
@@ -22,15 +22,24 @@ use scheduled_core::Wish;
 /// `stores`, no move that sets or changes a ref is allowed.
 pub(crate) fn may_move(world: &CoreWorld, by: u16, stores: bool) -> bool
     requires { AllFit world.now.world }
-    ensures { result ≡ may_next stores (unmarked_world world.now.world) by }
+    ensures { (says : Bool) → result ≡ may_next stores (unmarked_world says world.now.world) by }
 {
-    has_own_move(world, by) && (stores || stored_by(world, by).is_none())
+    let own = has_own_move(world, by);
+    let stored = stored_by(world, by);
+    is_allowed(own, stored, stores)
+}
+
+// Whether an own move that sets or changes this ref, if there is one, is allowed at once.
+fn is_allowed(own: bool, stored: Option<u16>, stores: bool) -> bool
+    ensures { result ≡ (own && (stores || is_none stored)) }
+{
+    own && (stores || stored.is_none())
 }
 
 /// The ref that the next move of a fiber sets or changes, if there is one.
 pub(crate) fn stored_by(world: &CoreWorld, by: u16) -> Option<u16>
     requires { AllFit world.now.world }
-    ensures { result ≡ the_stored_by (slice_get (unmarked_world world.now.world).fibers by) }
+    ensures { (says : Bool) → result ≡ the_stored_by (slice_get (unmarked_world says world.now.world).fibers by) }
 {
     match world.fibers().get(usize::from(by)) {
         None => None,
@@ -41,7 +50,7 @@ pub(crate) fn stored_by(world: &CoreWorld, by: u16) -> Option<u16>
 /// Whether the next move of a fiber enters a mask.
 pub(crate) fn enters_mask(world: &CoreWorld, by: u16) -> bool
     requires { AllFit world.now.world }
-    ensures { result ≡ masks_next (slice_get (unmarked_world world.now.world).fibers by) }
+    ensures { (says : Bool) → result ≡ masks_next (slice_get (unmarked_world says world.now.world).fibers by) }
 {
     match world.fibers().get(usize::from(by)) {
         None => false,
@@ -76,7 +85,7 @@ fn is_mask_call(call: Call) -> bool
 // Whether the fiber of this number was started, and its next move is an own move.
 fn has_own_move(world: &CoreWorld, by: u16) -> bool
     requires { AllFit world.now.world }
-    ensures { result ≡ owns_next (unmarked_world world.now.world) by }
+    ensures { (says : Bool) → result ≡ owns_next (unmarked_world says world.now.world) by }
 {
     match world.fibers().get(usize::from(by)) {
         None => false,

@@ -1,5 +1,5 @@
 //! The schedules of a search, with each own move as an entry.
-ghost use Rattle.std.specs.Prelude.{◌≡◌, ◌≢◌, false, IfErr, IfOk};
+ghost use Rattle.std.specs.Prelude.{◌≡◌, ◌≢◌, Bool, false, IfErr, IfOk};
 ghost use Rattle.derived_ops.specs.Expansion.{code_of};
 ghost use Rattle.derived_ops.specs.Reading.{source_of};
 ghost use Rattle.cell_registry.specs.Cells.{AreLimits};
@@ -21,8 +21,8 @@ pub(crate) fn unfold(
     stores: bool,
 ) -> Result<Vec<u16>, RunError>
     requires { AreLimits limits }
-    ensures entries { IfOk result (λ it.
-        IsUnfolded stores (first_place (code_of (source_of program.now)) limits) schedule.now it.items) }
+    ensures entries { IfOk result (λ it. (says : Bool) →
+        IsUnfolded says stores (first_place says (code_of (source_of program.now)) limits) schedule.now it.items) }
     ensures memory { IfErr result (λ e. e ≡ RunError.NoMemory) }
 {
     let mut world = CoreWorld::first(alloc, program, limits)?;

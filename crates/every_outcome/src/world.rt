@@ -9,55 +9,57 @@ ghost use Rattle.fiber_frames.specs.Fiber.{begins, outcome_of};
 ghost use Rattle.fiber_frames.specs.Reached.{Reached};
 ghost use Rattle.cell_registry.specs.Cells.{AreLimits};
 ghost use Rattle.scheduled_core.specs.Fitting.{AllFit};
-ghost use Rattle.every_outcome.specs.Places.{first_place, outcomes_at, unmarked_place};
+ghost use Rattle.every_outcome.specs.Places.{first_place, report_at, unmarked_place, with_says};
 ghost use Rattle.every_outcome.specs.Private.Reduced.{leapt};
 
 use crate::core_world::CoreWorld;
 use crate::leaping::leap;
 use crate::own_moves::stored_by;
+use crate::says::reports_of;
 use crate::shape::WorldShape;
 use cell_registry::{Limits, RunError};
-use effect_term::{Outcome, Program, facts_of};
+use effect_term::{Program, facts_of};
 use every_schedule::{Claim, Progress};
 use fiber_frames::Config;
-use scheduled_core::outcome;
+use scheduled_core::{FiberReports, Report, outcome};
 use std::alloc::{AllocError, Global};
 use std::marker::Model;
 
-/// A world of the core, and its shape. Contracts see the shape.
+/// A world of the core, and its shape. Contracts see the shape. With 1 for `SAYS` the shape has the says of the fibers,
+/// with 0 it has no marks.
 #[derive(Drop)]
-pub(crate) struct SeenWorld {
+pub(crate) struct SeenWorld<const SAYS: u8> {
     core: CoreWorld,
     shape: WorldShape,
 }
 
-impl Model for SeenWorld {
+impl<const SAYS: u8> Model for SeenWorld<SAYS> {
     ghost use Rattle.std.specs.Prelude.{◌≡◌};
     ghost use Rattle.std.specs.Coded.{codes};
     ghost use Rattle.derived_ops.specs.Stored.{tree_code};
     ghost use Rattle.fiber_frames.specs.contracts.ask.Look as the_look;
     ghost use Rattle.fiber_frames.specs.contracts.mark.Mark as the_mark;
     ghost use Rattle.scheduled_core.specs.Fitting.{AllFit};
-    ghost use Rattle.every_outcome.specs.Places.{Place, unmarked_place};
+    ghost use Rattle.every_outcome.specs.Places.{Place, unmarked_place, with_says};
 
     ghost Value = { Place };
 
     ghost coded = { Prim.hlevel (codes, tree_code, the_look.the_row.coded, the_mark.the_row.coded) };
 
-    ghost view = { λ w. unmarked_place w.core };
+    ghost view = { λ w. unmarked_place (with_says SAYS) w.core };
 
-    ghost invariant = { λ w. AllFit w.core.world × (w.shape ≡ unmarked_place w.core) };
+    ghost invariant = { λ w. AllFit w.core.world × (w.shape ≡ unmarked_place (with_says SAYS) w.core) };
 }
 
-impl SeenWorld {
+impl<const SAYS: u8> SeenWorld<SAYS> {
     /// The world of a program before the first move.
     pub(crate) fn first(
         alloc: Global,
         program: &Program,
         limits: Limits,
-    ) -> Result<SeenWorld, AllocError>
+    ) -> Result<SeenWorld<SAYS>, AllocError>
         requires { AreLimits limits }
-        ensures first { IfOk result (λ w. w ≡ first_place (code_of (source_of program.now)) limits) }
+        ensures first { IfOk result (λ w. w ≡ first_place (with_says SAYS) (code_of (source_of program.now)) limits) }
         ensures reached { IfOk result (λ w. Reached (begins 0 (code_of (source_of program.now)))) }
     {
         let core = CoreWorld::first(alloc, program, limits)?;
@@ -65,17 +67,17 @@ impl SeenWorld {
     }
 
     // Adds the shape to a world.
-    fn new(alloc: Global, core: CoreWorld) -> Result<SeenWorld, AllocError>
+    fn new(alloc: Global, core: CoreWorld) -> Result<SeenWorld<SAYS>, AllocError>
         requires { AllFit core.world }
-        ensures { IfOk result (λ it. it ≡ unmarked_place core) }
+        ensures { IfOk result (λ it. it ≡ unmarked_place (with_says SAYS) core) }
     {
-        let shape = WorldShape::of(alloc, core.fibers(), core.registry())?;
+        let shape = WorldShape::of(alloc, core.fibers(), core.registry(), SAYS)?;
         Ok(SeenWorld { core, shape })
     }
 
     /// The number of fibers that were started. An entry of another fiber changes nothing.
     pub(crate) fn born(&self) -> u16
-        ensures rests { (stores : Bool) (f : ℕ) → result ≤ f → leapt stores self.now f ≡ GoesWell self.now }
+        ensures rests { (stores : Bool) (f : ℕ) → result ≤ f → leapt (with_says SAYS) stores self.now f ≡ GoesWell self.now }
         ensures none { (f : ℕ) → result ≤ f → slice_get self.now.world.fibers f ≡ Nothing }
         ensures most { result ≤ 1000 }
     {
@@ -92,9 +94,9 @@ impl SeenWorld {
         alloc: Global,
         fiber: u16,
         stores: bool,
-    ) -> Result<SeenWorld, RunError>
-        ensures goes { IfOk result (λ w. leapt stores self.now fiber ≡ GoesWell w) }
-        ensures stops { IfErr result (λ e. (e ≡ RunError.NoMemory) ⊎ (leapt stores self.now fiber ≡ Fails e)) }
+    ) -> Result<SeenWorld<SAYS>, RunError>
+        ensures goes { IfOk result (λ w. leapt (with_says SAYS) stores self.now fiber ≡ GoesWell w) }
+        ensures stops { IfErr result (λ e. (e ≡ RunError.NoMemory) ⊎ (leapt (with_says SAYS) stores self.now fiber ≡ Fails e)) }
     {
         let mut next = self.core.copy(alloc)?;
         let mut trail = Vec::new(alloc);
@@ -123,7 +125,7 @@ impl SeenWorld {
     }
 
     /// Whether two worlds are equal: `true` means that they are. The result can be `false` for equal worlds.
-    pub(crate) fn same(&self, other: &SeenWorld) -> bool
+    pub(crate) fn same(&self, other: &SeenWorld<SAYS>) -> bool
         ensures { result ≡ true → self.now ≡ other.now }
     {
         self.shape.same(&other.shape)
@@ -134,38 +136,31 @@ impl SeenWorld {
         self.shape.digest()
     }
 
-    /// Whether the fibers of two worlds have the same outcomes.
-    #[tactic(auto, using(crate::proofs::Stepping::outcomes_stay))]
-    pub(crate) fn same_outcomes(&self, other: &SeenWorld) -> bool
-        ensures yes { result ≡ true → outcomes_at self.now ≡ outcomes_at other.now }
-        ensures no { result ≡ false → outcomes_at self.now ≢ outcomes_at other.now }
+    /// Whether two worlds have the same report.
+    pub(crate) fn same_report(&self, other: &SeenWorld<SAYS>) -> bool
+        ensures yes { result ≡ true → report_at (with_says SAYS) self.now ≡ report_at (with_says SAYS) other.now }
+        ensures no { result ≡ false → report_at (with_says SAYS) self.now ≢ report_at (with_says SAYS) other.now }
     {
-        same_ends(self.core.fibers(), other.core.fibers())
+        if !same_ends(self.core.fibers(), other.core.fibers()) {
+            return false;
+        }
+        self.shape.has_marks_of(&other.shape)
     }
 
-    /// The outcomes of the world's fibers.
-    #[tactic(auto, using(crate::proofs::Stepping::outcomes_stay))]
-    pub(crate) fn outcomes(&self, alloc: Global) -> Result<Vec<Option<Outcome>>, AllocError>
-        ensures { IfOk result (λ it. it.items ≡ outcomes_at self.now) }
+    /// The report of the world, with the marks that are kept.
+    pub(crate) fn report(&self, alloc: Global) -> Result<Report, AllocError>
+        ensures { IfOk result (λ it. it ≡ report_at (with_says SAYS) self.now) }
     {
-        ends_of(alloc, self.core.fibers())
+        let reports = reports_of(alloc, self.core.fibers(), SAYS)?;
+        Ok(Report {
+            fibers: FiberReports::new(reports),
+        })
     }
 
     /// The approximate number of bytes that the world and its shape take, each half of them.
     pub(crate) fn size(&self) -> usize {
         self.core.size().saturating_mul(2)
     }
-}
-
-// The outcomes of fibers.
-fn ends_of(alloc: Global, fibers: &[Config]) -> Result<Vec<Option<Outcome>>, AllocError>
-    ensures { IfOk result (λ it. it.items ≡ map outcome_of fibers.now) }
-{
-    let mut ends = Vec::with_capacity(alloc, fibers.len())?;
-    for fiber in fibers {
-        ends.push(outcome(fiber))?;
-    }
-    Ok(ends)
 }
 
 // Whether fibers have the same outcomes.

@@ -8,32 +8,33 @@ ghost use Rattle.fiber_frames.specs.Reached.{Reached};
 ghost use Rattle.cell_registry.specs.Cells.{AreLimits};
 ghost use Rattle.world_search.specs.Landings.{IsNext};
 ghost use Rattle.world_search.specs.Lists.{IsMore};
-ghost use Rattle.every_outcome.specs.Places.{Place, first_place, outcomes_at};
+ghost use Rattle.every_outcome.specs.Places.{Place, first_place, report_at, with_says};
 ghost use Rattle.every_outcome.specs.Private.Keeping.{AreSingle, IsKept};
 
 use crate::faults::Faults;
-use crate::outcomes::Outcomes;
 use crate::world::SeenWorld;
 use cell_registry::{Limits, RunError};
 use effect_term::Program;
+use scheduled_core::Report;
 use std::alloc::{AllocError, Global};
 use std::collections::HashMap;
 use std::marker::Model;
 use world_search::{Entered, Landing, Worlds};
 
 /// All worlds and faults that were found. `last` has the number of the last world with a digest, and `earlier` names
-/// for each world the one before it with the same digest. A lookup follows these numbers and compares the worlds.
+/// for each world the one before it with the same digest. A lookup follows these numbers and compares the worlds. With 1
+/// for `SAYS` the worlds keep the says of the fibers, with 0 they have no marks.
 #[derive(Drop)]
-pub(crate) struct SeenWorlds {
+pub(crate) struct SeenWorlds<const SAYS: u8> {
     alloc: Global,
-    worlds: Vec<SeenWorld>,
+    worlds: Vec<SeenWorld<SAYS>>,
     faults: Faults,
     last: HashMap<u64, usize>,
     earlier: Vec<Option<usize>>,
     bytes: usize,
 }
 
-impl Model for SeenWorlds {
+impl<const SAYS: u8> Model for SeenWorlds<SAYS> {
     ghost use Rattle.std.specs.Coded.{codes};
     ghost use Rattle.derived_ops.specs.Stored.{tree_code};
     ghost use Rattle.fiber_frames.specs.contracts.ask.Look as the_look;
@@ -47,15 +48,16 @@ impl Model for SeenWorlds {
     ghost view = { λ s. record { places = s.worlds.items; faults = s.faults; bytes = s.bytes } };
 }
 
-impl SeenWorlds {
+impl<const SAYS: u8> SeenWorlds<SAYS> {
     /// Returns a store with the first world of a program alone.
     pub(crate) fn new(
         alloc: Global,
         program: &Program,
         limits: Limits,
-    ) -> Result<SeenWorlds, AllocError>
+    ) -> Result<SeenWorlds<SAYS>, AllocError>
         requires { AreLimits limits }
-        ensures places { IfOk result (λ s. s.places ≡ first_place (code_of (source_of program.now)) limits ∷ []) }
+        ensures places { IfOk result (λ s. s.places ≡
+            first_place (with_says SAYS) (code_of (source_of program.now)) limits ∷ []) }
         ensures faults { IfOk result (λ s. s.faults ≡ []) }
         ensures reached { IfOk result (λ _. Reached (begins 0 (code_of (source_of program.now)))) }
     {
@@ -73,8 +75,8 @@ impl SeenWorlds {
     }
 
     // Adds a world, which gets the next number.
-    fn file(&mut self, world: SeenWorld) -> Result<(), AllocError>
-        ensures places { OnOk result (self.new.places ≡ self.old.places ++ world ∷ []) }
+    fn file(&mut self, world: SeenWorld<SAYS>) -> Result<(), AllocError>
+        ensures places { OnOk result (self.new.places ≡ self.old.places ++ world.entry ∷ []) }
         ensures kept { OnErr result (self.new.places ≡ self.old.places) }
         ensures faults { self.new.faults ≡ self.old.faults }
     {
@@ -86,7 +88,7 @@ impl SeenWorlds {
     }
 
     // The number of a kept world that `same` finds equal to this world.
-    fn find(&self, world: &SeenWorld) -> Option<usize>
+    fn find(&self, world: &SeenWorld<SAYS>) -> Option<usize>
         ensures { IfSome result (λ i. slice_get self.now.places i ≡ Some world.now) }
     {
         let mut next = self.last.get(&world.digest()).copied();
@@ -101,10 +103,10 @@ impl SeenWorlds {
     }
 
     // Adds the world if it is new, unless there are at least `most` worlds already.
-    fn keep(&mut self, world: SeenWorld, most: usize) -> Result<Entered, AllocError>
+    fn keep(&mut self, world: SeenWorld<SAYS>, most: usize) -> Result<Entered, AllocError>
         ensures faults { self.new.faults ≡ self.old.faults }
         ensures places { OnOk result (IsMore self.old.places self.new.places) }
-        ensures kept { IfOk result (λ it. IsKept self.new.places it world) }
+        ensures kept { IfOk result (λ it. IsKept self.new.places it world.entry) }
         ensures room { OnOk result (length self.new.places ≤ max most (length self.old.places)) }
         ensures next { IfOk result (IsNext (length self.old.places) (length self.new.places) most) }
     {
@@ -119,13 +121,13 @@ impl SeenWorlds {
         Ok(Entered::At(Landing::World(place)))
     }
 
-    /// The outcomes of a world's fibers.
-    pub(crate) fn outcomes(&self, world: usize) -> Result<Outcomes, AllocError>
+    /// The report of a world.
+    pub(crate) fn report(&self, world: usize) -> Result<Report, AllocError>
         requires { world < length self.now.places }
-        ensures { IfOk result (λ it. (p : Place) → slice_get self.now.places world ≡ Some p → it ≡ outcomes_at p) }
+        ensures { IfOk result (λ it. (p : Place) → slice_get self.now.places world ≡ Some p →
+            it ≡ report_at (with_says SAYS) p) }
     {
-        let outcomes = self.worlds[world].outcomes(self.alloc)?;
-        Ok(Outcomes::new(outcomes))
+        self.worlds[world].report(self.alloc)
     }
 
     /// The fault of this number.
@@ -145,24 +147,24 @@ impl SeenWorlds {
     }
 }
 
-impl Worlds for SeenWorlds {
-    type World = SeenWorld;
+impl<const SAYS: u8> Worlds for SeenWorlds<SAYS> {
+    type World = SeenWorld<SAYS>;
 
     type Fault = RunError;
 
-    type Report = Outcomes;
+    type Report = Report;
 
     ghost use Rattle.std.specs.Prelude.{true};
-    ghost use Rattle.every_outcome.specs.Places.{outcomes_at as the_outcomes};
+    ghost use Rattle.every_outcome.specs.Places.{report_at as the_report, with_says};
     ghost use Rattle.every_outcome.specs.Private.Reduced.{leapt};
 
     ghost worlds = { λ s. s.places };
 
     ghost faults = { λ s. s.faults };
 
-    ghost step = { leapt true };
+    ghost step = { leapt (with_says SAYS) true };
 
-    ghost report = { the_outcomes };
+    ghost report = { the_report (with_says SAYS) };
 
     ghost most_born = { 1000 };
 
@@ -184,7 +186,7 @@ impl Worlds for SeenWorlds {
     }
 
     fn same_report(&self, one: usize, other: usize) -> bool {
-        self.worlds[one].same_outcomes(&self.worlds[other])
+        self.worlds[one].same_report(&self.worlds[other])
     }
 
     fn len(&self) -> usize {

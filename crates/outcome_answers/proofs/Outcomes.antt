@@ -38,14 +38,14 @@ spellable only_first found shown most bound are numbers short = all_from IsSpell
 -- the answer, with the wants of the order
 pub answered : (json only_first : Bool) (t : Term) (limits : Limits) (bounds : Bounds) (timed : Bool) (wants ws : List Want) (note answer : List ℕ)
     (status : Status) (found : OutcomeExploration) (shown : Exploration) → ws ≡ wants → IsOutcomesOf (code_of (source_of t)) limits bounds timed found →
-    IsShown only_first found shown → Shows json ws shown answer → status ≡ exploration_status ws shown → note ≡ missing_of_exploration ws shown →
+    IsShown only_first found shown → Shows json false ws shown answer → status ≡ exploration_status ws shown → note ≡ missing_of_exploration ws shown →
     IsOutcomesAnswer json only_first t limits bounds timed wants note answer status
 answered json only_first t limits bounds timed wants ws note answer status found shown same found_is shown_is shows status_is note_is = record {
   found = found;
   shown = shown;
   found_is = found_is;
   shown_is = shown_is;
-  shows = subst (λ (l : List Want). Shows json l shown answer) same shows;
+  shows = subst (λ (l : List Want). Shows json false l shown answer) same shows;
   status_is = status_is ∙ ap (λ l. exploration_status l shown) same;
   note_is = note_is ∙ ap (λ l. missing_of_exploration l shown) same;
 }

@@ -79,11 +79,11 @@ one_place xs once i j a b at bt same =
 abbrev pub is_short : ℕ → OutcomeAnswer → Bool
 is_short entries a = leb (length a.schedule) entries
 
-both_true : (a b : Bool) → (a && b) ≡ true → (a ≡ true) × (b ≡ true)
+pub both_true : (a b : Bool) → (a && b) ≡ true → (a ≡ true) × (b ≡ true)
 both_true true b h = (refl, h)
 both_true false b h = absurd (cc)
 
-one_false : (a b : Bool) → (a && b) ≡ false → (a ≡ false) ⊎ ((a ≡ true) × (b ≡ false))
+pub one_false : (a b : Bool) → (a && b) ≡ false → (a ≡ false) ⊎ ((a ≡ true) × (b ≡ false))
 one_false true b h = inr (refl, h)
 one_false false b h = inl refl
 

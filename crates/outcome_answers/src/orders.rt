@@ -76,7 +76,7 @@ impl WatchedOrder for OutcomesJson {
         let shown = shown_exploration(alloc, &found, self.only_first)?;
         let wants = self.order.wants.as_slice();
         let note = missing_of_exploration(alloc, &shown, wants)?;
-        let value = outcomes_json(alloc, &shown, wants)?;
+        let value = outcomes_json(alloc, &shown, wants, false)?;
         let answer = value_answer(alloc, &value, exploration_status(&shown, wants))?;
         Ok(NotedAnswer { answer, note })
     }

@@ -12,4 +12,6 @@ mod loops;
 #[cfg(test)]
 mod same;
 #[cfg(test)]
+mod says;
+#[cfg(test)]
 mod semaphore;

@@ -18,7 +18,7 @@ pub returns-clause-unmet : goal.returns-clause-unmet
 returns-clause-unmet g c = λ complete i words at unfound n schedule met.
     let code = code_of (source_of c.args.program.now) in
     let k : Limits = counted c.args.limits 1099511627775 in
-    let first = first_view (first_place code k) in
+    let first = first_view (first_place false code k) in
     let raw : List Met = c.in_ok-found.found.met.items in
     let there : slice_get c.in_ok-worlds.worlds.views 0 ≡ Some first = ap (λ (l : List View). slice_get l 0) c.in_ok-worlds.ensures.views in
     let none = λ (f : IsFound i raw).

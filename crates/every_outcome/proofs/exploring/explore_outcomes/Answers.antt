@@ -1,56 +1,53 @@
-use Rattle.std.{proofs.Common.{◌≡◌, List, length, ap, arith}, specs.{Prelude.Some, List.slice_get}}
+use Rattle.std.{proofs.Common.{◌≡◌, ◌<◌, ℕ, List, map, sym, ap, ◌∙◌, subst}, specs.{Prelude.Ok, List.All}}
 use Rattle.derived_ops.specs.{Expansion.code_of, Reading.source_of}
-use Rattle.cell_registry.specs.declared.limits.Limits.{Limits}
 use Rattle.scheduled_core.specs.Core.{core}
-use Rattle.every_outcome.{specs.{Outcomes.counted, Places.{Place, first_place}}, proofs.Told.{all_under, all_within, covered, covered_under, numbered, once}}
-use Rattle.every_outcome.proofs.Told.{reached, settled}
+use Rattle.every_schedule.specs.declared.exploration.Answer.{Answer}
+use Rattle.every_outcome.specs.declared.outcomes.OutcomeAnswer.{OutcomeAnswer}
+use Rattle.every_outcome.specs.Outcomes.{IsCovered, IsListed, IsReached, ListOnce, counted, outcomes}
+use Rattle.every_outcome.specs.Private.Bare.{outcome_answer}
+use Rattle.every_outcome.proofs.Bare.{covered_bare, listed_bare, numbers_bare, once_bare, reached_bare}
 use Rattle.every_outcome.proofs.exploring.explore_outcomes.Goals as goal
-
-pub told-requires-clause-within : goal.told-requires-clause-within
-told-requires-clause-within g c =
-    let start = first_place (code_of (source_of c.args.program.now)) (counted c.args.limits 1099511627775) in
-    let first : slice_get c.in_ok-worlds.worlds.places 0 ≡ Some start = ap (λ (l : List Place). slice_get l 0) c.in_ok-worlds.ensures.places in
-    all_within c.search.new.worlds start c.in_ok-found.found.answers.items (c.in_ok-found.ensures.each start first)
 
 pub returns-clause-all : goal.returns-clause-all
 returns-clause-all g c = λ complete count schedule.
     let code = code_of (source_of c.args.program.now) in
-    let k : Limits = counted c.args.limits 1099511627775 in
-    let start = first_place code k in
-    let first : slice_get c.in_ok-worlds.worlds.places 0 ≡ Some start = ap (λ (l : List Place). slice_get l 0) c.in_ok-worlds.ensures.places in
-    covered_under c.args.limits 1099511627775 c.in_ok-answers.answers.items (core code (counted c.args.limits count) schedule)
-    (covered c.search.new.worlds code k c.in_ok-found.found.answers.items c.in_ok-answers.answers.items c.in_ok-answers.ensures.told
-    (omega arith) c.in_ok-worlds.ensures.reached count schedule (c.in_ok-found.ensures.all complete start first))
+    let found = c.in_ok-found.found in
+    let bare : c.in_ok-answers.answers.items ≡ map outcome_answer found.answers =
+    c.in_ok-answers.ensures ∙ ap (map outcome_answer) c.as_slice.ensures in
+    let end = core code (counted c.args.limits count) schedule in
+    subst (λ (l : List OutcomeAnswer). IsCovered c.args.limits l end) (sym bare)
+    (covered_bare found.answers c.args.limits end (c.in_ok-found.ensures.all complete count schedule))
 
 pub returns-clause-settled : goal.returns-clause-settled
 returns-clause-settled g c = λ complete count schedule w leads stays.
-    let code = code_of (source_of c.args.program.now) in
-    let k : Limits = counted c.args.limits 1099511627775 in
-    let start = first_place code k in
-    let first : slice_get c.in_ok-worlds.worlds.places 0 ≡ Some start = ap (λ (l : List Place). slice_get l 0) c.in_ok-worlds.ensures.places in
-    settled c.search.new.worlds code k c.in_ok-found.found.answers.items c.in_ok-answers.answers.items c.in_ok-answers.ensures.told
-    (omega arith) c.in_ok-worlds.ensures.reached count schedule w (c.in_ok-found.ensures.all complete start first) leads stays
+    let found = c.in_ok-found.found in
+    let bare : c.in_ok-answers.answers.items ≡ map outcome_answer found.answers =
+    c.in_ok-answers.ensures ∙ ap (map outcome_answer) c.as_slice.ensures in
+    subst (λ (l : List OutcomeAnswer). IsListed l (outcomes (Ok w))) (sym bare)
+    (listed_bare found.answers (Ok w) (c.in_ok-found.ensures.settled complete count schedule w leads stays))
 
 pub returns-clause-each : goal.returns-clause-each
 returns-clause-each g c =
     let code = code_of (source_of c.args.program.now) in
-    let k : Limits = counted c.args.limits 1099511627775 in
-    let start = first_place code k in
-    let first : slice_get c.in_ok-worlds.worlds.places 0 ≡ Some start = ap (λ (l : List Place). slice_get l 0) c.in_ok-worlds.ensures.places in
-    all_under code c.args.limits 1099511627775 c.in_ok-answers.answers.items
-    (reached c.search.new.worlds code k c.in_ok-found.found.answers.items c.in_ok-answers.answers.items c.in_ok-answers.ensures.told
-    (omega arith) c.in_ok-worlds.ensures.reached (c.in_ok-found.ensures.each start first))
+    let found = c.in_ok-found.found in
+    let bare : c.in_ok-answers.answers.items ≡ map outcome_answer found.answers =
+    c.in_ok-answers.ensures ∙ ap (map outcome_answer) c.as_slice.ensures in
+    subst (λ (l : List OutcomeAnswer). All (IsReached code c.args.limits) l) (sym bare)
+    (reached_bare found.answers code c.args.limits c.in_ok-found.ensures.each)
 
 pub returns-clause-once : goal.returns-clause-once
 returns-clause-once g c =
-    once c.search.new.worlds (first_place (code_of (source_of c.args.program.now)) (counted c.args.limits 1099511627775)) c.in_ok-found.found.answers.items
-    c.in_ok-answers.answers.items c.in_ok-answers.ensures.told c.in_ok-answers.ensures.single c.in_ok-found.ensures.once
+    let code = code_of (source_of c.args.program.now) in
+    let found = c.in_ok-found.found in
+    let bare : c.in_ok-answers.answers.items ≡ map outcome_answer found.answers =
+    c.in_ok-answers.ensures ∙ ap (map outcome_answer) c.as_slice.ensures in
+    subst (λ (l : List OutcomeAnswer). ListOnce l) (sym bare)
+    (once_bare found.answers code c.args.limits c.in_ok-found.ensures.each c.in_ok-found.ensures.once)
 
 pub returns-clause-numbers : goal.returns-clause-numbers
 returns-clause-numbers g c =
-    numbered c.search.new.worlds (first_place (code_of (source_of c.args.program.now)) (counted c.args.limits 1099511627775)) c.in_ok-found.found.answers.items
-    c.in_ok-answers.answers.items c.in_ok-answers.ensures.told
-
-pub returns-clause-stopped : goal.returns-clause-stopped
-returns-clause-stopped g c = λ incomplete going.
-    c.in_ok-found.ensures.stopped incomplete going (ap (λ (l : List Place). length l) c.in_ok-worlds.ensures.places)
+    let found = c.in_ok-found.found in
+    let bare : c.in_ok-answers.answers.items ≡ map outcome_answer found.answers =
+    c.in_ok-answers.ensures ∙ ap (map outcome_answer) c.as_slice.ensures in
+    subst (λ (l : List OutcomeAnswer). All (λ a. All (λ (f : ℕ). f < 1000) a.schedule) l) (sym bare)
+    (numbers_bare found.answers c.in_ok-found.ensures.numbers)

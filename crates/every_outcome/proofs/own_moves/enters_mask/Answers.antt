@@ -10,15 +10,15 @@ use Rattle.every_outcome.proofs.Moments.{masks_none, masks_same}
 use Rattle.every_outcome.proofs.own_moves.enters_mask.Goals as goal
 
 pub returns-in-None : goal.returns-in-None
-returns-in-None c =
+returns-in-None c = λ says.
     let w = c.args.world.now.world in
     let none : slice_get w.fibers c.args.by ≡ None = grind (arith, common_steps, gets) in
-    sym (masks_none w c.args.by none)
+    sym (masks_none says w c.args.by none)
 
 pub returns-in-Some : goal.returns-in-Some
-returns-in-Some c =
+returns-in-Some c = λ says.
     let w = c.args.world.now.world in
     let it = c.in-Some.it.now in
     let at : slice_get w.fibers c.args.by ≡ Some it = grind (arith, common_steps, gets) in
     c.wants_mask.ensures ∙ ap wants_mask (c.of.ensures ∙ ap wish_of c.ask.ensures.ask) ∙ sym (ap masks_next at) ∙
-    sym (masks_same w c.args.by (λ g e. subst Reached (same_Some it g (sym at ∙ e)) c.ask.ensures.reached))
+    sym (masks_same says w c.args.by (λ g e. subst Reached (same_Some it g (sym at ∙ e)) c.ask.ensures.reached))

@@ -13,7 +13,7 @@ returns-clause-goes c =
     let f = c.args.fiber in
     let set : c.in_ok-seen.seen.items ≡ noted w.seen.items (stored_by (slice_get w.world.world.fibers f)) =
     c.in_ok-seen.ensures ∙ ap₂ noted c.as_slice.ensures.value c.stored_by.ensures in
-    subst (λ (v : View). viewed (leapt false) v f ≡ Ok record { place = c.in_ok-world.world; seen = c.in_ok-seen.seen.items }) c.self.view_is
+    subst (λ (v : View). viewed (leapt false false) v f ≡ Ok record { place = c.in_ok-world.world; seen = c.in_ok-seen.seen.items }) c.self.view_is
     (ap₂ seeing (sym set) c.in_ok-world.ensures.goes)
 
 pub returns-in_err-world-clause-stops : goal.returns-in_err-world-clause-stops
@@ -21,10 +21,10 @@ returns-in_err-world-clause-stops c =
     let w = c.self.inside in
     let f = c.args.fiber in
     let y = c.from_residual-in_err-world.result in
-    let told : IfErr y (λ e. (e ≡ run.NoMemory) ⊎ (leapt false w.world f ≡ Err e)) = search rules in
-    IfErr-weaker y (λ e. (e ≡ run.NoMemory) ⊎ (leapt false w.world f ≡ Err e))
-    (λ e. (e ≡ run.NoMemory) ⊎ (viewed (leapt false) c.args.self.now f ≡ Err e)) (λ e h. elim h [
+    let told : IfErr y (λ e. (e ≡ run.NoMemory) ⊎ (leapt false false w.world f ≡ Err e)) = search rules in
+    IfErr-weaker y (λ e. (e ≡ run.NoMemory) ⊎ (leapt false false w.world f ≡ Err e))
+    (λ e. (e ≡ run.NoMemory) ⊎ (viewed (leapt false false) c.args.self.now f ≡ Err e)) (λ e h. elim h [
       | inl memory ↦ inl memory
-      | inr fault ↦ inr (subst (λ (v : View). viewed (leapt false) v f ≡ Err e) c.self.view_is
+      | inr fault ↦ inr (subst (λ (v : View). viewed (leapt false false) v f ≡ Err e) c.self.view_is
           (ap (seeing (noted w.seen.items (stored_by (slice_get w.world.world.fibers f)))) fault))
     ]) told

@@ -10,7 +10,7 @@ outcomes_json-requires g c =
     c.in_ok-found.ensures.numbers c.in_ok-found.ensures.found.short
 
 pub value_answer-requires : goal.value_answer-requires
-value_answer-requires g c = outcomes_plain _ _ _ c.in_ok-value.ensures
+value_answer-requires g c = outcomes_plain _ _ _ _ c.in_ok-value.ensures
 
 pub returns : goal.returns
 returns g c =
