@@ -14,20 +14,21 @@ told-requires g c =
     let says = with_says g.row.SAYS in
     let h = c.requires.limits in
     let start = first_place says (code_of (source_of c.args.program.now)) (counted c.args.limits 1099511627775) in
-    let first : slice_get c.in_ok-worlds.worlds.places 0 ≡ Some start = ap (λ (l : List Place). slice_get l 0) c.in_ok-worlds.ensures.places in
-    (
+    let first : slice_get c.in_ok-worlds.worlds.places 0 ≡ Some start = ap (λ (l : List Place). slice_get l 0) c.in_ok-worlds.ensures.places in (
       omega arith,
-      (record {
-        some_fiber = h.some_fiber;
-        fibers = h.fibers;
-        some_ref = h.some_ref;
-        refs = h.refs;
-        some_deferred = h.some_deferred;
-        deferreds = h.deferreds;
-        some_count = omega arith;
-        count = omega arith;
-      },
-      all_within says c.search.new.worlds start c.in_ok-found.found.answers.items (c.in_ok-found.ensures.each start first)),
+      (
+        record {
+          some_fiber = h.some_fiber;
+          fibers = h.fibers;
+          some_ref = h.some_ref;
+          refs = h.refs;
+          some_deferred = h.some_deferred;
+          deferreds = h.deferreds;
+          some_count = omega arith;
+          count = omega arith;
+        },
+        all_within says c.search.new.worlds start c.in_ok-found.found.answers.items (c.in_ok-found.ensures.each start first),
+      ),
     )
 
 pub returns-clause-all : goal.returns-clause-all

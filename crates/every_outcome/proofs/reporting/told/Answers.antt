@@ -12,12 +12,13 @@ answer-requires g c =
     let says = with_says g.row.SAYS in
     let at = c.loop-it in
     let first = first_place says (code_of (source_of c.args.program.now)) c.args.limits in
-    let steps : into_iter_items at.it-iterator ≡ c.in-Some.it ∷ into_iter_items c.next.new.self = c.in-Some.ensures.steps.0 in
-    (
+    let steps : into_iter_items at.it-iterator ≡ c.in-Some.it ∷ into_iter_items c.next.new.self = c.in-Some.ensures.steps.0 in (
       omega arith,
-      (c.requires.limits,
-      next_within says c.args.worlds.now first c.args.found.items (into_iter_items c.next.new.self) at.answers.items c.in-Some.it
-          (subst (λ l. SoFar says c.args.worlds.now first c.args.found.items l at.answers.items) steps at.invariant.told) c.requires.within),
+      (
+        c.requires.limits,
+        next_within says c.args.worlds.now first c.args.found.items (into_iter_items c.next.new.self) at.answers.items c.in-Some.it
+            (subst (λ l. SoFar says c.args.worlds.now first c.args.found.items l at.answers.items) steps at.invariant.told) c.requires.within,
+      ),
     )
 
 pub loop-it-preserved : goal.loop-it-preserved
