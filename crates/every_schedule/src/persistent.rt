@@ -1,0 +1,265 @@
+//! Persistent sets: the fibers whose entries are made at a world.
+ghost use Rattle.std.specs.Prelude.{◌≡◌, ◌<◌, ◌+◌, List, Bool, false, true, length, min, IfOk, OnOk, None, Option, Some};
+ghost use Rattle.std.specs.List.{slice_get};
+ghost use Rattle.scheduled_core.specs.Fitting.{AllFit};
+ghost use Rattle.every_schedule.specs.Persistent.{best as the_best, grown, in_set, is_lighter as the_lightness};
+ghost use Rattle.every_schedule.specs.Persistent.{is_persistent as the_persistence, joined, joined_if};
+ghost use Rattle.every_schedule.specs.Persistent.{members as the_members};
+ghost use Rattle.every_schedule.specs.Persistent.{needs_at, pick as the_pick, set_of as the_set, spared, spread};
+ghost use Rattle.every_schedule.specs.Persistent.{stands_in};
+ghost use Rattle.every_schedule.specs.Reduced.{leapt};
+ghost use Rattle.every_schedule.specs.Private.Persistent.{IsBest, IsSet};
+ghost use Rattle.every_schedule.specs.Private.Standing.{IsOnward, IsSame, here};
+
+use crate::current::Current;
+use crate::leaping::{AtOnce, few_born, is_memory, leap};
+use crate::needs::{Needs, depends_on, is_ready_at, is_sound, needs_of};
+use std::alloc::{AllocError, Global};
+
+/// A seed, its set, and how many fibers are in the set.
+#[derive(Drop)]
+pub(crate) struct Seed {
+    pub(crate) fiber: u16,
+    pub(crate) set: Vec<bool>,
+    pub(crate) many: usize,
+}
+
+// Those fibers join the set on which a move with these needs depends. Returns whether any joined.
+fn join(current: &mut Current, needs: Needs, set: &mut Vec<bool>) -> bool
+    requires many { length set.old.items ≡ length (here current.old).world.fibers }
+    requires fits { AllFit (here current.old).world }
+    ensures same { IsSame current.old current.new }
+    ensures joined { set.new.items ≡ joined needs 0 (here current.old).world.fibers set.old.items }
+    ensures many { length set.new.items ≡ length set.old.items }
+    ensures stays { result ≡ false → set.new.items ≡ set.old.items }
+{
+    let mut any = false;
+    for place in 0..current.born() {
+        if !set[place] && depends_on(&mut *current, needs, place) {
+            set[place] = true;
+            any = true;
+        }
+    }
+    any
+}
+
+// For each fiber of the set, those join that its next move depends on. Returns whether any joined.
+fn spread_once(current: &mut Current, set: &mut Vec<bool>) -> bool
+    requires many { length set.old.items ≡ length (here current.old).world.fibers }
+    requires fits { AllFit (here current.old).world }
+    ensures same { IsSame current.old current.new }
+    ensures spread { set.new.items ≡
+        spread (here current.old).world (length (here current.old).world.fibers) set.old.items }
+    ensures many { length set.new.items ≡ length set.old.items }
+    ensures stays { result ≡ false → set.new.items ≡ set.old.items }
+{
+    let mut any = false;
+    for place in 0..few_born(&*current) {
+        let joined = join_of(&mut *current, place as u16, &mut *set);
+        any = either(any, joined);
+    }
+    any
+}
+
+// Whether at least one of the two is true.
+fn either(one: bool, other: bool) -> bool
+    ensures { result ≡ false → (one ≡ false) × (other ≡ false) }
+{
+    one || other
+}
+
+// If the fiber is in the set, those join that its next move depends on. Returns whether any joined.
+fn join_of(current: &mut Current, fiber: u16, set: &mut Vec<bool>) -> bool
+    requires born { fiber < length (here current.old).world.fibers }
+    requires within { fiber < (here current.old).limits.fibers }
+    requires many { length set.old.items ≡ length (here current.old).world.fibers }
+    requires fits { AllFit (here current.old).world }
+    ensures same { IsSame current.old current.new }
+    ensures joined { set.new.items ≡
+        joined_if (in_set set.old.items fiber) (here current.old).world fiber set.old.items }
+    ensures many { length set.new.items ≡ length set.old.items }
+    ensures stays { result ≡ false → set.new.items ≡ set.old.items }
+{
+    if !set[usize::from(fiber)] {
+        return false;
+    }
+    let needs = needs_of(&*current, fiber);
+    join(current, needs, set)
+}
+
+// Returns the set of a seed.
+fn set_of(alloc: Global, current: &mut Current, seed: usize) -> Result<Vec<bool>, AllocError>
+    requires seed { seed < length (here current.old).world.fibers }
+    requires fits { AllFit (here current.old).world }
+    ensures same { IsSame current.old current.new }
+    ensures set { IfOk result (λ it. it.items ≡ the_set (here current.old).world seed) }
+    ensures many { IfOk result (λ it. length it.items ≡ length (here current.old).world.fibers) }
+{
+    let many = current.born();
+    let mut set = vec![in alloc; false; many]?;
+    set[seed] = true;
+    for _again in 0..many {
+        let joined = spread_once(&mut *current, &mut set);
+        if !joined {
+            return Ok(set);
+        }
+    }
+    Ok(set)
+}
+
+// The number of fibers in the set.
+fn members(set: &[bool]) -> usize
+    ensures { result ≡ the_members set.now }
+{
+    let mut many = 0;
+    for place in 0..set.len() {
+        if set[place] {
+            many = many + 1;
+        }
+    }
+    many
+}
+
+// Returns the first seed that is ready and whose set is smallest, if a fiber is ready.
+fn best(alloc: Global, current: &mut Current) -> Result<Option<Seed>, AllocError>
+    requires fits { AllFit (here current.old).world }
+    ensures same { IsSame current.old current.new }
+    ensures best { IfOk result (λ it. IsBest (here current.old).world
+        (the_best (here current.old).world (length (here current.old).world.fibers)) it) }
+{
+    let mut best = None;
+    for place in 0..few_born(&*current) {
+        best = better(alloc, &mut *current, place as u16, best)?;
+    }
+    Ok(best)
+}
+
+// Returns this fiber as the seed if it is ready and its set is smaller than that of `best`, or else `best`.
+fn better(
+    alloc: Global,
+    current: &mut Current,
+    fiber: u16,
+    best: Option<Seed>,
+) -> Result<Option<Seed>, AllocError>
+    requires born { fiber < length (here current.old).world.fibers }
+    requires fits { AllFit (here current.old).world }
+    requires best { IsBest (here current.old).world (the_best (here current.old).world fiber) best }
+    ensures same { IsSame current.old current.new }
+    ensures best { IfOk result (λ it. IsBest (here current.old).world
+        (the_best (here current.old).world (fiber + 1)) it) }
+{
+    let place = usize::from(fiber);
+    if !is_ready_at(&*current, place) {
+        return Ok(best);
+    }
+    let set = set_of(alloc, current, place)?;
+    let many = members(set.as_slice());
+    if let Some(it) = &best {
+        if many >= it.many {
+            return Ok(best);
+        }
+    }
+    Ok(Some(Seed { fiber, set, many }))
+}
+
+// Whether a move with these needs depends on no fiber outside the set.
+fn are_spared(current: &mut Current, needs: Needs, set: &[bool]) -> bool
+    requires many { length set.now ≡ length (here current.old).world.fibers }
+    requires fits { AllFit (here current.old).world }
+    ensures same { IsSame current.old current.new }
+    ensures spared { result ≡ spared needs set.now 0 (here current.old).world.fibers }
+{
+    for place in 0..current.born() {
+        if !set[place] && depends_on(&mut *current, needs, place) {
+            return false;
+        }
+    }
+    true
+}
+
+// Whether the next move of a fiber depends on no fiber outside the set.
+fn stands(current: &mut Current, fiber: u16, set: &[bool]) -> bool
+    requires born { fiber < length (here current.old).world.fibers }
+    requires within { fiber < (here current.old).limits.fibers }
+    requires many { length set.now ≡ length (here current.old).world.fibers }
+    requires fits { AllFit (here current.old).world }
+    ensures same { IsSame current.old current.new }
+    ensures stands { result ≡
+        stands_in (here current.old).world set.now fiber (slice_get (here current.old).world.fibers fiber) }
+{
+    if !is_sound(&*current, fiber) {
+        return false;
+    }
+    let needs = needs_of(&*current, fiber);
+    are_spared(current, needs, set)
+}
+
+// Whether the next move of each fiber of the set depends on no fiber outside the set.
+fn is_persistent(current: &mut Current, set: &[bool]) -> bool
+    requires many { length set.now ≡ length (here current.old).world.fibers }
+    requires fits { AllFit (here current.old).world }
+    ensures same { IsSame current.old current.new }
+    ensures persistent { result ≡ the_persistence (here current.old).world set.now }
+{
+    for place in 0..few_born(&*current) {
+        if set[place] && !stands(&mut *current, place as u16, set) {
+            return false;
+        }
+    }
+    true
+}
+
+// Whether the entry of a fiber, and the own moves after it, lead to a world that weighs less than `most`.
+fn is_lighter(
+    current: &mut Current,
+    fiber: u16,
+    at_once: AtOnce,
+    most: u64,
+) -> Result<bool, AllocError>
+    requires fits { AllFit (here current.old).world }
+    ensures onward { IsOnward current.old current.new }
+    ensures lighter { IfOk result (λ it. it ≡ the_lightness most (leapt at_once (here current.old) fiber)) }
+{
+    let mut trail = Vec::new(current.alloc());
+    match leap(&mut *current, fiber, at_once, &mut trail) {
+        Ok(()) => Ok(current.weight() < most),
+        Err(fault) => {
+            if is_memory(fault) {
+                return Err(AllocError);
+            }
+            Ok(false)
+        }
+    }
+}
+
+/// Returns the fibers whose entries are made at this world, or `None` if those of all fibers are. Each of them is made
+/// if no smaller set is found: a set whose next moves depend on no other fiber, and one of which leads to a world that
+/// weighs less.
+pub(crate) fn pick(
+    alloc: Global,
+    current: &mut Current,
+    at_once: AtOnce,
+) -> Result<Option<Vec<bool>>, AllocError>
+    requires fits { AllFit (here current.old).world }
+    ensures onward { IsOnward current.old current.new }
+    ensures here { OnOk result (here current.new ≡ here current.old) }
+    ensures picked { IfOk result (λ it. IsSet (the_pick at_once (here current.old)) it) }
+{
+    let seed = match best(alloc, &mut *current)? {
+        None => return Ok(None),
+        Some(seed) => seed,
+    };
+    if !is_persistent(&mut *current, seed.set.as_slice()) {
+        return Ok(None);
+    }
+    let most = current.weight();
+    let registry = current.number()?;
+    let numbers = Vec::from_slice(alloc, current.numbers())?;
+    let lighter = is_lighter(&mut *current, seed.fiber, at_once, most)?;
+    current.go_to(registry, numbers.as_slice())?;
+    if !lighter {
+        return Ok(None);
+    }
+    let Seed { set, .. } = seed;
+    Ok(Some(set))
+}
