@@ -2,7 +2,6 @@ pub mod Explored
 pub mod Places
 pub mod Sizes
 pub mod Reduced
-pub mod Weighing
 pub mod Persistent
 pub mod Claims
 pub mod Fairness

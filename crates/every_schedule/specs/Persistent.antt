@@ -22,7 +22,7 @@ use Rattle.every_schedule.specs.declared.needs.Needs.{Needs}
 use Rattle.every_schedule.specs.Places.{Place}
 use Rattle.every_schedule.specs.Reduced.{has_come_to_end, is_completed, leapt, next_of}
 use Rattle.every_schedule.specs.Sizes.{capped}
-use Rattle.every_schedule.specs.Weighing.{weight_of}
+use Rattle.fiber_frames.specs.Weights.{weight_of}
 
 -- ---- what a next move depends on
 abbrev pub no_needs : Needs

@@ -16,7 +16,7 @@ ghost use Rattle.world_search.specs.Lists.{IsMore};
 ghost use Rattle.every_schedule.specs.Persistent.{weight_at};
 ghost use Rattle.every_schedule.specs.Places.{moves_at, stepped};
 ghost use Rattle.every_schedule.specs.Sizes.{capped};
-ghost use Rattle.every_schedule.specs.Weighing.{weight_of as the_weight};
+ghost use Rattle.fiber_frames.specs.Weights.{weight_of as the_weight};
 ghost use Rattle.every_schedule.specs.Private.Numbered.{AreAt, IsWorld, IsWorldOf};
 ghost use Rattle.every_schedule.specs.Private.Standing.{IsNumbered, IsOnward, IsSame, here};
 ghost use Rattle.every_schedule.specs.Private.Knowing.{AreKnownOf, IsOwned};

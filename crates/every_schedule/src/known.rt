@@ -6,7 +6,7 @@ ghost use Rattle.fiber_frames.specs.Naming.{NamedRun};
 ghost use Rattle.fiber_frames.specs.Uses.{is_some, uses_in};
 ghost use Rattle.scheduled_core.specs.Core.{wish_of};
 ghost use Rattle.every_schedule.specs.Sizes.{capped};
-ghost use Rattle.every_schedule.specs.Weighing.{weight_of as the_weight};
+ghost use Rattle.fiber_frames.specs.Weights.{weight_of as the_weight};
 ghost use Rattle.every_schedule.specs.Private.Knowing.{IsKnown, IsOwned, TellUses, use_code};
 
 use cell_registry::{Call, Limits};
@@ -83,7 +83,7 @@ impl Known {
 pub(crate) fn weight_of(fiber: &Config) -> u64
     ensures { result ≡ capped (the_weight fiber.now) }
 {
-    fiber.trace().len() as u64
+    fiber.weight()
 }
 
 // In which worlds the next move of a state is an own move.

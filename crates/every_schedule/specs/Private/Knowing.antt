@@ -11,7 +11,7 @@ use Rattle.fiber_frames.specs.Uses.{is_some, uses_in}
 use Rattle.scheduled_core.specs.declared.wish.Wish.{Wish}
 use Rattle.scheduled_core.specs.Core.{World, wish_of}
 use Rattle.every_schedule.specs.Sizes.{capped}
-use Rattle.every_schedule.specs.Weighing.{weight_of}
+use Rattle.fiber_frames.specs.Weights.{weight_of}
 use Rattle.every_schedule.specs.Reduced.{is_own}
 use Rattle.every_schedule.specs.declared.known.Known.{Known}
 use Rattle.every_schedule.specs.declared.known.Owned.{Owned}
