@@ -23,6 +23,7 @@ pub mod Leaps
 pub mod Trails
 pub mod PastBound
 pub mod GrowingLeaps
+pub mod Chosen
 pub mod Deadlocks
 pub mod Stopping
 pub mod Leans

@@ -216,14 +216,18 @@ picked_by n p (Some seed) =
 abbrev pub pick : AtOnce → Place → Option (List Bool)
 pick n p = picked_by n p (best p.world (length p.world.fibers))
 
+abbrev pub is_member : Option (List Bool) → ℕ → Bool
+is_member None f = true
+is_member (Some s) f = in_set s f
+
+-- the entry of this fiber is made at this place
+abbrev pub is_entered : AtOnce → Place → ℕ → Bool
+is_entered n p f = not n.chosen || is_member (pick n p) f
+
 abbrev pub chosen_if : Bool → AtOnce → Place → ℕ → Result Place RunError
 chosen_if true n p f = leapt n p f
 chosen_if false n p f = Ok p
 
-abbrev pub chosen_by : Option (List Bool) → AtOnce → Place → ℕ → Result Place RunError
-chosen_by None n p f = leapt n p f
-chosen_by (Some s) n p f = chosen_if (in_set s f) n p f
-
 -- the entry of a fiber, followed by own moves, if it is made at this place; an entry that isn't made changes nothing
 abbrev pub chosen : AtOnce → Place → ℕ → Result Place RunError
-chosen n p f = chosen_by (pick n p) n p f
+chosen n p f = chosen_if (is_entered n p f) n p f

@@ -157,7 +157,7 @@ pub fn explore_watched<V: Watcher>(
         AT_ONCE,
         bounds.entries,
     )?;
-    let answers = told(alloc, &worlds.worlds, unfolded.answers)?;
+    let answers = told(alloc, worlds.worlds(), unfolded.answers)?;
     Ok(Exploration {
         answers: Answers::new(answers),
         worlds: found.worlds,

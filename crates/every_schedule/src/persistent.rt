@@ -5,6 +5,7 @@ ghost use Rattle.scheduled_core.specs.Fitting.{AllFit};
 ghost use Rattle.every_schedule.specs.Persistent.{best as the_best, grown, in_set, is_lighter as the_lightness};
 ghost use Rattle.every_schedule.specs.Persistent.{is_persistent as the_persistence, joined, joined_if};
 ghost use Rattle.every_schedule.specs.Persistent.{members as the_members};
+ghost use Rattle.every_schedule.specs.Persistent.{is_entered as the_entered, is_member as the_member};
 ghost use Rattle.every_schedule.specs.Persistent.{needs_at, pick as the_pick, set_of as the_set, spared, spread};
 ghost use Rattle.every_schedule.specs.Persistent.{stands_in};
 ghost use Rattle.every_schedule.specs.Reduced.{leapt};
@@ -230,6 +231,38 @@ fn is_lighter(
             Ok(false)
         }
     }
+}
+
+/// Whether the fiber is in the set, or the set is that of all fibers.
+pub(crate) fn is_member(set: &Option<Vec<bool>>, fiber: u16) -> bool
+    ensures { (it : Option (List Bool)) → IsSet it set.now → result ≡ the_member it fiber }
+{
+    match set {
+        None => true,
+        Some(flags) => match flags.get(usize::from(fiber)) {
+            Some(flag) => *flag,
+            None => false,
+        },
+    }
+}
+
+/// Whether the entry of a fiber is made at this world.
+pub(crate) fn is_entered(
+    alloc: Global,
+    current: &mut Current,
+    fiber: u16,
+    at_once: AtOnce,
+) -> Result<bool, AllocError>
+    requires { AllFit (here current.old).world }
+    ensures onward { IsOnward current.old current.new }
+    ensures here { OnOk result (here current.new ≡ here current.old) }
+    ensures entered { IfOk result (λ it. it ≡ the_entered at_once (here current.old) fiber) }
+{
+    if !at_once.chosen {
+        return Ok(true);
+    }
+    let set = pick(alloc, current, at_once)?;
+    Ok(is_member(&set, fiber))
 }
 
 /// Returns the fibers whose entries are made at this world, or `None` if those of all fibers are. Each of them is made

@@ -16,6 +16,7 @@ ghost use Rattle.every_schedule.specs.Private.Trails.{IsLeftOut, IsUnfolded, ran
 use crate::core_world::CoreWorld;
 use crate::current::Current;
 use crate::leaping::{AtOnce, is_memory, leap};
+use crate::persistent::is_entered;
 use cell_registry::{Limits, RunError};
 use effect_term::Program;
 use std::alloc::{AllocError, Global};
@@ -163,6 +164,9 @@ fn unfold_from(
     current.go_to(registry, numbers)?;
     let mut trail = Vec::new(alloc);
     for fiber in schedule {
+        if !is_entered(alloc, &mut *current, *fiber, at_once)? {
+            continue;
+        }
         match leap(&mut *current, *fiber, at_once, &mut trail) {
             Ok(()) => {}
             Err(fault) => {

@@ -1,7 +1,10 @@
 -- Sets of fibers and seeds, as the code keeps them.
 use Rattle.std.specs.Prelude.{◌≡◌, ℕ, Bool, List, Option, Some, None}
 use Rattle.every_schedule.specs.declared.persistent.Seed.{Seed}
-use Rattle.every_schedule.specs.Persistent.{members, set_of}
+use Rattle.std.specs.List.{slice_get}
+use Rattle.every_schedule.specs.declared.leaping.AtOnce.{AtOnce}
+use Rattle.every_schedule.specs.Persistent.{members, pick, set_of}
+use Rattle.every_schedule.specs.Places.{Place}
 use Rattle.scheduled_core.specs.Core.{World}
 use Rattle.std.specs.declared.alloc.Global.{Global}
 use Rattle.std.specs.declared.vec.Vec.{Vec}
@@ -21,3 +24,8 @@ abbrev pub IsSet : Option (List Bool) → Option (Vec Bool Global) → Type 0
 IsSet None None = Unit {0}
 IsSet (Some s) (Some v) = v.items ≡ s
 IsSet _ _ = ⊥
+
+-- the set was chosen at the world of this number, if there is one
+abbrev pub AreChosenAt : AtOnce → List Place → Option ℕ → Option (Vec Bool Global) → Type 0
+AreChosenAt n places None set = Unit {0}
+AreChosenAt n places (Some i) set = (p : Place) × (slice_get places i ≡ Some p) × IsSet (pick n p) set

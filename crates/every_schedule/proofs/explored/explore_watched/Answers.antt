@@ -5,7 +5,7 @@ use Rattle.scheduled_core.specs.Core.{core, first_world}
 use Rattle.world_search.specs.declared.answers.Answer.{Answer as Found}
 use Rattle.every_schedule.specs.{declared.exploration.Answer.Answer, Explored.{AreInOrder, AreMoves, IsAnswered, IsCovered, IsPastBound, IsReached, ListOnce}}
 use Rattle.every_schedule.specs.{Places.{Place, first_place, report_at, stepped}, Reduced.hundred, Private.Trails.{AreUnfolded, EndApart, IsLeftOut}}
-use Rattle.every_schedule.proofs.{Placed.core_run, Deadlocks.none_waits, Growing.size, GrowingLeaps.leaps_grow, Laws.{alike, ended, faultless}}
+use Rattle.every_schedule.proofs.{Placed.core_run, Deadlocks.none_waits, Growing.size, GrowingLeaps.chosen_grow, Laws.{alike, ended, faultless}}
 use Rattle.every_schedule.proofs.{PastBound.past_bound, Told.{all_within, answered, covered, in_order, moving, numbered, once, reached, short}}
 use Rattle.every_schedule.proofs.Trails.{all_covered, all_onward, brief, few, found_apart, made, right, unfolded_once}
 use Rattle.world_search.specs.Answers as search
@@ -16,10 +16,10 @@ told-requires g c =
     let code = code_of (source_of c.args.program.now) in
     let k = c.args.limits in
     let start = first_place code k in
-    let kept = c.search.new.worlds.worlds in
+    let kept = c.search.new.worlds in
     let raw = c.in_ok-found.found.answers.items in
     let found = c.in_ok-unfolded.unfolded.answers.items in
-    let first : slice_get c.in_ok-worlds.worlds.worlds.places 0 ≡ Some start = ap (λ (l : List Place). slice_get l 0) c.in_ok-worlds.ensures.places in
+    let first : slice_get c.in_ok-worlds.worlds.places 0 ≡ Some start = ap (λ (l : List Place). slice_get l 0) c.in_ok-worlds.ensures.places in
     let each : AreUnfolded hundred c.args.bounds.entries start raw found =
     subst (λ (l : List Found). AreUnfolded hundred c.args.bounds.entries start l found) c.as_slice.ensures.value c.in_ok-unfolded.ensures.each in
     all_within kept start found (right kept start hundred c.args.bounds.entries raw found each (c.in_ok-found.ensures.each start first))
@@ -30,14 +30,14 @@ returns g c =
     let k = c.args.limits in
     let most = c.args.bounds.entries in
     let start = first_place code k in
-    let kept = c.search.new.worlds.worlds in
+    let kept = c.search.new.worlds in
     let raw = c.in_ok-found.found.answers.items in
     let found = c.in_ok-unfolded.unfolded.answers.items in
     let answers = c.in_ok-answers.answers.items in
     let told = c.in_ok-answers.ensures.told in
     let same = c.as_slice.ensures.value in
     let is = sym c.new-2.ensures in
-    let first : slice_get c.in_ok-worlds.worlds.worlds.places 0 ≡ Some start = ap (λ (l : List Place). slice_get l 0) c.in_ok-worlds.ensures.places in
+    let first : slice_get c.in_ok-worlds.worlds.places 0 ≡ Some start = ap (λ (l : List Place). slice_get l 0) c.in_ok-worlds.ensures.places in
     let each : AreUnfolded hundred most start raw found =
     subst (λ (l : List Found). AreUnfolded hundred most start l found) same c.in_ok-unfolded.ensures.each in
     let its = c.in_ok-found.ensures.each start first in
@@ -52,7 +52,7 @@ returns g c =
     (subst (search.IsCovered stepped report_at kept.places kept.faults found) (core_run code k schedule)
     (all_covered kept start hundred most raw found each (whole yes) (c.in_ok-found.ensures.all (c.are_both.ensures.one yes) start first) schedule))) in
     let on = λ (yes : c.are_both.result ≡ true) (schedule : List ℕ). all_onward kept start hundred most raw found each (whole yes)
-    (c.in_ok-found.ensures.onward (c.are_both.ensures.one yes) size (leaps_grow hundred) start first) schedule in
+    (c.in_ok-found.ensures.onward (c.are_both.ensures.one yes) size (chosen_grow hundred) start first) schedule in
     let onward = λ (yes : c.are_both.result ≡ true) (schedule : List ℕ).
     subst (λ (l : List Answer). IsAnswered k l (core code k (schedule ++ (on yes schedule).0))) is
     (answered kept found answers told k (core code k (schedule ++ (on yes schedule).0))
@@ -70,7 +70,7 @@ returns g c =
       once = subst (λ (l : List Answer). ListOnce l) is
           (once kept found answers told c.told.ensures.single (unfolded_once kept start hundred most raw found each once_raw apart));
       stopped = λ isnt unhalted.
-          let alone : length c.in_ok-worlds.worlds.worlds.places ≡ 1 = ap (λ (l : List Place). length l) c.in_ok-worlds.ensures.places in
+          let alone : length c.in_ok-worlds.worlds.places ≡ 1 = ap (λ (l : List Place). length l) c.in_ok-worlds.ensures.places in
           elim (c.are_both.ensures.neither isnt) [
             | inl stop ↦ inl (c.in_ok-found.ensures.stopped stop unhalted alone)
             | inr cut ↦
