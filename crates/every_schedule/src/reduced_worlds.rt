@@ -88,7 +88,8 @@ impl ReducedWorlds {
     // Whether the entry of a fiber is made at a world. The fibers are chosen at the first question about a world.
     fn is_entered(&mut self, world: usize, fiber: u16) -> Result<bool, AllocError>
         requires { world < length self.old.places }
-        ensures same { self.new ≡ self.old }
+        ensures places { self.new.places ≡ self.old.places }
+        ensures faults { self.new.faults ≡ self.old.faults }
         ensures entered { IfOk result (λ it. (p : Place) → slice_get self.old.places world ≡ Some p →
             it ≡ is_entered hundred p fiber) }
     {
