@@ -34,3 +34,4 @@ pub mod SeenLeaps
 pub mod RefValues
 pub mod Prefixes
 pub mod Certified
+pub mod Sets

@@ -5,7 +5,7 @@ ghost use Rattle.fiber_frames.specs.Fiber.{Fiber, ask_of};
 ghost use Rattle.scheduled_core.specs.Core.{wish_of};
 ghost use Rattle.scheduled_core.specs.Fitting.{AllFit};
 ghost use Rattle.every_schedule.specs.Persistent.{can_use as the_use, depends_on as the_dependence, is_ready_in};
-ghost use Rattle.every_schedule.specs.Persistent.{is_number, is_ready, is_sound as the_soundness, needs_at};
+ghost use Rattle.every_schedule.specs.Persistent.{is_itself, is_number, is_ready, is_sound as the_soundness, needs_at};
 ghost use Rattle.every_schedule.specs.Persistent.{needs_of_call, needs_one, needs_two, needs_unless};
 ghost use Rattle.every_schedule.specs.Reduced.{IsNamed};
 ghost use Rattle.every_schedule.specs.Private.Standing.{IsSame, here};
@@ -122,9 +122,13 @@ pub(crate) fn depends_on(current: &mut Current, needs: Needs, place: usize) -> b
     ensures depends { (g : Fiber) → slice_get (here current.old).world.fibers place ≡ Some g →
         result ≡ the_dependence needs place g }
 {
-    is_at(needs.fiber, place)
-        || can_use(&mut *current, needs.one, place)
-        || can_use(current, needs.two, place)
+    if is_at(needs.fiber, place) {
+        return true;
+    }
+    if can_use(&mut *current, needs.one, place) {
+        return true;
+    }
+    can_use(current, needs.two, place)
 }
 
 // Whether the fiber of this number, if there is one, is at this place.
@@ -148,9 +152,21 @@ fn can_use(current: &mut Current, what: Option<(Use, u16)>, place: usize) -> boo
     match what {
         None => false,
         Some((what, number)) => {
-            what == Use::Cancels && usize::from(number) == place
-                || current.uses(place, what, number)
+            if is_own_cancel(what, number, place) {
+                return true;
+            }
+            current.uses(place, what, number)
         }
+    }
+}
+
+// Whether this use is the request of the cancellation of the fiber at this place.
+fn is_own_cancel(what: Use, number: u16, place: usize) -> bool
+    ensures { (g : Fiber) → g.number ≡ place → result ≡ is_itself what number g }
+{
+    match what {
+        Use::Cancels => usize::from(number) == place,
+        _ => false,
     }
 }
 

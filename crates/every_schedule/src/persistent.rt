@@ -1,15 +1,16 @@
 //! Persistent sets: the fibers whose entries are made at a world.
-ghost use Rattle.std.specs.Prelude.{◌≡◌, ◌<◌, ◌+◌, List, Bool, false, true, length, min, IfOk, OnOk, None, Option, Some};
+ghost use Rattle.std.specs.Prelude.{◌≡◌, ◌<◌, ◌+◌, ◌||◌, not, false, length, IfOk, OnOk, Some};
 ghost use Rattle.std.specs.List.{slice_get};
 ghost use Rattle.scheduled_core.specs.Fitting.{AllFit};
-ghost use Rattle.every_schedule.specs.Persistent.{best as the_best, grown, in_set, is_lighter as the_lightness};
+ghost use Rattle.fiber_frames.specs.Fiber.{Fiber};
+ghost use Rattle.every_schedule.specs.Persistent.{best as the_best, in_set, is_lighter as the_lightness};
 ghost use Rattle.every_schedule.specs.Persistent.{is_persistent as the_persistence, joined, joined_if};
 ghost use Rattle.every_schedule.specs.Persistent.{members as the_members};
 ghost use Rattle.every_schedule.specs.Persistent.{is_entered as the_entered, is_member as the_member};
 ghost use Rattle.every_schedule.specs.Persistent.{needs_at, pick as the_pick, set_of as the_set, spared, spread};
 ghost use Rattle.every_schedule.specs.Persistent.{stands_in};
 ghost use Rattle.every_schedule.specs.Reduced.{leapt};
-ghost use Rattle.every_schedule.specs.Private.Persistent.{IsBest, IsSet};
+ghost use Rattle.every_schedule.specs.Private.Persistent.{IsBest, IsJoined, IsSet, has_fewer, is_tried};
 ghost use Rattle.every_schedule.specs.Private.Standing.{IsOnward, IsSame, here};
 
 use crate::current::Current;
@@ -36,12 +37,29 @@ fn join(current: &mut Current, needs: Needs, set: &mut Vec<bool>) -> bool
 {
     let mut any = false;
     for place in 0..current.born() {
-        if !set[place] && depends_on(&mut *current, needs, place) {
-            set[place] = true;
-            any = true;
-        }
+        let joins = join_one(&mut *current, needs, place, &mut *set);
+        any = either(any, joins);
     }
     any
+}
+
+// The fiber at this place joins the set if a move with these needs depends on it. Returns whether it joined.
+fn join_one(current: &mut Current, needs: Needs, place: usize, set: &mut Vec<bool>) -> bool
+    requires place { place < length (here current.old).world.fibers }
+    requires many { length set.old.items ≡ length (here current.old).world.fibers }
+    requires fits { AllFit (here current.old).world }
+    ensures same { IsSame current.old current.new }
+    ensures joins { IsJoined needs place (here current.old).world.fibers set.old.items set.new.items }
+    ensures stays { result ≡ false → set.new.items ≡ set.old.items }
+{
+    if set[place] {
+        return false;
+    }
+    if !depends_on(current, needs, place) {
+        return false;
+    }
+    set[place] = true;
+    true
 }
 
 // For each fiber of the set, those join that its next move depends on. Returns whether any joined.
@@ -155,12 +173,20 @@ fn better(
     }
     let set = set_of(alloc, current, place)?;
     let many = members(set.as_slice());
-    if let Some(it) = &best {
-        if many >= it.many {
-            return Ok(best);
-        }
+    if !is_fewer(many, &best) {
+        return Ok(best);
     }
     Ok(Some(Seed { fiber, set, many }))
+}
+
+// Whether a set of this many fibers is smaller than that of `best`, if there is one.
+fn is_fewer(many: usize, best: &Option<Seed>) -> bool
+    ensures { result ≡ has_fewer many best.now }
+{
+    match best {
+        None => true,
+        Some(it) => many < it.many,
+    }
 }
 
 // Whether a move with these needs depends on no fiber outside the set.
@@ -171,11 +197,27 @@ fn are_spared(current: &mut Current, needs: Needs, set: &[bool]) -> bool
     ensures spared { result ≡ spared needs set.now 0 (here current.old).world.fibers }
 {
     for place in 0..current.born() {
-        if !set[place] && depends_on(&mut *current, needs, place) {
+        let spared = is_spared(&mut *current, needs, place, set);
+        if !spared {
             return false;
         }
     }
     true
+}
+
+// Whether the fiber at this place is in the set, or a move with these needs doesn't depend on it.
+fn is_spared(current: &mut Current, needs: Needs, place: usize, set: &[bool]) -> bool
+    requires place { place < length (here current.old).world.fibers }
+    requires many { length set.now ≡ length (here current.old).world.fibers }
+    requires fits { AllFit (here current.old).world }
+    ensures same { IsSame current.old current.new }
+    ensures spared { (g : Fiber) → slice_get (here current.old).world.fibers place ≡ Some g →
+        result ≡ is_tried needs place g set.now }
+{
+    if set[place] {
+        return true;
+    }
+    !depends_on(current, needs, place)
 }
 
 // Whether the next move of a fiber depends on no fiber outside the set.
@@ -203,11 +245,28 @@ fn is_persistent(current: &mut Current, set: &[bool]) -> bool
     ensures persistent { result ≡ the_persistence (here current.old).world set.now }
 {
     for place in 0..few_born(&*current) {
-        if set[place] && !stands(&mut *current, place as u16, set) {
+        let stands = stands_if_in(&mut *current, place as u16, set);
+        if !stands {
             return false;
         }
     }
     true
+}
+
+// Whether a fiber isn't in the set, or its next move depends on no fiber outside the set.
+fn stands_if_in(current: &mut Current, fiber: u16, set: &[bool]) -> bool
+    requires born { fiber < length (here current.old).world.fibers }
+    requires within { fiber < (here current.old).limits.fibers }
+    requires many { length set.now ≡ length (here current.old).world.fibers }
+    requires fits { AllFit (here current.old).world }
+    ensures same { IsSame current.old current.new }
+    ensures stands { result ≡ (not (in_set set.now fiber)
+        || stands_in (here current.old).world set.now fiber (slice_get (here current.old).world.fibers fiber)) }
+{
+    if !set[usize::from(fiber)] {
+        return true;
+    }
+    stands(current, fiber, set)
 }
 
 // Whether the entry of a fiber, and the own moves after it, lead to a world that weighs less than `most`.
