@@ -28,9 +28,13 @@ use Rattle.every_schedule.specs.Persistent.{best, depends_on, grown, in_set, is_
 use Rattle.every_schedule.specs.Persistent.{members, needs_at, needs_in, needs_of, needs_of_call, needs_one, needs_two, needs_unless, one_if}
 use Rattle.every_schedule.specs.Persistent.{seed_if, set_of, spared, spread, stand, stands_in, stands_with, weights}
 use Rattle.every_schedule.specs.Private.Persistent.{IsBest, IsJoined, IsSeed, has_fewer, is_tried}
+use Rattle.every_schedule.specs.Places.{Place}
+use Rattle.every_schedule.specs.Private.Numbered.{IsWorldOf}
+use Rattle.every_schedule.specs.Private.Standing.{IsOnward, Stand}
 use Rattle.every_schedule.specs.Reduced.{has_come_to_end, is_completed, next_of}
 use Rattle.every_schedule.specs.Sizes.{capped}
 use Rattle.every_schedule.proofs.Alone.{born_given}
+use Rattle.every_schedule.proofs.Numbered.{of_more}
 use Rattle.every_schedule.proofs.OwnKept.{ask_for, asked_so}
 
 -- ---- tests
@@ -211,11 +215,17 @@ module _ (w : World) where
 
     -- a seed with a set that isn't smaller doesn't replace the seed before
     pub best_stays : has_fewer m s ≡ false → IsBest w (best w (n + 1)) s
-    best_stays no = subst (λ (o : Option ℕ). IsBest w o s) (sym (best_next n false (both ∙ no))) h
+    best_stays more = subst (λ (o : Option ℕ). IsBest w o s) (sym (best_next n false (both ∙ more))) h
 
-    pub best_replaced : (x : Seed) → x.fiber ≡ n → x.set.items ≡ set_of w n → x.many ≡ m → has_fewer m s ≡ true → IsBest w (best w (n + 1)) (Some x)
-    best_replaced x fiber set size yes =
-        subst (λ (o : Option ℕ). IsBest w o (Some x)) (sym (best_next n true (both ∙ yes))) (record { fiber = fiber; set = set; many = size ∙ many })
+    pub best_replaced : (x : Seed) → x.fiber ≡ n → x.set.items ≡ set_of w n → x.many ≡ m → length x.set.items ≡ length w.fibers → has_fewer m s ≡ true →
+        IsBest w (best w (n + 1)) (Some x)
+    best_replaced x fiber is size long fewer =
+        subst (λ (o : Option ℕ). IsBest w o (Some x)) (sym (best_next n true (both ∙ fewer))) record { fiber = fiber; set = is; many = size ∙ many; long = long }
+
+  -- the set of a seed has a flag for each fiber
+  pub seed_long : (o : Option ℕ) (s : Seed) → IsBest w o (Some s) → length s.set.items ≡ length w.fibers
+  seed_long None s h = absurd h
+  seed_long (Some f) s h = h.long
 
   -- ---- what is checked of a set
   module _ (s : List Bool) where
@@ -329,3 +339,11 @@ module _ (w : World) where
         ∙ ap (λ (t : Bool). t && stands_with (needs_of w f (wish_of (ask_of g))) w s) e
         ∙ ap (λ (t : Bool). t && spared (needs_of w f (wish_of (ask_of g))) s 0 w.fibers) (needs_given fits f g at)
         ∙ ap (λ (o : Option Fiber). spared (needs_in w f o) s 0 w.fibers) (sym at)
+
+-- ---- the way back
+-- a row still makes its world where more states are kept
+pub row_on : (s t : Stand) (r : ℕ) (ns : List ℕ) (p : Place) → IsOnward s t → ns ≡ s.numbers →
+    IsWorldOf s.fibers s.registries (record { registry = r; fibers = s.numbers }) p → IsWorldOf t.fibers t.registries (record { registry = r; fibers = ns }) p
+row_on s t r ns p on same row =
+    of_more s.fibers t.fibers s.registries t.registries on.fibers on.registries (record { registry = r; fibers = ns }) p
+    (subst (λ (l : List ℕ). IsWorldOf s.fibers s.registries (record { registry = r; fibers = l }) p) (sym same) row)

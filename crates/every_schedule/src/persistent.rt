@@ -1,12 +1,12 @@
 //! Persistent sets: the fibers whose entries are made at a world.
-ghost use Rattle.std.specs.Prelude.{◌≡◌, ◌<◌, ◌+◌, ◌||◌, not, false, length, IfOk, OnOk, Some};
+ghost use Rattle.std.specs.Prelude.{◌≡◌, ◌<◌, ◌≤◌, ◌+◌, ◌||◌, not, false, true, Bool, List, Option, length, IfOk, OnOk, Some};
 ghost use Rattle.std.specs.List.{slice_get};
 ghost use Rattle.scheduled_core.specs.Fitting.{AllFit};
 ghost use Rattle.fiber_frames.specs.Fiber.{Fiber};
 ghost use Rattle.every_schedule.specs.Persistent.{best as the_best, in_set, is_lighter as the_lightness};
 ghost use Rattle.every_schedule.specs.Persistent.{is_persistent as the_persistence, joined, joined_if};
-ghost use Rattle.every_schedule.specs.Persistent.{members as the_members};
 ghost use Rattle.every_schedule.specs.Persistent.{is_entered as the_entered, is_member as the_member};
+ghost use Rattle.every_schedule.specs.Persistent.{members as the_members, one_if as the_count};
 ghost use Rattle.every_schedule.specs.Persistent.{needs_at, pick as the_pick, set_of as the_set, spared, spread};
 ghost use Rattle.every_schedule.specs.Persistent.{stands_in};
 ghost use Rattle.every_schedule.specs.Reduced.{leapt};
@@ -132,11 +132,17 @@ fn members(set: &[bool]) -> usize
 {
     let mut many = 0;
     for place in 0..set.len() {
-        if set[place] {
-            many = many + 1;
-        }
+        many = many + one_if(set[place]);
     }
     many
+}
+
+// 1 for a fiber that is in the set, or else 0.
+fn one_if(within: bool) -> usize
+    ensures count { result ≡ the_count within }
+    ensures few { result ≤ 1 }
+{
+    if within { 1 } else { 0 }
 }
 
 // Returns the first seed that is ready and whose set is smallest, if a fiber is ready.

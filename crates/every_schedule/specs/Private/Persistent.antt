@@ -27,6 +27,7 @@ pub record IsSeed (w : World) (f : ℕ) (s : Seed) : Type 0 where
   pub fiber : s.fiber ≡ f
   pub set : s.set.items ≡ set_of w f
   pub many : s.many ≡ members (set_of w f)
+  pub long : length s.set.items ≡ length w.fibers
 
 abbrev pub IsBest : World → Option ℕ → Option Seed → Type 0
 IsBest w None None = Unit {0}
