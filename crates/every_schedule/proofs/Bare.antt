@@ -115,7 +115,7 @@ fits_bare w h = record {
 }
 
 -- ---- own moves
-next_bare : (s : Cells) (k : naming.Place) → next_of k (without_waits s) ≡ next_of k s
+pub next_bare : (s : Cells) (k : naming.Place) → next_of k (without_waits s) ≡ next_of k s
 next_bare s naming.A_fiber = refl
 next_bare s naming.A_ref = refl
 next_bare s naming.A_deferred = refl
@@ -130,7 +130,7 @@ left_bare w f = ap (λ t. t && others (is_another f) f 0 w.fibers) (kept_bare Ca
 two_bare : (u v : Use) (w : World) (f n : ℕ) → is_kept u (unnoted w) f n && is_kept v (unnoted w) f n ≡ is_kept u w f n && is_kept v w f n
 two_bare u v w f n = ap₂ (λ s t. s && t) (kept_bare u w f n) (kept_bare v w f n)
 
-end_bare : (w : World) (i : ℕ) → has_come_to_end (unnoted w) i ≡ has_come_to_end w i
+pub end_bare : (w : World) (i : ℕ) → has_come_to_end (unnoted w) i ≡ has_come_to_end w i
 end_bare w i = ap (λ (x : Cell). rests (slice_get w.fibers i) && has_ended x.stage) (unawaited_cell w.cells i)
 
 own_call_bare : (w : World) (f : ℕ) (c : Call) → is_own_call (unnoted w) f c ≡ is_own_call w f c

@@ -1,5 +1,5 @@
 -- A fiber's own move commutes with each move of another fiber.
-use Rattle.std.proofs.Common.{◌≡◌, ◌≢◌, ℕ, zero, suc, true, List, [], ◌∷◌, ◌++◌, set, Some, None, Option, Result, Ok, refl, sym, ap, ◌∙◌, subst, append-nil}
+use Rattle.std.proofs.Common.{◌≡◌, ◌≢◌, ℕ, zero, suc, true, List, [], ◌∷◌, ◌++◌, set, Some, None, Option, Result, Ok, refl, sym, ap, ◌∙◌, subst, append_assoc, append-nil}
 use Rattle.std.specs.List.{slice_get}
 use Rattle.effect_term.specs.declared.reply.Reply.{Reply}
 use Rattle.fiber_frames.specs.Fiber.{Fiber, ask_of, move, silent_move}
@@ -24,6 +24,17 @@ set_apart (x ∷ xs) zero zero a b apart = absurd (apart refl)
 set_apart (x ∷ xs) zero (suc g) a b apart = refl
 set_apart (x ∷ xs) (suc f) zero a b apart = refl
 set_apart (x ∷ xs) (suc f) (suc g) a b apart = ap (λ l. x ∷ l) (set_apart xs f g a b (λ e. apart (ap suc e)))
+
+-- two elements are changed, and each of the two changes adds further elements at the end
+pub set_over : {A : Type 0} (l : List A) (f g : ℕ) (a b : A) → g ≢ f → slice_get l f ≡ Some a → slice_get l g ≡ Some b → (a' b' : A) (mine theirs : List A) →
+    mine ++ theirs ≡ theirs ++ mine → set (set l g b' ++ theirs) f a' ++ mine ≡ set (set l f a' ++ mine) g b' ++ theirs
+set_over l f g a b apart at there a' b' mine theirs swap =
+    ap (λ m. m ++ mine) (set_early (set l g b') theirs f a a' (slice_get-set_other l g f b' apart ∙ at))
+    ∙ append_assoc (set (set l g b') f a') theirs mine
+    ∙ ap (λ m. set (set l g b') f a' ++ m) (sym swap)
+    ∙ ap (λ m. m ++ (mine ++ theirs)) (set_apart l g f b' a' apart)
+    ∙ sym (append_assoc (set (set l f a') g b') mine theirs)
+    ∙ ap (λ m. m ++ theirs) (sym (set_early (set l f a') mine g b b' (slice_get-set_other l f g a' (λ e. apart (sym e)) ∙ there)))
 
 -- ---- the own move
 -- an own call starts no fiber

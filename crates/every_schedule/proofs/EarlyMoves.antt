@@ -1,6 +1,6 @@
 -- A birth commutes with each move of another fiber that is born before it. So births can be made early.
 use Rattle.std.proofs.Common.{◌≡◌, ◌≢◌, ◌⊎◌, inl, inr, ℕ, Bool, true, false, List, [], ◌++◌, set, Some, None, Option, Result, Ok, Err}
-use Rattle.std.proofs.Common.{refl, sym, ap, ◌∙◌, subst, arith, append_assoc, append-nil}
+use Rattle.std.proofs.Common.{refl, sym, ap, ◌∙◌, subst, arith, append-nil}
 use Rattle.std.specs.List.{slice_get}
 use Rattle.effect_term.specs.declared.reply.Reply.{Reply}
 use Rattle.effect_term.specs.declared.reply.Reply.TheVariants as reply
@@ -28,13 +28,13 @@ use Rattle.every_schedule.specs.declared.leaping.AtOnce.{AtOnce}
 use Rattle.every_schedule.specs.Places.{Place, bare, bared, entering, moves_at, placed, stepped, unnoted, wants}
 use Rattle.every_schedule.specs.Reduced.{IsBirth, IsMade, MayOwn, has_birth, is_birth, is_birth_call, keeps, others}
 use Rattle.every_schedule.proofs.Bare.{bare_step, entering_bare, goes_bare, idle_stays, moves_step}
-use Rattle.every_schedule.proofs.Commuting.{set_apart, set_early}
+use Rattle.every_schedule.proofs.Commuting.{set_over}
 use Rattle.every_schedule.proofs.OwnKept.{ask_for, asked_so, asks_apart, keeps_child, keeps_move, others_at, others_born, others_set}
 use Rattle.every_schedule.proofs.Still.{may_are_free}
 
 -- ---- a birth, and a call of another kind
 -- the call makes nothing of the kind that this birth makes
-abbrev IsClear : Call → Call → Type 0
+abbrev pub IsClear : Call → Call → Type 0
 IsClear Start d = d ≢ Start
 IsClear NewRef d = d ≢ NewRef
 IsClear NewDeferred d = d ≢ NewDeferred
@@ -56,14 +56,14 @@ deferred_same s g NewDeferred h = absurd (h refl)
 deferred_same s g _ h = refl
 
 module _ (s : Cells) (f g : ℕ) (d : Call) where
-  birth_reply : (c : Call) → IsClear c d → reply_of (after s g d) f c ≡ reply_of s f c
+  pub birth_reply : (c : Call) → IsClear c d → reply_of (after s g d) f c ≡ reply_of s f c
   unfolding reply_of
   birth_reply Start h = ap reply.Number (fiber_same s g d h)
   birth_reply NewRef h = ap reply.Number (ref_same s g d h)
   birth_reply NewDeferred h = ap reply.Number (deferred_same s g d h)
   birth_reply _ h = absurd h
 
-  birth_room : (k : Limits) (c : Call) → IsClear c d → refusal k (after s g d) f c ≡ refusal k s f c
+  pub birth_room : (k : Limits) (c : Call) → IsClear c d → refusal k (after s g d) f c ≡ refusal k s f c
   unfolding refusal
   birth_room k Start h = ap (λ n. full Fibers n k.fibers) (fiber_same s g d h)
   birth_room k NewRef h = ap (λ n. full Refs n k.refs) (ref_same s g d h)
@@ -116,30 +116,30 @@ deferred_swaps s f g NewDeferred = refl
 deferred_swaps s f g _ = refl
 
 module _ (s : Cells) (f g : ℕ) (d : Call) where
-  other_reply : (c : Call) → IsClear c d → reply_of (after s f c) g d ≡ reply_of s g d
+  pub other_reply : (c : Call) → IsClear c d → reply_of (after s f c) g d ≡ reply_of s g d
   other_reply Start h = started_reply s f g d h
   other_reply NewRef h = ref_reply s f g d h
   other_reply NewDeferred h = deferred_reply s f g d h
   other_reply _ h = absurd h
 
-  other_room : (k : Limits) (c : Call) → IsClear c d → refusal k (after s f c) g d ≡ refusal k s g d
+  pub other_room : (k : Limits) (c : Call) → IsClear c d → refusal k (after s f c) g d ≡ refusal k s g d
   other_room k Start h = started_room k s f g d h
   other_room k NewRef h = ref_room k s f g d h
   other_room k NewDeferred h = deferred_room k s f g d h
   other_room k _ h = absurd h
 
-  births_swap : (c : Call) → IsClear c d → after (after s f c) g d ≡ after (after s g d) f c
+  pub births_swap : (c : Call) → IsClear c d → after (after s f c) g d ≡ after (after s g d) f c
   births_swap Start h = started_swaps s f g d
   births_swap NewRef h = ref_swaps s f g d
   births_swap NewDeferred h = deferred_swaps s f g d
   births_swap _ h = absurd h
 
 -- only one of the two calls starts a fiber
-no_child : (b : Fiber) (d : Call) (q : Reply) → d ≢ Start → born b d q ≡ []
+pub no_child : (b : Fiber) (d : Call) (q : Reply) → d ≢ Start → born b d q ≡ []
 no_child b Start q h = absurd (h refl)
 no_child b _ q h = refl
 
-children_swap : (a b : Fiber) (c d : Call) (r q : Reply) → IsClear c d → born a c r ++ born b d q ≡ born b d q ++ born a c r
+pub children_swap : (a b : Fiber) (c d : Call) (r q : Reply) → IsClear c d → born a c r ++ born b d q ≡ born b d q ++ born a c r
 children_swap a b Start d r q h =
     ap (λ l. born a Start r ++ l) (no_child b d q h) ∙ append-nil (born a Start r) ∙ sym (ap (λ l. l ++ born a Start r) (no_child b d q h))
 children_swap a b NewRef d r q h = sym (append-nil (born b d q))
@@ -148,26 +148,26 @@ children_swap a b _ d r q h = absurd h
 
 -- ---- what no other fiber can make
 -- a fiber that makes nothing of the kind isn't answered a number of that kind
-abbrev IsMaking : Use → Type 0
-IsMaking u = (i : ℕ) (a : Ask) (q : Reply) → AskApart u 0 i a → NumberApart u 0 a q
+abbrev pub IsMaking : Use → Type 0
+IsMaking u = (n i : ℕ) (a : Ask) (q : Reply) → AskApart u n i a → NumberApart u n a q
 
-starts_clear : IsMaking Starts
-starts_clear i ask.Start q h = absurd (h refl)
-starts_clear i ask.NewRef q h = λ kind. absurd (cc)
-starts_clear i ask.NewDeferred q h = λ kind. absurd (cc)
-starts_clear i _ q h = tt
+pub starts_clear : IsMaking Starts
+starts_clear n i ask.Start q h = absurd (h refl)
+starts_clear n i ask.NewRef q h = λ kind. absurd (cc)
+starts_clear n i ask.NewDeferred q h = λ kind. absurd (cc)
+starts_clear n i _ q h = tt
 
-refs_clear : IsMaking MakesRefs
-refs_clear i ask.Start q h = λ kind. absurd (cc)
-refs_clear i ask.NewRef q h = absurd (h refl)
-refs_clear i ask.NewDeferred q h = λ kind. absurd (cc)
-refs_clear i _ q h = tt
+pub refs_clear : IsMaking MakesRefs
+refs_clear n i ask.Start q h = λ kind. absurd (cc)
+refs_clear n i ask.NewRef q h = absurd (h refl)
+refs_clear n i ask.NewDeferred q h = λ kind. absurd (cc)
+refs_clear n i _ q h = tt
 
-deferreds_clear : IsMaking MakesDeferreds
-deferreds_clear i ask.Start q h = λ kind. absurd (cc)
-deferreds_clear i ask.NewRef q h = λ kind. absurd (cc)
-deferreds_clear i ask.NewDeferred q h = absurd (h refl)
-deferreds_clear i _ q h = tt
+pub deferreds_clear : IsMaking MakesDeferreds
+deferreds_clear n i ask.Start q h = λ kind. absurd (cc)
+deferreds_clear n i ask.NewRef q h = λ kind. absurd (cc)
+deferreds_clear n i ask.NewDeferred q h = absurd (h refl)
+deferreds_clear n i _ q h = tt
 
 module _ (w : World) (f g : ℕ) (b : Fiber) (apart : g ≢ f) (at : slice_get w.fibers g ≡ Some b) where
   module _ (u : Use) (clear : IsMaking u) (alone : others (keeps u 0) f 0 w.fibers ≡ true) where
@@ -177,7 +177,7 @@ module _ (w : World) (f g : ℕ) (b : Fiber) (apart : g ≢ f) (at : slice_get w
     moved_alone : (q : Reply) → others (keeps u 0) f 0 (set w.fibers g (move b q)) ≡ true
     moved_alone q =
         others_set (keeps u 0) f w.fibers 0 g (move b q) alone
-        (keeps_move u 0 b off q (clear b.number (ask_of b) q (asks_apart u 0 b off)))
+        (keeps_move u 0 b off q (clear 0 b.number (ask_of b) q (asks_apart u 0 b off)))
 
     called_alone : (d : Call) (q : Reply) → others (keeps u 0) f 0 (set w.fibers g (move b q) ++ born b d q) ≡ true
     called_alone d q =
@@ -240,15 +240,7 @@ module _ (k : Limits) (f : ℕ) (a : Fiber) (c : Call) (is : wish_of (ask_of a) 
     -- both moves, in either order, with the children of both after all fibers
     turn_over : (b' : Fiber) (more : List Fiber) → born a c r ++ more ≡ more ++ born a c r →
         set (set w.fibers g b' ++ more) f (move a r) ++ born a c r ≡ set (set w.fibers f (move a r) ++ born a c r) g b' ++ more
-    turn_over b' more swap =
-        let here : slice_get (set w.fibers g b') f ≡ Some a = slice_get-set_other w.fibers g f b' apart ∙ at in
-        let mine : slice_get (set w.fibers f (move a r)) g ≡ Some b = slice_get-set_other w.fibers f g (move a r) (λ e. apart (sym e)) ∙ there in
-        ap (λ l. l ++ born a c r) (set_early (set w.fibers g b') more f a (move a r) here)
-        ∙ append_assoc (set (set w.fibers g b') f (move a r)) more (born a c r)
-        ∙ ap (λ l. set (set w.fibers g b') f (move a r) ++ l) (sym swap)
-        ∙ ap (λ l. l ++ (born a c r ++ more)) (set_apart w.fibers g f b' (move a r) apart)
-        ∙ sym (append_assoc (set (set w.fibers f (move a r)) g b') (born a c r) more)
-        ∙ ap (λ l. l ++ more) (sym (set_early (set w.fibers f (move a r)) (born a c r) g b b' mine))
+    turn_over b' more swap = set_over w.fibers f g a b apart at there (move a r) b' (born a c r) more swap
 
     by_answer : (d : Call) → wish_of (ask_of b) ≡ Shared d → (o : Option CellError) → entering (place on) g ≡ placed k (answered on g b d o) →
         Com (placed k (answered w g b d o))

@@ -19,6 +19,9 @@ pub mod Growing
 pub mod Bare
 pub mod Still
 pub mod EarlyMoves
+pub mod TwoMoves
+pub mod Outside
+pub mod Apart
 pub mod Leaps
 pub mod Trails
 pub mod PastBound

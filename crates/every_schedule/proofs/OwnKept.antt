@@ -1,5 +1,5 @@
 -- An own move stays an own move, whatever another fiber does.
-use Rattle.std.proofs.Common.{◌≡◌, ◌≢◌, ◌⊎◌, inl, inr, ℕ, zero, suc, ◌+◌, ◌<◌, ◌≤◌, nat_eq, nat_lt, Bool, true, false, not, ◌&&◌, ◌||◌, List, [], ◌∷◌, ◌++◌, set, Some, None, Option, refl, sym, ap, ap₂, ◌∙◌, subst, arith, get_or-set_other, append-nil}
+use Rattle.std.proofs.Common.{◌≡◌, ◌≢◌, ◌⊎◌, inl, inr, ℕ, zero, suc, ◌+◌, ◌<◌, ◌≤◌, nat_eq, nat_lt, Bool, true, false, not, ◌&&◌, ◌||◌, List, [], ◌∷◌, ◌++◌, set, Some, None, Option, refl, sym, ap, ap₂, ◌∙◌, subst, arith, append-nil}
 use Rattle.std.specs.Prelude.{is_none, ℤ}
 use Rattle.std.specs.List.{slice_get}
 use Rattle.derived_ops.specs.Naming.{A_deferred, A_fiber, A_ref, No_handle, Place}
@@ -14,15 +14,13 @@ use Rattle.fiber_frames.specs.Fiber.{Cuts, Fiber, Looks, Move_case, Reduces, Res
 use Rattle.fiber_frames.specs.Rows.{number_in}
 use Rattle.fiber_frames.specs.Uses.{AskApart, NumberApart, Spares, is_some, used_place, uses_in}
 use Rattle.fiber_frames.proofs.UnusedMoves.{unused_ask, unused_child, unused_move}
-use Rattle.cell_registry.specs.declared.cell.Cell.{Cell}
 use Rattle.cell_registry.specs.declared.cell.Stage.{Stage}
 use Rattle.cell_registry.specs.declared.call.Call.{Call}
 use Rattle.cell_registry.specs.declared.call.Call.TheVariants.{Start, Cancel, Join, Look, Mask, Unmask, Cut, Finish}
 use Rattle.cell_registry.specs.declared.call.Call.TheVariants.{NewRef, NewDeferred, Get, Set, Modify, Complete, Read}
-use Rattle.cell_registry.specs.Cells.{Cells, after, awaited, cell_of, cut, deferred_of, finished, fresh, masked, reply_of, requested, unmasked}
+use Rattle.cell_registry.specs.Cells.{Cells, after, cell_of, deferred_of, reply_of}
 use Rattle.cell_registry.specs.Words.{has_ended}
 use Rattle.cell_registry.proofs.Calls.{owned-after}
-use Rattle.cell_registry.proofs.Lists.{get_or-set_kept}
 use Rattle.scheduled_core.specs.declared.wish.Wish.{Wish}
 use Rattle.scheduled_core.specs.declared.wish.Wish.TheVariants.{Shared, Alone, Nothing}
 use Rattle.scheduled_core.specs.Core.{World, born, called, wish_of}
@@ -31,7 +29,7 @@ use Rattle.scheduled_core.proofs.Standing.Lists.{get_early}
 use Rattle.scheduled_core.proofs.PlainFits.{request_stays}
 use Rattle.every_schedule.specs.Places.{wants}
 use Rattle.every_schedule.specs.Reduced.{has_come_to_end, is_another, is_completed, is_kept, is_left_alone, is_own, is_own_deferred, is_own_ref, keeps, next_of, others, rests}
-use Rattle.every_schedule.proofs.OwnCalls.{IsCalm, IsNoStore, IsOffDeferred, IsOffFiber, IsOffRef, filled_after}
+use Rattle.every_schedule.proofs.OwnCalls.{IsCalm, IsNoFill, IsNoStore, IsOffDeferred, IsOffFiber, IsOffRef, filled_after, request_same}
 
 -- ---- truth values
 pub both_true : (a b : Bool) → a && b ≡ true → (a ≡ true) × (b ≡ true)
@@ -45,7 +43,7 @@ pub or_cases : (a b : Bool) → a || b ≡ true → (a ≡ true) ⊎ (b ≡ true
 or_cases true b e = inl refl
 or_cases false b e = inr e
 
-or_first : (a b : Bool) → a ≡ true → a || b ≡ true
+pub or_first : (a b : Bool) → a ≡ true → a || b ≡ true
 or_first a b e = ap (λ x. x || b) e
 
 pub or_second : (a b : Bool) → b ≡ true → a || b ≡ true
@@ -59,7 +57,7 @@ not_some (suc n) e = absurd (cc)
 some_not : (n : ℕ) → n ≡ 0 → not (is_some n) ≡ true
 some_not n e = ap (λ m. not (is_some m)) e
 
-not_same : (m n : ℕ) → not (nat_eq m n) ≡ true → m ≢ n
+pub not_same : (m n : ℕ) → not (nat_eq m n) ≡ true → m ≢ n
 not_same m n e = λ same. let is : nat_eq m n ≡ true = eq-eqb m n same in let no : false ≡ true = sym (ap not is) ∙ e in absurd (cc)
 
 pub same_not : (m n : ℕ) → m ≢ n → not (nat_eq m n) ≡ true
@@ -69,7 +67,7 @@ same_not m n apart = go (nat_eq m n) refl
     go true e = absurd (apart (eqb-true m n e))
     go false e = refl
 
-below_true : (m n : ℕ) → nat_lt m n ≡ true → m < n
+pub below_true : (m n : ℕ) → nat_lt m n ≡ true → m < n
 below_true m n e = elim (cases_lt m n) [ inl low ↦ low | inr past ↦ let no : false ≡ true = sym (le-ltb m n past) ∙ e in absurd (cc) ]
 
 -- ---- the other fibers
@@ -107,7 +105,7 @@ module _ (p : Fiber → Bool) (f : ℕ) where
   others_born gs b _ q all so = ap (others p f 0) (append-nil gs) ∙ all
 
 -- ---- fibers that leave a fiber alone
-move_number : (b : Fiber) (q : Reply) → (move b q).number ≡ b.number
+pub move_number : (b : Fiber) (q : Reply) → (move b q).number ≡ b.number
 move_number b q = go (move_case b)
   where
     go : (c : Move_case) → (move_in b q c).number ≡ b.number
@@ -132,7 +130,7 @@ module _ (u : Use) (n : ℕ) (b : Fiber) (keeps_off : keeps u n b ≡ true) wher
 
 -- a number that is given later is another one
 module _ (u : Use) (n : ℕ) (s : Cells) (g : ℕ) (low : n < next_of (used_place u) s) where
-  number_apart : (a : Ask) (d : Call) → wish_of a ≡ Shared d → NumberApart u n a (reply_of s g d)
+  pub number_apart : (a : Ask) (d : Call) → wish_of a ≡ Shared d → NumberApart u n a (reply_of s g d)
   unfolding reply_of
   number_apart ask.Start d is = λ kind.
       let start : Start ≡ d = cc in
@@ -151,7 +149,7 @@ module _ (u : Use) (n : ℕ) (s : Cells) (g : ℕ) (low : n < next_of (used_plac
       λ same. omega (arith, under, number, same)
   number_apart _ d is = tt
 
-silent_apart : (u : Use) (n : ℕ) (a : Ask) (q : Reply) → wish_of a ≡ Alone → NumberApart u n a q
+pub silent_apart : (u : Use) (n : ℕ) (a : Ask) (q : Reply) → wish_of a ≡ Alone → NumberApart u n a q
 silent_apart u n ask.Start q is = absurd (cc)
 silent_apart u n ask.NewRef q is = absurd (cc)
 silent_apart u n ask.NewDeferred q is = absurd (cc)
@@ -172,27 +170,16 @@ unfolding after
 deferreds_more s g NewDeferred = omega arith
 deferreds_more s g _ = omega arith
 
-next_more : (s : Cells) (g : ℕ) (d : Call) (k : Place) → next_of k s ≤ next_of k (after s g d)
+pub next_more : (s : Cells) (g : ℕ) (d : Call) (k : Place) → next_of k s ≤ next_of k (after s g d)
 next_more s g d A_fiber = fibers_more s g d
 next_more s g d A_ref = refs_more s g d
 next_more s g d A_deferred = deferreds_more s g d
 next_more s g d No_handle = omega arith
 
-start_reply : (s : Cells) (g : ℕ) (d : Call) → d ≡ Start → number_in (reply_of s g d) ≡ s.next_fiber
+pub start_reply : (s : Cells) (g : ℕ) (d : Call) → d ≡ Start → number_in (reply_of s g d) ≡ s.next_fiber
 unfolding reply_of
 start_reply s g Start e = refl
 start_reply s g _ e = absurd (cc)
-
--- a call that isn't a request keeps the request of a cell
-request_same : (s : Cells) (f g : ℕ) (d : Call) → d ≢ Cancel f → (cell_of (after s g d) f).request ≡ (cell_of s f).request
-unfolding after
-request_same s f g (Cancel i) none = ap (λ (c : Cell). c.request) (get_or-set_other s.cells i f (requested (cell_of s i)) fresh (λ e. none (ap Cancel (sym e))))
-request_same s f g (Join i) none = get_or-set_kept (λ (c : Cell). c.request) s.cells i (awaited (cell_of s i)) fresh refl f
-request_same s f g Mask none = get_or-set_kept (λ (c : Cell). c.request) s.cells g (masked (cell_of s g)) fresh refl f
-request_same s f g Unmask none = get_or-set_kept (λ (c : Cell). c.request) s.cells g (unmasked (cell_of s g)) fresh refl f
-request_same s f g Cut none = get_or-set_kept (λ (c : Cell). c.request) s.cells g (cut (cell_of s g)) fresh refl f
-request_same s f g (Finish o) none = get_or-set_kept (λ (c : Cell). c.request) s.cells g (finished o (cell_of s g)) fresh refl f
-request_same s f g _ none = refl
 
 -- the ask for a call
 abbrev pub ask_for : Call → Ask
@@ -229,29 +216,33 @@ pub asked_so : (a : Ask) (d : Call) → wish_of a ≡ Shared d → a ≡ ask_for
 asked_so a d is = asked_for a d (ap ask_in is)
 
 -- calls that keep off a number
-no_request : (f i : ℕ) → i ≢ f → (d : Call) → AskApart Cancels f i (ask_for d) → d ≢ Cancel f
+pub no_request : (f i : ℕ) → i ≢ f → (d : Call) → AskApart Cancels f i (ask_for d) → d ≢ Cancel f
 no_request f i other d apart = λ e. elim ((subst (λ c. AskApart Cancels f i (ask_for c)) e apart) refl) [
   | inl own ↦ other (sym own)
   | inr isnt ↦ isnt refl
 ]
 
-off_ref : (r i : ℕ) (d : Call) → AskApart Stores r i (ask_for d) → AskApart Gets r i (ask_for d) → IsOffRef r d
+pub off_ref : (r i : ℕ) (d : Call) → AskApart Stores r i (ask_for d) → AskApart Gets r i (ask_for d) → IsOffRef r d
 off_ref r i (Get j) stores gets = gets refl
 off_ref r i (Set j v) stores gets = stores refl
 off_ref r i (Modify j v) stores gets = stores refl
 off_ref r i _ stores gets = tt
 
-no_store_of : (r i : ℕ) (d : Call) → AskApart Stores r i (ask_for d) → IsNoStore r d
+pub no_store_of : (r i : ℕ) (d : Call) → AskApart Stores r i (ask_for d) → IsNoStore r d
 no_store_of r i (Set j v) stores = stores refl
 no_store_of r i (Modify j v) stores = stores refl
 no_store_of r i _ stores = tt
 
-off_deferred_of : (r i : ℕ) (d : Call) → AskApart Completes r i (ask_for d) → AskApart Awaits r i (ask_for d) → IsOffDeferred r d
+pub no_fill_of : (r i : ℕ) (d : Call) → AskApart Completes r i (ask_for d) → IsNoFill r d
+no_fill_of r i (Complete j v) completes = completes refl
+no_fill_of r i _ completes = tt
+
+pub off_deferred_of : (r i : ℕ) (d : Call) → AskApart Completes r i (ask_for d) → AskApart Awaits r i (ask_for d) → IsOffDeferred r d
 off_deferred_of r i (Complete j v) completes awaits = completes refl
 off_deferred_of r i (Read j) completes awaits = awaits refl
 off_deferred_of r i _ completes awaits = tt
 
-off_fiber_of : (f i : ℕ) → i ≢ f → (d : Call) → AskApart Cancels f i (ask_for d) → AskApart Joins f i (ask_for d) → IsOffFiber f d
+pub off_fiber_of : (f i : ℕ) → i ≢ f → (d : Call) → AskApart Cancels f i (ask_for d) → AskApart Joins f i (ask_for d) → IsOffFiber f d
 off_fiber_of f i other (Cancel j) cancels joins = elim (cancels refl) [
   | inl own ↦ λ same. other (sym own ∙ same)
   | inr isnt ↦ isnt
@@ -267,7 +258,7 @@ rests_so : (o : Option Fiber) → rests o ≡ true → (c : Fiber) × (o ≡ Som
 rests_so None e = absurd (cc)
 rests_so (Some c) e = (c, refl, e)
 
-completed_so : (o : Option ℤ) → not (is_none o) ≡ true → (v : ℤ) × (o ≡ Some v)
+pub completed_so : (o : Option ℤ) → not (is_none o) ≡ true → (v : ℤ) × (o ≡ Some v)
 completed_so None e = absurd (cc)
 completed_so (Some v) e = (v, refl)
 
@@ -334,13 +325,13 @@ module _ (w : World) (f g : ℕ) (b : Fiber) (apart : g ≢ f) (at : slice_get w
 
   -- ---- a fiber that has ended
   module _ (i : ℕ) (ended : has_come_to_end w i ≡ true) where
-    abbrev ends : (rests (slice_get w.fibers i) ≡ true) × (has_ended (cell_of w.cells i).stage ≡ true)
+    abbrev pub ends : (rests (slice_get w.fibers i) ≡ true) × (has_ended (cell_of w.cells i).stage ≡ true)
     ends = both_true (rests (slice_get w.fibers i)) (has_ended (cell_of w.cells i).stage) ended
 
     abbrev there : (c : Fiber) × (slice_get w.fibers i ≡ Some c) × (not (wants (wish_of (ask_of c))) ≡ true)
     there = rests_so (slice_get w.fibers i) ends.0
 
-    not_it : (x : Wish) → wish_of (ask_of b) ≡ x → wants x ≡ true → g ≢ i
+    pub not_it : (x : Wish) → wish_of (ask_of b) ≡ x → wants x ≡ true → g ≢ i
     not_it x is some = λ same.
         let here : Some b ≡ Some there.0 = sym at ∙ ap (slice_get w.fibers) same ∙ there.1 in
         let one : b ≡ there.0 = cc in
@@ -348,7 +339,7 @@ module _ (w : World) (f g : ℕ) (b : Fiber) (apart : g ≢ f) (at : slice_get w
         let no : false ≡ true = ap not (sym some) ∙ none in
         absurd (cc)
 
-    end_called : (d : Call) → wish_of (ask_of b) ≡ Shared d → has_come_to_end (called w g b d (reply_of w.cells g d)) i ≡ true
+    pub end_called : (d : Call) → wish_of (ask_of b) ≡ Shared d → has_come_to_end (called w g b d (reply_of w.cells g d)) i ≡ true
     end_called d is =
         let q = reply_of w.cells g d in
         let other = not_it (Shared d) is refl in
@@ -358,14 +349,14 @@ module _ (w : World) (f g : ℕ) (b : Fiber) (apart : g ≢ f) (at : slice_get w
         (ap rests still ∙ there.2)
         (ap (λ (o : Stage × ℕ × ℕ). has_ended o.0) (owned-after w.cells g d i other) ∙ ends.1)
 
-    end_silent : wish_of (ask_of b) ≡ Alone → has_come_to_end (record { fibers = set w.fibers g (silent_move b); cells = w.cells }) i ≡ true
+    pub end_silent : wish_of (ask_of b) ≡ Alone → has_come_to_end (record { fibers = set w.fibers g (silent_move b); cells = w.cells }) i ≡ true
     end_silent is =
         let other = not_it Alone is refl in
         and_true (rests (slice_get (set w.fibers g (silent_move b)) i)) (has_ended (cell_of w.cells i).stage)
         (ap rests (slice_get-set_other w.fibers g i (silent_move b) other ∙ there.1) ∙ there.2) ends.1
 
   -- ---- a deferred that is completed
-  completed_called : (d : Call) (i : ℕ) → is_completed w i ≡ true → is_completed (called w g b d (reply_of w.cells g d)) i ≡ true
+  pub completed_called : (d : Call) (i : ℕ) → is_completed w i ≡ true → is_completed (called w g b d (reply_of w.cells g d)) i ≡ true
   completed_called d i done =
       let is = completed_so (deferred_of w.cells i) done in
       ap (λ o. not (is_none o)) (filled_after w.cells g d i is.0 is.1)
@@ -458,7 +449,7 @@ module _ (w : World) (f g : ℕ) (b : Fiber) (apart : g ≢ f) (at : slice_get w
     calm_called d is (Shared Mask) own = tt
     calm_called d is (Shared Unmask) own = tt
     calm_called d is (Shared Cut) own = own
-    calm_called d is (Shared (Cancel i)) own = (not_it i own (Shared d) is refl, (ends i own).1)
+    calm_called d is (Shared (Cancel i)) own = (not_it i own (Shared d) is refl, inl (ends i own).1)
     calm_called d is (Shared (Join i)) own = not_it i own (Shared d) is refl
     calm_called d is (Shared (Finish o)) own =
         let both = both_true (is_left_alone w f) (is_kept Joins w f f) own in
@@ -473,6 +464,6 @@ module _ (w : World) (f g : ℕ) (b : Fiber) (apart : g ≢ f) (at : slice_get w
               let both = both_true (is_kept Completes w f i) (is_kept Awaits w f i) left in
               inr (off_deferred_of i b.number d (asks_off Completes i both.0 d is) (asks_off Awaits i both.1 d is))
         ]
-    calm_called d is (Shared (Read i)) own = completed_so (deferred_of w.cells i) own
+    calm_called d is (Shared (Read i)) own = inl (completed_so (deferred_of w.cells i) own)
     calm_called d is Alone own = tt
     calm_called d is _ own = absurd (cc)
