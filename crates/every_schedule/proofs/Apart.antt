@@ -4,12 +4,9 @@ use Rattle.std.proofs.Common.{Some, None, Option, Result, Ok, Err, refl, sym, ap
 use Rattle.std.specs.List.{slice_get}
 use mathlib.Core.Logic.{dite}
 use native.Mathlib.Decide.{ℕ_discrete}
-use Rattle.std.proofs.lemmas.Bool.{eq-eqb}
-use Rattle.std.proofs.lemmas.Option.{slice_get-get_or}
 use Rattle.fiber_frames.specs.declared.uses.Use.{Use}
 use Rattle.fiber_frames.specs.declared.uses.Use.TheVariants.{Cancels}
-use Rattle.fiber_frames.specs.Fiber.{Fiber, ask_of, begins}
-use Rattle.fiber_frames.specs.Rows.{unit}
+use Rattle.fiber_frames.specs.Fiber.{Fiber, ask_of}
 use Rattle.fiber_frames.specs.Uses.{used_place}
 use Rattle.cell_registry.specs.declared.call.Call.TheVariants as call
 use Rattle.cell_registry.specs.declared.cell.Cell.{Cell}
@@ -22,7 +19,7 @@ use Rattle.scheduled_core.specs.Core.{World, wish_of}
 use Rattle.world_search.specs.Chosen.{AreApart, Meet}
 use Rattle.every_schedule.specs.declared.needs.Needs.{Needs}
 use Rattle.every_schedule.specs.Persistent.{can_use, depends_on, in_set, is_given, is_making, is_number, is_persistent, is_sound}
-use Rattle.every_schedule.specs.Persistent.{needs_at, needs_in, needs_of, needs_one, needs_unless, spared, stand, stands_in, stands_with}
+use Rattle.every_schedule.specs.Persistent.{is_inside, needs_of, needs_one, needs_unless, spared, stand, stands_in, stands_with}
 use Rattle.every_schedule.specs.Places.{Place, bare, bared, entering, moves_at, stepped, unnoted, wants}
 use Rattle.every_schedule.proofs.Bare.{bare_step, end_bare, enters, goes_bare, idle_stays, moves_step, next_bare}
 use Rattle.every_schedule.proofs.Bare.Enters.{Goes, Stays}
@@ -205,32 +202,27 @@ stand_at w s (suc n) all f low mine =
     ])
     (λ other. stand_at w s n here.1 f (omega (arith, low, other)) mine)
 
-module _ (w : World) (s : List Bool) (d : Needs) (with : stands_with d w s ≡ true) (born : (i : ℕ) → d.fiber ≡ Some i → i < length w.fibers) where
-  abbrev parts : (is_given w d.one && is_given w d.two ≡ true) × (spared d s 0 w.fibers ≡ true)
-  parts = both_true (is_given w d.one && is_given w d.two) (spared d s 0 w.fibers) with
+module _ (w : World) (s : List Bool) (d : Needs) (with : stands_with d w s ≡ true) where
+  abbrev parts : (is_given w d.one && is_given w d.two ≡ true) × (is_inside s d.fiber && spared d s 0 w.fibers ≡ true)
+  parts = both_true (is_given w d.one && is_given w d.two) (is_inside s d.fiber && spared d s 0 w.fibers) with
 
   abbrev given : (is_given w d.one ≡ true) × (is_given w d.two ≡ true)
   given = both_true (is_given w d.one) (is_given w d.two) parts.0
 
+  abbrev rest : (is_inside s d.fiber ≡ true) × (spared d s 0 w.fibers ≡ true)
+  rest = both_true (is_inside s d.fiber) (spared d s 0 w.fibers) parts.1
+
   off : (g : ℕ) (b : Fiber) → in_set s g ≡ false → slice_get w.fibers g ≡ Some b → depends_on d g b ≡ false
   off g b out at =
       let first : 0 + g ≡ g = omega arith in
-      let so = subst (λ j. in_set s j || not (depends_on d j b) ≡ true) first (spared_at d s w.fibers 0 parts.1 g b at) in
+      let so = subst (λ j. in_set s j || not (depends_on d j b) ≡ true) first (spared_at d s w.fibers 0 rest.1 g b at) in
       elim (or_cases (in_set s g) (not (depends_on d g b)) so) [
         | inl it ↦ let no : false ≡ true = sym out ∙ it in absurd (cc)
         | inr none ↦ not_false (depends_on d g b) none
       ]
 
   inside : (i : ℕ) → d.fiber ≡ Some i → in_set s i ≡ true
-  inside i is = by (in_set s i) refl
-    where
-      by : (t : Bool) → in_set s i ≡ t → t ≡ true
-      by true e = refl
-      by false e =
-          let b = get_or w.fibers i (begins 0 unit) in
-          let none = neither (is_number d.fiber i) (can_use d.one b || can_use d.two b) (off i b e (slice_get-get_or w.fibers i (begins 0 unit) (born i is))) in
-          let yes : is_number d.fiber i ≡ true = ap (λ o. is_number o i) is ∙ eq-eqb i i refl in
-          let no : true ≡ false = sym yes ∙ none.0 in absurd (cc)
+  inside i is = ap (is_inside s) (sym is) ∙ rest.0
 
   keeps_so : KeepsTo s w d
   keeps_so = record {
@@ -241,16 +233,14 @@ module _ (w : World) (s : List Bool) (d : Needs) (with : stands_with d w s ≡ t
         neither (can_use d.one b) (can_use d.two b) (neither (is_number d.fiber g) (can_use d.one b || can_use d.two b) (off g b out at)).1;
   }
 
-stands_so : (w : World) (s : List Bool) (f : ℕ) (o : Option Fiber) → slice_get w.fibers f ≡ o → stands_in w s f o ≡ true →
-    ((i : ℕ) → (needs_in w f o).fiber ≡ Some i → i < length w.fibers) → StandsAt s w f
-stands_so w s f None at so born = absurd (cc)
-stands_so w s f (Some a) at so born =
+stands_so : (w : World) (s : List Bool) (f : ℕ) (o : Option Fiber) → slice_get w.fibers f ≡ o → stands_in w s f o ≡ true → StandsAt s w f
+stands_so w s f None at so = absurd (cc)
+stands_so w s f (Some a) at so =
     let x = wish_of (ask_of a) in
     let both = both_true (is_sound w f x) (stands_with (needs_of w f x) w s) so in
-    record { state = a; at = at; sound = both.0; keeps_to = keeps_so w s (needs_of w f x) both.1 born }
+    record { state = a; at = at; sound = both.0; keeps_to = keeps_so w s (needs_of w f x) both.1 }
 
--- a persistent set stands, if its members and the fibers whose ends they await are born
-pub stands_now : (p : Place) (s : List Bool) → is_persistent p.world s ≡ true → ((f : ℕ) → in_set s f ≡ true → f < length p.world.fibers) →
-    ((f i : ℕ) → in_set s f ≡ true → (needs_at p.world f).fiber ≡ Some i → i < length p.world.fibers) → Stands s p
-stands_now p s all born named = λ f mine.
-    stands_so p.world s f (slice_get p.world.fibers f) refl (stand_at p.world s (length p.world.fibers) all f (born f mine) mine) (λ i is. named f i mine is)
+-- a persistent set stands, if its members are born
+pub stands_now : (p : Place) (s : List Bool) → is_persistent p.world s ≡ true → ((f : ℕ) → in_set s f ≡ true → f < length p.world.fibers) → Stands s p
+stands_now p s all born = λ f mine.
+    stands_so p.world s f (slice_get p.world.fibers f) refl (stand_at p.world s (length p.world.fibers) all f (born f mine) mine)

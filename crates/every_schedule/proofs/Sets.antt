@@ -24,7 +24,7 @@ use Rattle.scheduled_core.specs.Core.{World, wish_of}
 use Rattle.scheduled_core.specs.Fitting.{AllFit, given_by}
 use Rattle.every_schedule.specs.declared.needs.Needs.{Needs}
 use Rattle.every_schedule.specs.declared.persistent.Seed.{Seed}
-use Rattle.every_schedule.specs.Persistent.{best, depends_on, grown, in_set, is_better, is_given, is_making, is_ready_in, is_sound, joined, joined_if}
+use Rattle.every_schedule.specs.Persistent.{best, depends_on, grown, in_set, is_better, is_given, is_inside, is_making, is_ready_in, is_sound, joined, joined_if}
 use Rattle.every_schedule.specs.Persistent.{members, needs_at, needs_in, needs_of, needs_of_call, needs_one, needs_two, needs_unless, one_if}
 use Rattle.every_schedule.specs.Persistent.{seed_if, set_of, spared, spread, stand, stands_in, stands_with, weights}
 use Rattle.every_schedule.specs.Private.Persistent.{IsBest, IsJoined, IsSeed, has_fewer, is_tried}
@@ -333,12 +333,14 @@ module _ (w : World) where
     pub stands_unsound : is_sound w f (wish_of (ask_of g)) ≡ false → stands_in w s f (slice_get w.fibers f) ≡ false
     stands_unsound e = stands_so ∙ ap (λ (t : Bool). t && stands_with (needs_of w f (wish_of (ask_of g))) w s) e
 
-    pub stands_spared : is_sound w f (wish_of (ask_of g)) ≡ true → stands_in w s f (slice_get w.fibers f) ≡ spared (needs_at w f) s 0 w.fibers
+    pub stands_spared : is_sound w f (wish_of (ask_of g)) ≡ true →
+        stands_in w s f (slice_get w.fibers f) ≡ is_inside s (needs_at w f).fiber && spared (needs_at w f) s 0 w.fibers
     stands_spared e =
         stands_so
         ∙ ap (λ (t : Bool). t && stands_with (needs_of w f (wish_of (ask_of g))) w s) e
-        ∙ ap (λ (t : Bool). t && spared (needs_of w f (wish_of (ask_of g))) s 0 w.fibers) (needs_given fits f g at)
-        ∙ ap (λ (o : Option Fiber). spared (needs_in w f o) s 0 w.fibers) (sym at)
+        ∙ ap (λ (t : Bool). t && (is_inside s (needs_of w f (wish_of (ask_of g))).fiber && spared (needs_of w f (wish_of (ask_of g))) s 0 w.fibers))
+        (needs_given fits f g at)
+        ∙ ap (λ (o : Option Fiber). is_inside s (needs_in w f o).fiber && spared (needs_in w f o) s 0 w.fibers) (sym at)
 
 -- ---- the way back
 -- a row still makes its world where more states are kept

@@ -173,8 +173,13 @@ abbrev pub spared : Needs → List Bool → ℕ → List Fiber → Bool
 spared d s i [] = true
 spared d s i (b ∷ bs) = (in_set s i || not (depends_on d i b)) && spared d s (suc i) bs
 
+-- the fiber of this number is in the set, if there is one
+abbrev pub is_inside : List Bool → Option ℕ → Bool
+is_inside s None = true
+is_inside s (Some i) = in_set s i
+
 abbrev pub stands_with : Needs → World → List Bool → Bool
-stands_with d w s = (is_given w d.one && is_given w d.two) && spared d s 0 w.fibers
+stands_with d w s = (is_given w d.one && is_given w d.two) && (is_inside s d.fiber && spared d s 0 w.fibers)
 
 abbrev pub stands_in : World → List Bool → ℕ → Option Fiber → Bool
 stands_in w s f None = false

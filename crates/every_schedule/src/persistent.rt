@@ -1,11 +1,13 @@
 //! Persistent sets: the fibers whose entries are made at a world.
-ghost use Rattle.std.specs.Prelude.{◌≡◌, ◌<◌, ◌≤◌, ◌+◌, ◌||◌, not, false, true, Bool, List, Option, length, IfOk, OnOk, Some};
+ghost use Rattle.std.specs.Prelude.{◌≡◌, ◌<◌, ◌≤◌, ◌+◌, ◌||◌, not, false, true, Bool, List, Option, length};
+ghost use Rattle.std.specs.Prelude.{IfOk, OnOk, Some};
 ghost use Rattle.std.specs.List.{slice_get};
 ghost use Rattle.scheduled_core.specs.Fitting.{AllFit};
 ghost use Rattle.fiber_frames.specs.Fiber.{Fiber};
 ghost use Rattle.every_schedule.specs.Persistent.{best as the_best, in_set, is_lighter as the_lightness};
 ghost use Rattle.every_schedule.specs.Persistent.{is_persistent as the_persistence, joined, joined_if};
-ghost use Rattle.every_schedule.specs.Persistent.{is_entered as the_entered, is_member as the_member};
+ghost use Rattle.every_schedule.specs.Persistent.{is_entered as the_entered, is_inside as the_inside};
+ghost use Rattle.every_schedule.specs.Persistent.{is_member as the_member};
 ghost use Rattle.every_schedule.specs.Persistent.{members as the_members, one_if as the_count};
 ghost use Rattle.every_schedule.specs.Persistent.{needs_at, pick as the_pick, set_of as the_set, spared, spread};
 ghost use Rattle.every_schedule.specs.Persistent.{stands_in};
@@ -240,7 +242,23 @@ fn stands(current: &mut Current, fiber: u16, set: &[bool]) -> bool
         return false;
     }
     let needs = needs_of(&*current, fiber);
+    if !is_inside(set, needs.fiber) {
+        return false;
+    }
     are_spared(current, needs, set)
+}
+
+// Whether the fiber of this number is in the set, if there is one.
+fn is_inside(set: &[bool], fiber: Option<u16>) -> bool
+    ensures { result ≡ the_inside set.now fiber }
+{
+    match fiber {
+        None => true,
+        Some(number) => match set.get(usize::from(number)) {
+            Some(flag) => *flag,
+            None => false,
+        },
+    }
 }
 
 // Whether the next move of each fiber of the set depends on no fiber outside the set.

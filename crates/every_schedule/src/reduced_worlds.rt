@@ -93,12 +93,15 @@ impl ReducedWorlds {
         ensures entered { IfOk result (λ it. (p : Place) → slice_get self.old.places world ≡ Some p →
             it ≡ is_entered hundred p fiber) }
     {
-        if self.at != Some(world) {
-            self.at = None;
-            self.set = self.worlds.pick(world, AT_ONCE)?;
-            self.at = Some(world);
+        if self.at == Some(world) {
+            return Ok(is_member(&self.set, fiber));
         }
-        Ok(is_member(&self.set, fiber))
+        self.at = None;
+        let set = self.worlds.pick(world, AT_ONCE)?;
+        let entered = is_member(&set, fiber);
+        self.set = set;
+        self.at = Some(world);
+        Ok(entered)
     }
 }
 
