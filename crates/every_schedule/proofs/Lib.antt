@@ -12,6 +12,7 @@ pub mod Standing
 pub mod Alikeness
 pub mod Entering
 pub mod OwnCalls
+pub mod TwoMoves
 pub mod OwnKept
 pub mod Alone
 pub mod Commuting
@@ -19,7 +20,6 @@ pub mod Growing
 pub mod Bare
 pub mod Still
 pub mod EarlyMoves
-pub mod TwoMoves
 pub mod Outside
 pub mod Apart
 pub mod Leaps

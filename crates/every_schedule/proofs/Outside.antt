@@ -1,44 +1,38 @@
 -- A move that depends on fibers of a set alone still does after the move of a fiber outside, and neither changes what the other does.
-use Rattle.std.proofs.Common.{◌≡◌, ◌≢◌, ◌⊎◌, inl, inr, ℕ, zero, suc, ◌≤◌, nat_eq, nat_lt, Bool, true, false, not, ◌&&◌, ◌||◌, List, set}
-use Rattle.std.proofs.Common.{Some, None, Option, refl, sym, ap, ap₂, ◌∙◌, subst, arith, append-nil}
+use Rattle.std.proofs.Common.{◌≡◌, ◌≢◌, ◌⊎◌, inl, inr, ℕ, zero, suc, nat_eq, nat_lt, Bool, true, false, not, ◌||◌, List, set}
+use Rattle.std.proofs.Common.{Some, None, Option, refl, sym, ap, ap₂, ◌∙◌, subst, arith}
 use Rattle.std.specs.Prelude.{ℤ}
 use Rattle.std.specs.List.{slice_get}
 use mathlib.Core.Logic.{dite}
 use native.Mathlib.Decide.{ℕ_discrete}
 use Rattle.std.proofs.lemmas.Bool.{lt-ltb}
-use Rattle.derived_ops.specs.Naming as naming
 use Rattle.effect_term.specs.declared.reply.Reply.{Reply}
-use Rattle.effect_term.specs.declared.reply.Reply.TheVariants as reply
 use Rattle.fiber_frames.specs.declared.uses.Use.{Use}
 use Rattle.fiber_frames.specs.declared.uses.Use.TheVariants.{Awaits, Cancels, Completes, Gets, Joins, MakesDeferreds, MakesRefs, Starts, Stores}
-use Rattle.fiber_frames.specs.Fiber.{Fiber, ask_of, child, move, silent_move}
+use Rattle.fiber_frames.specs.Fiber.{Fiber, ask_of, child, move}
 use Rattle.fiber_frames.specs.Uses.{AskApart, NumberApart, is_some, used_place, uses_in}
-use Rattle.cell_registry.specs.declared.cell.Stage.{Stage}
 use Rattle.cell_registry.specs.declared.call.Call.{Call}
 use Rattle.cell_registry.specs.declared.call.Call.TheVariants.{Start, Cancel, Join, Look, Mask, Unmask, Cut, Finish}
 use Rattle.cell_registry.specs.declared.call.Call.TheVariants.{NewRef, NewDeferred, Get, Set, Modify, Complete, Read}
 use Rattle.cell_registry.specs.declared.limits.Limits.{Limits}
 use Rattle.cell_registry.specs.Cells.{cell_of, deferred_of, reply_of}
-use Rattle.cell_registry.specs.Words.{has_ended}
-use Rattle.cell_registry.proofs.Calls.{owned-after}
 use Rattle.scheduled_core.specs.declared.wish.Wish.{Wish}
 use Rattle.scheduled_core.specs.declared.wish.Wish.TheVariants.{Alone, Nothing, Shared}
 use Rattle.scheduled_core.specs.Core.{World, wish_of}
 use Rattle.scheduled_core.specs.Finals.{reply_to}
 use Rattle.scheduled_core.proofs.Lists.{parted, slice_get-set_other, slice_get-set_same}
-use Rattle.scheduled_core.proofs.Standing.Lists.{get_early}
 use Rattle.scheduled_core.proofs.PlainFits.{request_stays}
 use Rattle.every_schedule.specs.declared.needs.Needs.{Needs}
 use Rattle.every_schedule.specs.Persistent.{can_use, in_set, is_given, is_itself, is_making, is_sound}
 use Rattle.every_schedule.specs.Persistent.{needs_of, needs_of_call, needs_one, needs_two, needs_unless, no_needs}
 use Rattle.every_schedule.specs.Places.{wants}
-use Rattle.every_schedule.specs.Reduced.{has_come_to_end, is_completed, keeps, next_of, rests}
-use Rattle.every_schedule.proofs.EarlyMoves.{IsClear, deferreds_clear, refs_clear, starts_clear}
-use Rattle.every_schedule.proofs.OwnCalls.{IsCalm, IsOffRef, left_by, request_same}
-use Rattle.every_schedule.proofs.OwnKept.{ask_for, asked_so, asks_apart, below_true, completed_called, completed_so, end_called, end_silent, ends}
-use Rattle.every_schedule.proofs.OwnKept.{keeps_child, keeps_move, move_number, next_more, no_fill_of, no_request, no_store_of, not_it, not_same, number_apart}
-use Rattle.every_schedule.proofs.OwnKept.{off_deferred_of, off_fiber_of, off_ref, or_cases, or_first, or_second, same_not, silent_apart}
-use Rattle.every_schedule.proofs.TwoMoves.{AreQuiet, children, made, quiet_calm, quiet_clear, quiet_silent}
+use Rattle.every_schedule.specs.Reduced.{has_come_to_end, is_completed, keeps, next_of}
+use Rattle.every_schedule.proofs.EarlyMoves.{IsClear, deferreds_clear, quiet_clear, refs_clear, starts_clear}
+use Rattle.every_schedule.proofs.OwnCalls.{IsCalm, IsOffRef, request_same}
+use Rattle.every_schedule.proofs.OwnKept.{answered_apart, ask_for, asked_so, asks_apart, below_true, completed_later, completed_so, end_later, ends}
+use Rattle.every_schedule.proofs.OwnKept.{keeps_child, keeps_move, move_number, next_later, no_fill_of, no_request, no_store_of, not_it, not_same}
+use Rattle.every_schedule.proofs.OwnKept.{off_deferred_of, off_fiber_of, off_ref, open_later, or_cases, or_first, or_second, request_later, same_not}
+use Rattle.every_schedule.proofs.TwoMoves.{AreQuiet, children, made, quiet_calm, quiet_silent, still_at}
 
 -- ---- truth values
 pub neither : (a b : Bool) → a || b ≡ false → (a ≡ false) × (b ≡ false)
@@ -104,45 +98,23 @@ module _ (s : List Bool) (w : World) (g : ℕ) (b : Fiber) (out : in_set s g ≡
     abbrev pub then : World
     then = made w g b v
 
-    next_later : (k : naming.Place) → next_of k w.cells ≤ next_of k (left_by w.cells g v)
-    next_later k = by v
-      where
-        by : (x : Wish) → next_of k w.cells ≤ next_of k (left_by w.cells g x)
-        by (Shared d) = next_more w.cells g d k
-        by Alone = omega arith
-        by Nothing = omega arith
-
     given_later : (o : Option (Use × ℕ)) → is_given w o ≡ true → is_given then o ≡ true
     given_later None e = refl
     given_later (Some u) e = elim (or_cases (is_making u.0) (nat_lt u.1 (next_of (used_place u.0) w.cells)) e) [
       | inl makes ↦ or_first (is_making u.0) (nat_lt u.1 (next_of (used_place u.0) then.cells)) makes
       | inr given ↦
-          let more = next_later (used_place u.0) in
+          let more = next_later w g b v (used_place u.0) in
           let low = below_true u.1 (next_of (used_place u.0) w.cells) given in
           or_second (is_making u.0) (nat_lt u.1 (next_of (used_place u.0) then.cells))
           (lt-ltb u.1 (next_of (used_place u.0) then.cells) (omega (arith, more, low)))
     ]
 
     -- it isn't answered a number that it could then use
-    answered_apart : (u : Use) (n : ℕ) → is_given w (Some (u, n)) ≡ true → can_use (Some (u, n)) b ≡ false → NumberApart u n (ask_of b) q
-    answered_apart u n given off = by v is want
-      where
-        of_use : (d : Call) → wish_of (ask_of b) ≡ Shared d → (x : Use) → is_given w (Some (x, n)) ≡ true → AskApart x n b.number (ask_of b) →
-            NumberApart x n (ask_of b) (reply_of w.cells g d)
-        of_use d so Starts low asks = starts_clear n b.number (ask_of b) (reply_of w.cells g d) asks
-        of_use d so MakesRefs low asks = refs_clear n b.number (ask_of b) (reply_of w.cells g d) asks
-        of_use d so MakesDeferreds low asks = deferreds_clear n b.number (ask_of b) (reply_of w.cells g d) asks
-        of_use d so Cancels low asks = number_apart Cancels n w.cells g (below_true n (next_of (used_place Cancels) w.cells) low) (ask_of b) d so
-        of_use d so Joins low asks = number_apart Joins n w.cells g (below_true n (next_of (used_place Joins) w.cells) low) (ask_of b) d so
-        of_use d so Gets low asks = number_apart Gets n w.cells g (below_true n (next_of (used_place Gets) w.cells) low) (ask_of b) d so
-        of_use d so Stores low asks = number_apart Stores n w.cells g (below_true n (next_of (used_place Stores) w.cells) low) (ask_of b) d so
-        of_use d so Completes low asks = number_apart Completes n w.cells g (below_true n (next_of (used_place Completes) w.cells) low) (ask_of b) d so
-        of_use d so Awaits low asks = number_apart Awaits n w.cells g (below_true n (next_of (used_place Awaits) w.cells) low) (ask_of b) d so
-
-        by : (x : Wish) → wish_of (ask_of b) ≡ x → wants x ≡ true → NumberApart u n (ask_of b) (reply_to w.cells g x)
-        by (Shared d) so some = of_use d so u given (apart_ask u n off)
-        by Alone so some = silent_apart u n (ask_of b) reply.Done so
-        by Nothing so some = absurd (cc)
+    number_off : (u : Use) (n : ℕ) → is_given w (Some (u, n)) ≡ true → can_use (Some (u, n)) b ≡ false → NumberApart u n (ask_of b) q
+    number_off Starts n given off = starts_clear n b.number (ask_of b) q (apart_ask Starts n off)
+    number_off MakesRefs n given off = refs_clear n b.number (ask_of b) q (apart_ask MakesRefs n off)
+    number_off MakesDeferreds n given off = deferreds_clear n b.number (ask_of b) q (apart_ask MakesDeferreds n off)
+    number_off u n given off = answered_apart w g b v is want u n (below_true n (next_of (used_place u) w.cells) given)
 
     itself_moved : (u : Use) (n : ℕ) → is_itself u n (move b q) ≡ is_itself u n b
     itself_moved Cancels n = ap (λ m. nat_eq m n) (move_number b q)
@@ -153,7 +125,7 @@ module _ (s : List Bool) (w : World) (g : ℕ) (b : Fiber) (out : in_set s g ≡
     moved_off (Some u) given off =
         or_none (is_itself u.0 u.1 (move b q)) (is_some (uses_in u.0 u.1 (move b q).running))
         (itself_moved u.0 u.1 ∙ (neither (is_itself u.0 u.1 b) (is_some (uses_in u.0 u.1 b.running)) off).0)
-        (not_false (is_some (uses_in u.0 u.1 (move b q).running)) (keeps_move u.0 u.1 b (keeps_off u.0 u.1 off) q (answered_apart u.0 u.1 given off)))
+        (not_false (is_some (uses_in u.0 u.1 (move b q).running)) (keeps_move u.0 u.1 b (keeps_off u.0 u.1 off) q (number_off u.0 u.1 given off)))
 
     -- a fiber that it starts
     itself_child : (u : Use) (n : ℕ) → is_given w (Some (u, n)) ≡ true → is_itself u n (child b w.cells.next_fiber) ≡ false
@@ -207,58 +179,29 @@ module _ (s : List Bool) (w : World) (g : ℕ) (b : Fiber) (out : in_set s g ≡
       abbrev apart : g ≢ f
       apart = member_apart f mine
 
-      request_later : (cell_of w.cells f).request ≡ true → (cell_of then.cells f).request ≡ true
-      request_later = by v
-        where
-          by : (x : Wish) → (cell_of w.cells f).request ≡ true → (cell_of (left_by w.cells g x) f).request ≡ true
-          by (Shared d) e = request_stays w.cells g d f e
-          by Alone e = e
-          by Nothing e = e
-
-      end_later : (i : ℕ) → has_come_to_end w i ≡ true → has_come_to_end then i ≡ true
-      end_later i ended = by v is want
-        where
-          by : (x : Wish) → wish_of (ask_of b) ≡ x → wants x ≡ true → has_come_to_end (made w g b x) i ≡ true
-          by (Shared d) so some = end_called w f g b apart there i ended d so
-          by Alone so some =
-              ap (λ (l : List Fiber). rests (slice_get l i) && has_ended (cell_of w.cells i).stage) (append-nil (set w.fibers g (silent_move b)))
-              ∙ end_silent w f g b apart there i ended so
-          by Nothing so some = absurd (cc)
-
-      completed_later : (i : ℕ) → is_completed w i ≡ true → is_completed then i ≡ true
-      completed_later i = by v
-        where
-          by : (x : Wish) → is_completed w i ≡ true → is_completed (made w g b x) i ≡ true
-          by (Shared d) e = completed_called w f g b apart there d i e
-          by Alone e = e
-          by Nothing e = e
-
       needs_later : (x : Wish) → (needs_of then f x ≡ no_needs) ⊎ (needs_of then f x ≡ needs_of w f x)
-      needs_later (Shared Look) = unless_later (cell_of w.cells f).request (cell_of then.cells f).request (needs_one Cancels f) request_later
+      needs_later (Shared Look) =
+          unless_later (cell_of w.cells f).request (cell_of then.cells f).request (needs_one Cancels f) (request_later w f g b apart there v is want)
       needs_later (Shared (Cancel i)) =
-          unless_later (has_come_to_end w i) (has_come_to_end then i) (record { one = Some (Cancels, i); two = None; fiber = Some i }) (end_later i)
+          unless_later (has_come_to_end w i) (has_come_to_end then i) (record { one = Some (Cancels, i); two = None; fiber = Some i })
+          (end_later w f g b apart there v is want i)
       needs_later (Shared (Join i)) =
-          unless_later (has_come_to_end w i) (has_come_to_end then i) (record { one = None; two = None; fiber = Some i }) (end_later i)
-      needs_later (Shared (Complete i x)) = unless_later (is_completed w i) (is_completed then i) (needs_two Completes Awaits i) (completed_later i)
-      needs_later (Shared (Read i)) = unless_later (is_completed w i) (is_completed then i) (needs_one Completes i) (completed_later i)
+          unless_later (has_come_to_end w i) (has_come_to_end then i) (record { one = None; two = None; fiber = Some i })
+          (end_later w f g b apart there v is want i)
+      needs_later (Shared (Complete i x)) =
+          unless_later (is_completed w i) (is_completed then i) (needs_two Completes Awaits i) (completed_later w f g b apart there v is want i)
+      needs_later (Shared (Read i)) =
+          unless_later (is_completed w i) (is_completed then i) (needs_one Completes i) (completed_later w f g b apart there v is want i)
       needs_later _ = inr refl
 
-      cut_later : not (has_ended (cell_of w.cells f).stage) ≡ true → not (has_ended (cell_of then.cells f).stage) ≡ true
-      cut_later = by v
-        where
-          by : (x : Wish) → not (has_ended (cell_of w.cells f).stage) ≡ true → not (has_ended (cell_of (left_by w.cells g x) f).stage) ≡ true
-          by (Shared d) e = ap (λ (o : Stage × ℕ × ℕ). not (has_ended o.0)) (owned-after w.cells g d f apart) ∙ e
-          by Alone e = e
-          by Nothing e = e
-
       sound_later : (x : Wish) → is_sound w f x ≡ true → is_sound then f x ≡ true
-      sound_later (Shared Cut) e = cut_later e
+      sound_later (Shared Cut) e = open_later w f g b apart there v is want e
       sound_later _ e = refl
 
       pub stands_later : StandsAt s w f → StandsAt s then f
       stands_later h = record {
         state = h.state;
-        at = get_early (set w.fibers g (move b q)) (children b v q) f h.state (slice_get-set_other w.fibers g f (move b q) apart ∙ h.at);
+        at = still_at w g b v f h.state apart h.at;
         sound = sound_later (wish_of (ask_of h.state)) h.sound;
         keeps_to = elim (needs_later (wish_of (ask_of h.state))) [
           | inl none ↦ subst (KeepsTo s then) (sym none) (nothing_needed s then)
@@ -331,7 +274,7 @@ module _ (s : List Bool) (w : World) (g : ℕ) (b : Fiber) (out : in_set s g ≡
   quiet_moves k f mine a x Nothing is some want sound keep = absurd (cc)
   quiet_moves k f mine a (Shared c) (Shared d) is some want sound keep = elim (calm_or_clear f mine d is c sound keep) [
     | inl calm ↦ quiet_calm k w.cells f a g b d (member_apart f mine) (Shared c) calm
-    | inr clear ↦ quiet_clear k w.cells f a g b d c clear
+    | inr clear ↦ quiet_clear k w.cells f a g b c d clear
   ]
   quiet_moves k f mine a Alone (Shared d) is some want sound keep = quiet_calm k w.cells f a g b d (member_apart f mine) Alone tt
   quiet_moves k f mine a Nothing (Shared d) is some want sound keep = absurd (cc)

@@ -1,5 +1,6 @@
 -- Moves of two fibers, neither of which depends on the other, lead to the same world in either order.
-use Rattle.std.proofs.Common.{◌≡◌, ◌≢◌, ℕ, true, List, [], ◌++◌, set, Some, None, Option, Result, Ok, Err, refl, sym, ap, ◌∙◌, subst, append-nil}
+use Rattle.std.proofs.Common.{◌≡◌, ◌≢◌, ℕ, zero, suc, true, false, List, [], ◌∷◌, ◌++◌, set, Some, None, Option, Result, Ok, Err}
+use Rattle.std.proofs.Common.{refl, sym, ap, ◌∙◌, subst, append_assoc, append-nil}
 use Rattle.std.specs.List.{slice_get}
 use Rattle.effect_term.specs.declared.reply.Reply.{Reply}
 use Rattle.fiber_frames.specs.Fiber.{Fiber, ask_of, move, silent_move}
@@ -16,11 +17,34 @@ use Rattle.scheduled_core.specs.Finals.{reply_to}
 use Rattle.scheduled_core.proofs.Lists.{slice_get-set_other}
 use Rattle.scheduled_core.proofs.Standing.Lists.{get_early}
 use Rattle.world_search.specs.Chosen.{Meet}
-use Rattle.every_schedule.specs.Places.{Place, entering, placed, wants}
-use Rattle.every_schedule.proofs.Commuting.{set_over}
-use Rattle.every_schedule.proofs.EarlyMoves.{IsClear, birth_reply, birth_room, births_swap, children_swap, other_room}
-use Rattle.every_schedule.proofs.EarlyMoves.{other_reply as clear_reply}
+use Rattle.world_search.specs.Free.{Commutes}
+use Rattle.every_schedule.specs.Places.{Place, entering, moves_at, placed, wants}
 use Rattle.every_schedule.proofs.OwnCalls.{IsCalm, left_by, other_refusal, other_reply, own_refusal, own_reply, swaps}
+
+-- ---- lists
+-- changes of elements, and further elements at the end, in either order
+pub set_early : {A : Type 0} (xs ys : List A) (f : ℕ) (a b : A) → slice_get xs f ≡ Some a → set (xs ++ ys) f b ≡ set xs f b ++ ys
+set_early [] ys f a b e = absurd (cc)
+set_early (x ∷ xs) ys zero a b e = refl
+set_early (x ∷ xs) ys (suc f) a b e = ap (λ l. x ∷ l) (set_early xs ys f a b e)
+
+pub set_apart : {A : Type 0} (xs : List A) (f g : ℕ) (a b : A) → f ≢ g → set (set xs f a) g b ≡ set (set xs g b) f a
+set_apart [] f g a b apart = refl
+set_apart (x ∷ xs) zero zero a b apart = absurd (apart refl)
+set_apart (x ∷ xs) zero (suc g) a b apart = refl
+set_apart (x ∷ xs) (suc f) zero a b apart = refl
+set_apart (x ∷ xs) (suc f) (suc g) a b apart = ap (λ l. x ∷ l) (set_apart xs f g a b (λ e. apart (ap suc e)))
+
+-- two elements are changed, and each of the two changes adds further elements at the end
+pub set_over : {A : Type 0} (l : List A) (f g : ℕ) (a b : A) → g ≢ f → slice_get l f ≡ Some a → slice_get l g ≡ Some b → (a' b' : A) (mine theirs : List A) →
+    mine ++ theirs ≡ theirs ++ mine → set (set l g b' ++ theirs) f a' ++ mine ≡ set (set l f a' ++ mine) g b' ++ theirs
+set_over l f g a b apart at there a' b' mine theirs swap =
+    ap (λ m. m ++ mine) (set_early (set l g b') theirs f a a' (slice_get-set_other l g f b' apart ∙ at))
+    ∙ append_assoc (set (set l g b') f a') theirs mine
+    ∙ ap (λ m. set (set l g b') f a' ++ m) (sym swap)
+    ∙ ap (λ m. m ++ (mine ++ theirs)) (set_apart l g f b' a' apart)
+    ∙ sym (append_assoc (set (set l f a') g b') mine theirs)
+    ∙ ap (λ m. m ++ theirs) (sym (set_early (set l f a') mine g b b' (slice_get-set_other l f g a' (λ e. apart (sym e)) ∙ there)))
 
 -- ---- what a move makes of a world
 -- the fiber that it starts
@@ -43,6 +67,31 @@ made w f a x = replied w f a x (reply_to w.cells f x)
 abbrev led : World → ℕ → Fiber → Wish → Option CellError → Result World RunError
 led w f a x None = Ok (made w f a x)
 led w f a x (Some e) = Err (fault_of f e)
+
+-- another fiber stays as it is
+pub still_at : (w : World) (g : ℕ) (b : Fiber) (v : Wish) (f : ℕ) (a : Fiber) → g ≢ f → slice_get w.fibers f ≡ Some a →
+    slice_get (made w g b v).fibers f ≡ Some a
+still_at w g b v f a apart at =
+    get_early (set w.fibers g (move b (reply_to w.cells g v))) (children b v (reply_to w.cells g v)) f a
+    (slice_get-set_other w.fibers g f (move b (reply_to w.cells g v)) apart ∙ at)
+
+-- the entry of a fiber without a next move changes nothing
+idle_wished : (k : Limits) (w : World) (f : ℕ) (g : Fiber) (x : Wish) → wants x ≡ false → placed k (wished k w f g x) ≡ Ok (record { limits = k; world = w })
+idle_wished k w f g (Shared c) e = absurd (cc)
+idle_wished k w f g Alone e = absurd (cc)
+idle_wished k w f g Nothing e = refl
+
+idle_turned : (k : Limits) (w : World) (f : ℕ) (o : Option Fiber) → moves_at o ≡ false → placed k (turned k w f o) ≡ Ok (record { limits = k; world = w })
+idle_turned k w f None e = refl
+idle_turned k w f (Some g) e = idle_wished k w f g (wish_of (ask_of g)) e
+
+pub idle_enters : (p : Place) (f : ℕ) → moves_at (slice_get p.world.fibers f) ≡ false → entering p f ≡ Ok p
+idle_enters p f e = idle_turned p.limits p.world f (slice_get p.world.fibers f) e
+
+-- a fiber that has a next move
+pub born_wants : (o : Option Fiber) → moves_at o ≡ true → (b : Fiber) × (o ≡ Some b) × (wants (wish_of (ask_of b)) ≡ true)
+born_wants None e = absurd (cc)
+born_wants (Some b) e = (b, refl, e)
 
 wished_led : (k : Limits) (w : World) (f : ℕ) (a : Fiber) (x : Wish) → wants x ≡ true → wished k w f a x ≡ led w f a x (refused k w.cells f x)
 wished_led k w f a (Shared c) some = by (refusal k w.cells f c)
@@ -98,17 +147,6 @@ module _ (k : Limits) (s : Cells) (f : ℕ) (a : Fiber) (g : ℕ) (b : Fiber) wh
           ap (λ l. l ++ born b d q) (childless x calm r) ∙ sym (append-nil (born b d q)) ∙ ap (λ l. born b d q ++ l) (sym (childless x calm r));
     }
 
-    -- a birth, and a call that makes nothing of its kind
-    pub quiet_clear : (c : Call) → IsClear c d → AreQuiet k s f a (Shared c) g b (Shared d)
-    quiet_clear c clear = record {
-      mine = birth_reply s f g d c clear;
-      theirs = clear_reply s f g d c clear;
-      cells = births_swap s f g d c clear;
-      my_room = birth_room s f g d k c clear;
-      their_room = other_room s f g d k c clear;
-      started = λ r q. children_swap a b c d r q clear;
-    }
-
 -- ---- both moves, in either order
 module _ (k : Limits) where
   abbrev pub place : World → Place
@@ -143,13 +181,12 @@ module _ (k : Limits) where
 
     my_entry : (o : Option CellError) → refused k w.cells f x ≡ o → entering (place theirs) f ≡ placed k (led theirs f a x o)
     my_entry o room =
-        entry theirs f a (get_early (set w.fibers g (move b q)) (children b v q) f a (slice_get-set_other w.fibers g f (move b q) apart ∙ at)) x is some
+        entry theirs f a (still_at w g b v f a apart at) x is some
         ∙ ap (λ m. placed k (led theirs f a x m)) (quiet.my_room ∙ room)
 
     their_entry : (o : Option CellError) → refused k w.cells g v ≡ o → entering (place mine) g ≡ placed k (led mine g b v o)
     their_entry o room =
-        entry mine g b
-        (get_early (set w.fibers f (move a r)) (children a x r) g b (slice_get-set_other w.fibers f g (move a r) (λ e. apart (sym e)) ∙ there)) v wanted want
+        entry mine g b (still_at w f a x g b (λ e. apart (sym e)) there) v wanted want
         ∙ ap (λ m. placed k (led mine g b v m)) (quiet.their_room ∙ room)
 
     meet_by : (o m : Option CellError) → refused k w.cells f x ≡ o → refused k w.cells g v ≡ m → (y : Place) → placed k (led w f a x o) ≡ Ok y →
@@ -191,3 +228,9 @@ module _ (k : Limits) where
   pub leads_to : (w : World) (f : ℕ) (a : Fiber) → slice_get w.fibers f ≡ Some a → (x : Wish) → wish_of (ask_of a) ≡ x → wants x ≡ true → (y : Place) →
       entering (place w) f ≡ Ok y → place (made w f a x) ≡ y
   leads_to w f a at x is some y goes = led_by w f a x (refused k w.cells f x) y (sym (entry w f a at x is some) ∙ goes)
+
+-- two moves meet, and the first stays what it is
+pub with_free : (Free : Place → ℕ → Type 0) (f : ℕ) (x : Place) (g : ℕ) (r : Result Place RunError) →
+    ((y z : Place) → r ≡ Ok y → entering y f ≡ Ok z → Free y f) → Meet entering f x g r → Commutes entering Free f x g r
+with_free Free f x g (Ok y) free met = (free y met.0 refl met.1, met.0, met.1, met.2)
+with_free Free f x g (Err e) free met = met
