@@ -18,14 +18,16 @@ is_persistent-requires-clause-many c =
 pub go_to-requires : goal.go_to-requires
 go_to-requires c =
     let p = here c.is_persistent.new.current in
-    let same : p ≡ here c.args.current.now = c.is_persistent.ensures.same.here ∙ c.best.ensures.same.here in
-    (p.limits, record {
-      place = p;
-      limits = refl;
-      is = row_on c.number.new.self c.is_lighter.new.current c.in_ok-registry.registry c.as_slice-2.result.now p c.is_lighter.ensures.onward
-          (c.as_slice-2.ensures.value ∙ c.in_ok-numbers.ensures.items ∙ c.numbers.ensures) c.in_ok-registry.ensures.row;
-      fits = subst (λ (x : Place). AllFit x.world) (sym same) c.requires.fits;
-    })
+    let same : p ≡ here c.args.current.now = c.is_persistent.ensures.same.here ∙ c.best.ensures.same.here in (
+      p.limits,
+      record {
+        place = p;
+        limits = refl;
+        is = row_on c.number.new.self c.is_lighter.new.current c.in_ok-registry.registry c.as_slice-2.result.now p c.is_lighter.ensures.onward
+            (c.as_slice-2.ensures.value ∙ c.in_ok-numbers.ensures.items ∙ c.numbers.ensures) c.in_ok-registry.ensures.row;
+        fits = subst (λ (x : Place). AllFit x.world) (sym same) c.requires.fits;
+      },
+    )
 
 pub returns-then-not-lighter-clause-here : goal.returns-then-not-lighter-clause-here
 returns-then-not-lighter-clause-here c =

@@ -1,4 +1,4 @@
-use Rattle.std.proofs.Common.{◌≡◌, ◌<◌, ◌≤◌, ◌+◌, ℕ, drop, length, ap, ◌∙◌, arith}
+use Rattle.std.proofs.Common.{◌<◌, ◌+◌, ℕ, drop, length, ap, ◌∙◌, arith}
 use Rattle.fiber_frames.specs.Weights.{weight_of}
 use Rattle.world_search.proofs.Lists.{get_low}
 use Rattle.every_schedule.specs.Persistent.{weights}
