@@ -79,7 +79,8 @@ module _ (d : Needs) where
       let place : suc j + i ≡ j + suc i = omega arith in
       ap (λ (l : List Bool). (t || depends_on d j g) ∷ l) (joined_set (suc j) gs s i b at (ap (λ (k : ℕ). depends_on d k b) place ∙ so))
 
-  joined_from : (j : ℕ) (gs : List Fiber) (s : List Bool) → ((i : ℕ) (b : Fiber) → slice_get gs i ≡ Some b → in_set s i || not (depends_on d (j + i) b) ≡ true) →
+  joined_from : (j : ℕ) (gs : List Fiber) (s : List Bool) →
+      ((i : ℕ) (b : Fiber) → slice_get gs i ≡ Some b → in_set s i || not (depends_on d (j + i) b) ≡ true) →
       length s ≡ length gs → joined d j gs s ≡ s
   joined_from j [] s each many = refl
   joined_from j (g ∷ gs) [] each many = refl
@@ -96,7 +97,8 @@ module _ (d : Needs) where
   -- no further fiber joins once each was tried
   pub all_joined : (gs : List Fiber) (s : List Bool) → ((i : ℕ) (b : Fiber) → slice_get gs i ≡ Some b → is_tried d i b s ≡ true) →
       length s ≡ length gs → joined d 0 gs s ≡ s
-  all_joined gs s each many = joined_from 0 gs s (λ i b at. let place : 0 + i ≡ i = omega arith in ap (λ (k : ℕ). in_set s i || not (depends_on d k b)) place ∙ each i b at) many
+  all_joined gs s each many =
+      joined_from 0 gs s (λ i b at. let place : 0 + i ≡ i = omega arith in ap (λ (k : ℕ). in_set s i || not (depends_on d k b)) place ∙ each i b at) many
 
   module _ (i : ℕ) (gs : List Fiber) (s : List Bool) where
     pub joins_before : in_set s i ≡ true → IsJoined d i gs s s
@@ -220,7 +222,8 @@ module _ (w : World) where
     pub best_replaced : (x : Seed) → x.fiber ≡ n → x.set.items ≡ set_of w n → x.many ≡ m → length x.set.items ≡ length w.fibers → has_fewer m s ≡ true →
         IsBest w (best w (n + 1)) (Some x)
     best_replaced x fiber is size long fewer =
-        subst (λ (o : Option ℕ). IsBest w o (Some x)) (sym (best_next n true (both ∙ fewer))) record { fiber = fiber; set = is; many = size ∙ many; long = long }
+        subst (λ (o : Option ℕ). IsBest w o (Some x)) (sym (best_next n true (both ∙ fewer)))
+        record { fiber = fiber; set = is; many = size ∙ many; long = long }
 
   -- the set of a seed has a flag for each fiber
   pub seed_long : (o : Option ℕ) (s : Seed) → IsBest w o (Some s) → length s.set.items ≡ length w.fibers
@@ -303,7 +306,8 @@ module _ (w : World) where
           | inl is ↦ subst (λ (k : ℕ). k < w.cells.next_fiber) (sym is) own
           | inr given ↦ given
         ] in
-        unless_given (has_come_to_end w i) (record { one = Some (Cancels, i); two = None; fiber = Some i }) (ap (λ (t : Bool). t && true) (given_here Cancels i low))
+        unless_given (has_come_to_end w i) (record { one = Some (Cancels, i); two = None; fiber = Some i })
+        (ap (λ (t : Bool). t && true) (given_here Cancels i low))
     call_given (Join i) h = unless_given (has_come_to_end w i) (record { one = None; two = None; fiber = Some i }) refl
     call_given (Finish o) h = two_given Cancels Joins f own own
     call_given (Get r) h = one_given Stores r h
@@ -323,7 +327,8 @@ module _ (w : World) where
       let given = given_by w.cells in
       let it = fits.each f g at in
       let named : AskNamed given f (ask_of g) = subst (λ (k : ℕ). AskNamed given k (ask_of g)) it.number (ask_named given g it.names) in
-      wish_given f (born_given w fits f (slice_get_within w.fibers f g at)) (wish_of (ask_of g)) (λ d is. subst (AskNamed given f) (asked_so (ask_of g) d is) named)
+      wish_given f (born_given w fits f (slice_get_within w.fibers f g at)) (wish_of (ask_of g))
+      (λ d is. subst (AskNamed given f) (asked_so (ask_of g) d is) named)
 
   -- a fiber stands, by its own soundness and its needs
   module _ (fits : AllFit w) (s : List Bool) (f : ℕ) (g : Fiber) (at : slice_get w.fibers f ≡ Some g) where

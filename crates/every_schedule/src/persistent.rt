@@ -10,7 +10,7 @@ ghost use Rattle.every_schedule.specs.Persistent.{is_entered as the_entered, is_
 ghost use Rattle.every_schedule.specs.Persistent.{is_member as the_member};
 ghost use Rattle.every_schedule.specs.Persistent.{members as the_members, one_if as the_count};
 ghost use Rattle.every_schedule.specs.Persistent.{needs_at, pick as the_pick, set_of as the_set, spared, spread};
-ghost use Rattle.every_schedule.specs.Persistent.{stands_in};
+ghost use Rattle.every_schedule.specs.Persistent.{stands_in, weight_at};
 ghost use Rattle.every_schedule.specs.Reduced.{leapt};
 ghost use Rattle.every_schedule.specs.Private.Persistent.{IsBest, IsJoined, IsSet, has_fewer, is_tried};
 ghost use Rattle.every_schedule.specs.Private.Standing.{IsOnward, IsSame, here};
@@ -316,6 +316,28 @@ fn is_lighter(
     }
 }
 
+// Whether the entry of a fiber, and the own moves after it, lead to a world that weighs less than this one. Goes back to
+// this world.
+fn leads_down(
+    alloc: Global,
+    current: &mut Current,
+    fiber: u16,
+    at_once: AtOnce,
+) -> Result<bool, AllocError>
+    requires fits { AllFit (here current.old).world }
+    ensures onward { IsOnward current.old current.new }
+    ensures here { OnOk result (here current.new ≡ here current.old) }
+    ensures lighter { IfOk result (λ it. it ≡
+        the_lightness (weight_at (here current.old)) (leapt at_once (here current.old) fiber)) }
+{
+    let most = current.weight();
+    let registry = current.number()?;
+    let numbers = Vec::from_slice(alloc, current.numbers())?;
+    let lighter = is_lighter(&mut *current, fiber, at_once, most)?;
+    current.go_to(registry, numbers.as_slice())?;
+    Ok(lighter)
+}
+
 /// Whether the fiber is in the set, or the set is that of all fibers.
 pub(crate) fn is_member(set: &Option<Vec<bool>>, fiber: u16) -> bool
     ensures { (it : Option (List Bool)) → IsSet it set.now → result ≡ the_member it fiber }
@@ -368,12 +390,7 @@ pub(crate) fn pick(
     if !is_persistent(&mut *current, seed.set.as_slice()) {
         return Ok(None);
     }
-    let most = current.weight();
-    let registry = current.number()?;
-    let numbers = Vec::from_slice(alloc, current.numbers())?;
-    let lighter = is_lighter(&mut *current, seed.fiber, at_once, most)?;
-    current.go_to(registry, numbers.as_slice())?;
-    if !lighter {
+    if !leads_down(alloc, current, seed.fiber, at_once)? {
         return Ok(None);
     }
     let Seed { set, .. } = seed;
