@@ -1,6 +1,4 @@
-use Rattle.std.proofs.Common.{refl, sym, ◌∙◌, subst}
-use Rattle.scheduled_core.specs.Fitting.{AllFit}
-use Rattle.every_schedule.specs.Places.{Place}
+use Rattle.std.proofs.Common.{refl, ◌∙◌}
 use Rattle.every_schedule.specs.Private.Standing.{here}
 use Rattle.every_schedule.proofs.Numbered.{one_world}
 use Rattle.every_schedule.proofs.Sets.{row_on}
