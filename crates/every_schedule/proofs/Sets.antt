@@ -1,5 +1,5 @@
 -- Sets of fibers, and the choice of one, as the code finds them.
-use Rattle.std.proofs.Common.{◌≡◌, ◌≢◌, ◌⊎◌, inl, inr, ℕ, zero, suc, ◌+◌, ◌<◌, ◌≤◌, nat_lt, min, Bool, true, false, not, ◌&&◌, ◌||◌}
+use Rattle.std.proofs.Common.{◌≡◌, inl, inr, ℕ, zero, suc, ◌+◌, ◌<◌, ◌≤◌, nat_lt, Bool, true, false, not, ◌&&◌, ◌||◌}
 use Rattle.std.proofs.Common.{List, [], ◌∷◌, drop, length, get_or, set, Option, Some, None, refl, sym, ap, ap₂, ◌∙◌, subst, arith}
 use Rattle.std.specs.List.{slice_get}
 use Rattle.std.proofs.lemmas.Bool.{lt-ltb}
@@ -8,8 +8,7 @@ use Rattle.std.proofs.lemmas.Option.{same_Some, slice_get_within}
 use mathlib.Core.Logic.{dite}
 use native.Mathlib.Decide.{ℕ_discrete}
 use Rattle.cell_registry.specs.declared.call.Call.{Call}
-use Rattle.cell_registry.specs.declared.call.Call.TheVariants.{Start, Cancel, Join, Look, Mask, Unmask, Cut, Finish}
-use Rattle.cell_registry.specs.declared.call.Call.TheVariants.{NewRef, NewDeferred, Get, Set, Modify, Complete, Read}
+use Rattle.cell_registry.specs.declared.call.Call.TheVariants.{Cancel, Join, Look, Finish, Get, Set, Modify, Complete, Read}
 use Rattle.cell_registry.specs.Cells.{cell_of}
 use Rattle.fiber_frames.specs.declared.uses.Use.{Use}
 use Rattle.fiber_frames.specs.declared.uses.Use.TheVariants.{Cancels, Joins, Gets, Stores, Completes, Awaits}
@@ -19,7 +18,7 @@ use Rattle.fiber_frames.specs.Uses.{used_place}
 use Rattle.fiber_frames.specs.Weights.{weight_of}
 use Rattle.fiber_frames.proofs.NamedMoves.{ask_named}
 use Rattle.scheduled_core.specs.declared.wish.Wish.{Wish}
-use Rattle.scheduled_core.specs.declared.wish.Wish.TheVariants.{Shared, Alone, Nothing}
+use Rattle.scheduled_core.specs.declared.wish.Wish.TheVariants.{Shared}
 use Rattle.scheduled_core.specs.Core.{World, wish_of}
 use Rattle.scheduled_core.specs.Fitting.{AllFit, given_by}
 use Rattle.every_schedule.specs.declared.needs.Needs.{Needs}
@@ -27,7 +26,7 @@ use Rattle.every_schedule.specs.declared.persistent.Seed.{Seed}
 use Rattle.every_schedule.specs.Persistent.{best, depends_on, grown, in_set, is_better, is_given, is_inside, is_making, is_ready_in, is_sound, joined, joined_if}
 use Rattle.every_schedule.specs.Persistent.{members, needs_at, needs_in, needs_of, needs_of_call, needs_one, needs_two, needs_unless, one_if}
 use Rattle.every_schedule.specs.Persistent.{seed_if, set_of, spared, spread, stand, stands_in, stands_with, weights}
-use Rattle.every_schedule.specs.Private.Persistent.{IsBest, IsJoined, IsSeed, has_fewer, is_tried}
+use Rattle.every_schedule.specs.Private.Persistent.{IsBest, IsJoined, has_fewer, is_tried}
 use Rattle.every_schedule.specs.Places.{Place}
 use Rattle.every_schedule.specs.Private.Numbered.{IsWorldOf}
 use Rattle.every_schedule.specs.Private.Standing.{IsOnward, Stand}

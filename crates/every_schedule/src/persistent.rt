@@ -9,7 +9,7 @@ ghost use Rattle.every_schedule.specs.Persistent.{is_persistent as the_persisten
 ghost use Rattle.every_schedule.specs.Persistent.{is_entered as the_entered, is_inside as the_inside};
 ghost use Rattle.every_schedule.specs.Persistent.{is_member as the_member};
 ghost use Rattle.every_schedule.specs.Persistent.{members as the_members, one_if as the_count};
-ghost use Rattle.every_schedule.specs.Persistent.{needs_at, pick as the_pick, set_of as the_set, spared, spread};
+ghost use Rattle.every_schedule.specs.Persistent.{pick as the_pick, set_of as the_set, spared, spread};
 ghost use Rattle.every_schedule.specs.Persistent.{stands_in, weight_at};
 ghost use Rattle.every_schedule.specs.Reduced.{leapt};
 ghost use Rattle.every_schedule.specs.Private.Persistent.{IsBest, IsJoined, IsSet, has_fewer, is_tried};
@@ -370,9 +370,9 @@ pub(crate) fn is_entered(
     Ok(is_member(&set, fiber))
 }
 
-/// Returns the fibers whose entries are made at this world, or `None` if those of all fibers are. Each of them is made
-/// if no smaller set is found: a set whose next moves depend on no other fiber, and one of which leads to a world that
-/// weighs less.
+/// Returns the fibers whose entries are made at this world, or `None` if those of all fibers are. The entries of all
+/// are made if no smaller set is found: a set whose next moves depend on no other fiber, and one of which leads to a
+/// world that weighs less.
 pub(crate) fn pick(
     alloc: Global,
     current: &mut Current,
