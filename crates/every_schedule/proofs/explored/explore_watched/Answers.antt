@@ -1,4 +1,5 @@
-use Rattle.std.proofs.{Common.{◌≡◌, ℕ, true, inl, inr, ◌<◌, ◌≤◌, ◌++◌, List, length, sym, ap, subst, arith, rules}, lemmas.Grind.common_steps}
+use Rattle.std.proofs.lemmas.Result.{err_from_is_err_and}
+use Rattle.std.proofs.{Common.{◌≡◌, ℕ, true, inl, inr, ◌<◌, ◌≤◌, ◌++◌, List, length, refl, sym, ap, subst, arith, rules}, lemmas.Grind.common_steps}
 use Rattle.std.specs.{Prelude.Some, List.{All, slice_get}}
 use Rattle.derived_ops.specs.{Expansion.code_of, Reading.source_of}
 use Rattle.scheduled_core.specs.Core.{core, first_world}
@@ -99,3 +100,18 @@ returns g c =
       lawful = first_of (search rules, grind (arith, common_steps));
       memory = first_of (search rules, grind (arith, common_steps));
     }
+
+pub returns-in_err-found-clause-memory : goal.returns-in_err-found-clause-memory
+returns-in_err-found-clause-memory g c =
+    let p = err_from_is_err_and c.from_residual-in_err-found.result c.from_residual-in_err-found.ensures.1 in
+    rw (p.1, p.2) refl
+
+pub returns-in_err-unfolded-clause-memory : goal.returns-in_err-unfolded-clause-memory
+returns-in_err-unfolded-clause-memory g c =
+    let p = err_from_is_err_and c.from_residual-in_err-unfolded.result c.from_residual-in_err-unfolded.ensures.1 in
+    rw (p.1, p.2) c.in_err-unfolded.ensures.memory
+
+pub returns-in_err-answers-clause-memory : goal.returns-in_err-answers-clause-memory
+returns-in_err-answers-clause-memory g c =
+    let p = err_from_is_err_and c.from_residual-in_err-answers.result c.from_residual-in_err-answers.ensures.1 in
+    rw (p.1, p.2) refl
