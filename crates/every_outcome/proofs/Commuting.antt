@@ -34,7 +34,7 @@ module _ (says : Bool) where
   pub place_again : (p : Place) → unmarked_place says (unmarked_place says p) ≡ unmarked_place says p
   place_again p = ap (λ (w : World). let q : Place = record { limits = p.limits; world = w } in q) (world_again says p.world)
 
-  unmarked_led : (y : Result Place RunError) (q : Place) → unmarked_of y ≡ Ok q → (x : Place) × (y ≡ Ok x) × (unmarked_place says x ≡ q)
+  pub unmarked_led : (y : Result Place RunError) (q : Place) → unmarked_of y ≡ Ok q → (x : Place) × (y ≡ Ok x) × (unmarked_place says x ≡ q)
   unmarked_led (Ok x) q e = (x, refl, (let h : unmarked_of (Ok x) ≡ Ok q = e in cc))
   unmarked_led (Err d) q e = absurd (cc)
 
@@ -60,11 +60,11 @@ module _ (says : Bool) where
 
 -- ---- the entry of one fiber leaves the others as they are
 -- all fibers that were started before, and all counts but its own
-record Leaves (w : World) (g : ℕ) (v : World) : Type 0 where
+pub record Leaves (w : World) (g : ℕ) (v : World) : Type 0 where
   pub others : (f : ℕ) → g ≢ f → (a : Fiber) → slice_get w.fibers f ≡ Some a → slice_get v.fibers f ≡ Some a
   pub counts : (f : ℕ) → g ≢ f → (cell_of v.cells f).count ≡ (cell_of w.cells f).count
 
-leaves_none : (w : World) (g : ℕ) → Leaves w g w
+pub leaves_none : (w : World) (g : ℕ) → Leaves w g w
 leaves_none w g = record { others = λ f apart a at. at; counts = λ f apart. refl }
 
 module _ (k : Limits) (w : World) (g : ℕ) where
@@ -97,7 +97,7 @@ module _ (k : Limits) (w : World) (g : ℕ) where
   leaves_turned None x e = led w x (leaves_none w g) e
   leaves_turned (Some b) x e = leaves_wished b (wish_of (ask_of b)) x e
 
-leaves : (p : Place) (g : ℕ) (x : Place) → entering p g ≡ Ok x → Leaves p.world g x.world
+pub leaves : (p : Place) (g : ℕ) (x : Place) → entering p g ≡ Ok x → Leaves p.world g x.world
 leaves p g x e = leaves_turned p.limits p.world g (slice_get p.world.fibers g) x e
 
 -- an own move starts no fiber
@@ -150,7 +150,7 @@ module _ (says : Bool) where
       record { none = none; own = record { own = own; next = on.0; goes = on.1 } }
 
   -- an entry of a fiber that has a count of 0 and goes on alike
-  plain_step : (p : Place) (f : ℕ) → (cell_of p.world.cells f).count ≡ 0 → ((g : Fiber) → slice_get p.world.fibers f ≡ Some g → GoesAlike says g) →
+  pub plain_step : (p : Place) (f : ℕ) → (cell_of p.world.cells f).count ≡ 0 → ((g : Fiber) → slice_get p.world.fibers f ≡ Some g → GoesAlike says g) →
       stepped says (unmarked_place says p) f ≡ unmarked_of says (entering p f)
   plain_step p f count alike = step_alike says p.limits p.world f count alike ∙ after_placed says p.limits (entered p.limits (Ok p.world) f)
 

@@ -4,6 +4,7 @@ pub mod Stepping
 pub mod Running
 pub mod Own
 pub mod Commuting
+pub mod Apart
 pub mod Growing
 pub mod Leaps
 pub mod SameReports

@@ -59,11 +59,11 @@ module _ (u : Use) (n i : ℕ) (to : ℕ → ℕ → Mask) where
   run_same (Over o) = refl
   run_same Broken = refl
 
-uses_unmarked : (u : Use) (n : ℕ) (g : Fiber) → uses_in u n (unmarked g).running ≡ uses_in u n g.running
+pub uses_unmarked : (u : Use) (n : ℕ) (g : Fiber) → uses_in u n (unmarked g).running ≡ uses_in u n g.running
 unfolding unmarked
 uses_unmarked u n g = run_same u n g.number (placed_in g.number (masks_of g.running)) g.running
 
-number_unmarked : (g : Fiber) → (unmarked g).number ≡ g.number
+pub number_unmarked : (g : Fiber) → (unmarked g).number ≡ g.number
 unfolding unmarked
 number_unmarked g = refl
 
@@ -190,11 +190,11 @@ module _ (says : Bool) where
   another_unmarked : (f : ℕ) (b : Fiber) → is_another f (shown says b) ≡ is_another f b
   another_unmarked f b = ap (λ (m : ℕ). not (nat_eq m f)) (number_unmarked b)
 
-  next_unmarked : (s : Cells) (k : naming.Place) → next_of k (without_counts (without_waits s)) ≡ next_of k s
+  pub next_unmarked : (s : Cells) (k : naming.Place) → next_of k (without_counts (without_waits s)) ≡ next_of k s
   next_unmarked s naming.A_fiber = refl
   next_unmarked s _ = refl
 
-  cell_unmarked : (s : Cells) (i : ℕ) → cell_of (without_counts (without_waits s)) i ≡ plain (cell_of s i)
+  pub cell_unmarked : (s : Cells) (i : ℕ) → cell_of (without_counts (without_waits s)) i ≡ plain (cell_of s i)
   cell_unmarked s i = ap (λ (x : Cells). cell_of x i) (plain_is s) ∙ plain_cell s i
 
   -- ---- own moves
@@ -209,7 +209,7 @@ module _ (says : Bool) where
     left_unmarked : is_left_alone (unmarked_world says w) f ≡ is_left_alone w f
     left_unmarked = ap₂ (λ (s t : Bool). s && t) (kept_unmarked Cancels f) (others_unmarked (is_another f) (another_unmarked f) f 0 w.fibers)
 
-    end_unmarked : (i : ℕ) → has_come_to_end (unmarked_world says w) i ≡ has_come_to_end w i
+    pub end_unmarked : (i : ℕ) → has_come_to_end (unmarked_world says w) i ≡ has_come_to_end w i
     end_unmarked i = ap₂ (λ (s : Bool) (c : Cell). s && has_ended c.stage) (rests_unmarked w.fibers i) (cell_unmarked w.cells i)
 
     own_call_unmarked : (c : Call) → is_own_call (unmarked_world says w) f c ≡ is_own_call w f c

@@ -7,7 +7,8 @@ use Rattle.fiber_frames.specs.{Fiber.{Fiber, begins}, Reached.Reached}
 use Rattle.cell_registry.specs.declared.limits.{Limits.Limits, RunError.RunError}
 use Rattle.scheduled_core.specs.{declared.report.{FiberReport.FiberReport, Report.Report}, Core.{World, core, entered, fiber_report, reported}}
 use Rattle.scheduled_core.specs.Finals.{IsSettled}
-use Rattle.world_search.{specs.declared.{answers.Answer.Answer as Found, landings.Landing.Landing}, proofs.{Closed.run-append, Free.{covers, early, leads_up}}}
+use Rattle.world_search.specs.{declared.{answers.Answer.Answer as Found, landings.Landing.Landing}, Free.Reduces}
+use Rattle.world_search.proofs.{Closed.run-append, Free.{covers, early, leads_up, reduces}}
 use Rattle.every_schedule.specs.{declared.exploration.Answer.Answer, Explored.{IsListed, ListOnce}}
 use Rattle.every_outcome.specs.{Outcomes.counted, Reports.{AgreesOn, IsReported, KeepsReport, Reaches, reports}}
 use Rattle.every_outcome.specs.{Places.{Kept, Place, first_place, kept_marks, kept_report, report_at, stepped}, Private.Keeping.AreSingle}
@@ -153,20 +154,23 @@ module _ (says : Bool) where
         let g = found_at j b atj in
         ends_apart kept single f.0.end g.0.end a.end b.end (h i j f.0 g.0 less f.1 g.1) f.2.ends g.2.ends
 
+  -- entries with own moves after them get as far as single entries
+  leapt_reduces : Reduces (stepped says) (leapt says true)
+  leapt_reduces =
+      reduces (stepped says) (MayFree says true) (early (stepped says) (MayFree says true) (may_are_free says true)) (leapt says true) (leaps says true)
+
   -- answers that cover the search cover all single entries
   every_entry : (kept : Kept) (start : Place) (found : List Found) →
       ((t : List ℕ) → search.IsCovered (leapt says true) (report_at says) kept.places kept.faults found (systems.run (leapt says true) (Ok start) t)) →
       (s : List ℕ) → search.IsCovered (stepped says) (report_at says) kept.places kept.faults found (systems.run (stepped says) (Ok start) s)
   every_entry kept start found =
-      covers (stepped says) (MayFree says true) (early (stepped says) (MayFree says true) (may_are_free says true)) (leapt says true) (leaps says true)
-      (report_at says) size (reports_grow says) kept.places kept.faults found start
+      covers (stepped says) (leapt says true) leapt_reduces (report_at says) size (reports_grow says) kept.places kept.faults found start
 
   -- the schedule of an answer, entry by entry
   each_entry : (kept : Kept) (start : Place) (s t : List ℕ) (l : Landing) → systems.run (stepped says) (Ok start) s ≡ systems.run (leapt says true) (Ok start) t →
       search.LeadsTo (leapt says true) (report_at says) kept.places kept.faults start t l → search.LeadsTo (stepped says) (report_at says) kept.places kept.faults start s l
   each_entry kept start s t l =
-      leads_up (stepped says) (MayFree says true) (early (stepped says) (MayFree says true) (may_are_free says true)) (leapt says true) (leaps says true)
-      (report_at says) size (reports_grow says) kept.places kept.faults start s t l
+      leads_up (stepped says) (leapt says true) leapt_reduces (report_at says) size (reports_grow says) kept.places kept.faults start s t l
 
   module _ (kept : Kept) (code : Tree) (k : Limits) (found : List Found) (answers : List Answer)
       (told : AreTold says kept (first_place says code k) found answers) where

@@ -10,9 +10,9 @@ use Rattle.cell_registry.proofs.Forgetting.{without_waits_twice}
 use Rattle.scheduled_core.specs.{declared.wish.Wish.{Wish, TheVariants.{Shared, Alone, Nothing}}, Core.{World, answered, born, turned, wish_of, wished}}
 use Rattle.scheduled_core.specs.Fitting.{AllFit, Fits, Registered, cell_registered, given_by}
 use Rattle.world_search.specs.Free.{AreFree, AreGrowing, Commutes}
-use Rattle.every_schedule.specs.{Places.{Place, bare, bared, entering, moves_at, placed, report_at, stepped, stepped_if, unnoted, wants}, Reduced.IsOwn}
+use Rattle.every_schedule.specs.{Places.{Place, bare, bared, entering, moves_at, placed, report_at, stepped, stepped_if, unnoted}, Reduced.IsOwn}
 use Rattle.every_schedule.specs.Reduced.{has_come_to_end, has_own, is_another, is_completed, is_kept, is_left_alone, is_own, is_own_call, keeps, next_of}
-use Rattle.every_schedule.{specs.Reduced.{others, rests}, proofs.{Commuting.own_enter, Growing.{reports_enter, size}}}
+use Rattle.every_schedule.{specs.Reduced.{others, rests}, proofs.{Commuting.{own_enter, own_wants}, Growing.{reports_enter, size}, TwoMoves.idle_enters}}
 use Rattle.cell_registry.specs.declared.call.Call.TheVariants as call
 use Rattle.derived_ops.specs.Naming as naming
 
@@ -41,19 +41,6 @@ module _ (k : Limits) (w : World) (f : ℕ) where
 
 pub entering_bare : (p : Place) (f : ℕ) → bared (entering (bare p) f) ≡ bared (entering p f)
 entering_bare p f = turned_bare p.limits p.world f (slice_get p.world.fibers f)
-
--- the entry of a fiber without a next move changes nothing
-idle_wished : (k : Limits) (w : World) (f : ℕ) (g : Fiber) (x : Wish) → wants x ≡ false → placed k (wished k w f g x) ≡ Ok (record { limits = k; world = w })
-idle_wished k w f g (Shared c) e = absurd (cc)
-idle_wished k w f g Alone e = absurd (cc)
-idle_wished k w f g Nothing e = refl
-
-idle_turned : (k : Limits) (w : World) (f : ℕ) (o : Option Fiber) → moves_at o ≡ false → placed k (turned k w f o) ≡ Ok (record { limits = k; world = w })
-idle_turned k w f None e = refl
-idle_turned k w f (Some g) e = idle_wished k w f g (wish_of (ask_of g)) e
-
-idle_enters : (p : Place) (f : ℕ) → moves_at (slice_get p.world.fibers f) ≡ false → entering p f ≡ Ok p
-idle_enters p f e = idle_turned p.limits p.world f (slice_get p.world.fibers f) e
 
 pub bare_step : (p : Place) (f : ℕ) → stepped (bare p) f ≡ bared (entering p f)
 bare_step p f = by (moves_at (slice_get p.world.fibers f)) refl
@@ -115,7 +102,7 @@ fits_bare w h = record {
 }
 
 -- ---- own moves
-next_bare : (s : Cells) (k : naming.Place) → next_of k (without_waits s) ≡ next_of k s
+pub next_bare : (s : Cells) (k : naming.Place) → next_of k (without_waits s) ≡ next_of k s
 next_bare s naming.A_fiber = refl
 next_bare s naming.A_ref = refl
 next_bare s naming.A_deferred = refl
@@ -130,7 +117,7 @@ left_bare w f = ap (λ t. t && others (is_another f) f 0 w.fibers) (kept_bare Ca
 two_bare : (u v : Use) (w : World) (f n : ℕ) → is_kept u (unnoted w) f n && is_kept v (unnoted w) f n ≡ is_kept u w f n && is_kept v w f n
 two_bare u v w f n = ap₂ (λ s t. s && t) (kept_bare u w f n) (kept_bare v w f n)
 
-end_bare : (w : World) (i : ℕ) → has_come_to_end (unnoted w) i ≡ has_come_to_end w i
+pub end_bare : (w : World) (i : ℕ) → has_come_to_end (unnoted w) i ≡ has_come_to_end w i
 end_bare w i = ap (λ (x : Cell). rests (slice_get w.fibers i) && has_ended x.stage) (unawaited_cell w.cells i)
 
 own_call_bare : (w : World) (f : ℕ) (c : Call) → is_own_call (unnoted w) f c ≡ is_own_call w f c
@@ -164,11 +151,6 @@ own_bare p f h =
     record { own = has_own_bare p.world f (slice_get p.world.fibers f) ∙ h.own; next = on.0; goes = on.1 }
 
 -- a fiber that has an own move has a next move
-own_wants : (w : World) (f : ℕ) (g : Fiber) (x : Wish) → is_own w f g x ≡ true → wants x ≡ true
-own_wants w f g (Shared c) e = refl
-own_wants w f g Alone e = refl
-own_wants w f g Nothing e = absurd (cc)
-
 own_moves : (w : World) (f : ℕ) (o : Option Fiber) → has_own w f o ≡ true → moves_at o ≡ true
 own_moves w f None e = absurd (cc)
 own_moves w f (Some g) e = own_wants w f g (wish_of (ask_of g)) e

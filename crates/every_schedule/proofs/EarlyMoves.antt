@@ -1,6 +1,6 @@
 -- A birth commutes with each move of another fiber that is born before it. So births can be made early.
-use Rattle.std.proofs.Common.{◌≡◌, ◌≢◌, ◌⊎◌, inl, inr, ℕ, Bool, true, false, List, [], ◌++◌, set, Some, None, Option, Result, Ok, Err}
-use Rattle.std.proofs.Common.{refl, sym, ap, ◌∙◌, subst, arith, append_assoc, append-nil}
+use Rattle.std.proofs.Common.{◌≡◌, ◌≢◌, ◌⊎◌, inl, inr, ℕ, Bool, true, false, [], ◌++◌, Some, None, Option, Result, Ok, Err}
+use Rattle.std.proofs.Common.{refl, sym, ap, ◌∙◌, subst, arith, append-nil}
 use Rattle.std.specs.List.{slice_get}
 use Rattle.effect_term.specs.declared.reply.Reply.{Reply}
 use Rattle.effect_term.specs.declared.reply.Reply.TheVariants as reply
@@ -8,33 +8,30 @@ use Rattle.fiber_frames.specs.declared.ask.Ask.{Ask}
 use Rattle.fiber_frames.specs.declared.ask.Ask.TheVariants as ask
 use Rattle.fiber_frames.specs.declared.uses.Use.{Use}
 use Rattle.fiber_frames.specs.declared.uses.Use.TheVariants.{MakesDeferreds, MakesRefs, Starts}
-use Rattle.fiber_frames.specs.Fiber.{Fiber, ask_of, move, silent_move}
-use Rattle.fiber_frames.specs.Rows.{number_in}
+use Rattle.fiber_frames.specs.Fiber.{Fiber, ask_of}
 use Rattle.fiber_frames.specs.Uses.{AskApart, NumberApart}
 use Rattle.cell_registry.specs.declared.limits.Limits.{Limits}
 use Rattle.cell_registry.specs.declared.limits.Band.TheVariants.{Deferreds, Fibers, Refs}
-use Rattle.cell_registry.specs.declared.limits.CellError.{CellError}
 use Rattle.cell_registry.specs.declared.limits.RunError.{RunError}
 use Rattle.cell_registry.specs.declared.call.Call.{Call}
 use Rattle.cell_registry.specs.declared.call.Call.TheVariants.{NewDeferred, NewRef, Start}
 use Rattle.cell_registry.specs.Cells.{Cells, after, full, refusal, reply_of}
 use Rattle.scheduled_core.specs.declared.wish.Wish.{Wish}
 use Rattle.scheduled_core.specs.declared.wish.Wish.TheVariants.{Alone, Nothing, Shared}
-use Rattle.scheduled_core.specs.Core.{World, answered, born, called, turned, wish_of, wished}
-use Rattle.scheduled_core.proofs.Lists.{slice_get-set_other}
-use Rattle.scheduled_core.proofs.Standing.Lists.{get_early}
+use Rattle.scheduled_core.specs.Core.{World, born, wish_of}
+use Rattle.scheduled_core.specs.Finals.{reply_to}
 use Rattle.world_search.specs.Free.{AreEarly, AreFree, Commutes}
 use Rattle.every_schedule.specs.declared.leaping.AtOnce.{AtOnce}
-use Rattle.every_schedule.specs.Places.{Place, bare, bared, entering, moves_at, placed, stepped, unnoted, wants}
+use Rattle.every_schedule.specs.Places.{Place, bare, bared, entering, moves_at, stepped, unnoted, wants}
 use Rattle.every_schedule.specs.Reduced.{IsBirth, IsMade, MayOwn, has_birth, is_birth, is_birth_call, keeps, others}
 use Rattle.every_schedule.proofs.Bare.{bare_step, entering_bare, goes_bare, idle_stays, moves_step}
-use Rattle.every_schedule.proofs.Commuting.{set_apart, set_early}
-use Rattle.every_schedule.proofs.OwnKept.{ask_for, asked_so, asks_apart, keeps_child, keeps_move, others_at, others_born, others_set}
+use Rattle.every_schedule.proofs.OwnKept.{ask_for, asked_so, asks_apart, keeps_child, keeps_move, others_at, others_later}
 use Rattle.every_schedule.proofs.Still.{may_are_free}
+use Rattle.every_schedule.proofs.TwoMoves.{AreQuiet, leads_to, made, moves_meet, place, quiet_silent, still_at, with_free}
 
 -- ---- a birth, and a call of another kind
 -- the call makes nothing of the kind that this birth makes
-abbrev IsClear : Call → Call → Type 0
+abbrev pub IsClear : Call → Call → Type 0
 IsClear Start d = d ≢ Start
 IsClear NewRef d = d ≢ NewRef
 IsClear NewDeferred d = d ≢ NewDeferred
@@ -56,14 +53,14 @@ deferred_same s g NewDeferred h = absurd (h refl)
 deferred_same s g _ h = refl
 
 module _ (s : Cells) (f g : ℕ) (d : Call) where
-  birth_reply : (c : Call) → IsClear c d → reply_of (after s g d) f c ≡ reply_of s f c
+  pub birth_reply : (c : Call) → IsClear c d → reply_of (after s g d) f c ≡ reply_of s f c
   unfolding reply_of
   birth_reply Start h = ap reply.Number (fiber_same s g d h)
   birth_reply NewRef h = ap reply.Number (ref_same s g d h)
   birth_reply NewDeferred h = ap reply.Number (deferred_same s g d h)
   birth_reply _ h = absurd h
 
-  birth_room : (k : Limits) (c : Call) → IsClear c d → refusal k (after s g d) f c ≡ refusal k s f c
+  pub birth_room : (k : Limits) (c : Call) → IsClear c d → refusal k (after s g d) f c ≡ refusal k s f c
   unfolding refusal
   birth_room k Start h = ap (λ n. full Fibers n k.fibers) (fiber_same s g d h)
   birth_room k NewRef h = ap (λ n. full Refs n k.refs) (ref_same s g d h)
@@ -116,30 +113,30 @@ deferred_swaps s f g NewDeferred = refl
 deferred_swaps s f g _ = refl
 
 module _ (s : Cells) (f g : ℕ) (d : Call) where
-  other_reply : (c : Call) → IsClear c d → reply_of (after s f c) g d ≡ reply_of s g d
+  pub other_reply : (c : Call) → IsClear c d → reply_of (after s f c) g d ≡ reply_of s g d
   other_reply Start h = started_reply s f g d h
   other_reply NewRef h = ref_reply s f g d h
   other_reply NewDeferred h = deferred_reply s f g d h
   other_reply _ h = absurd h
 
-  other_room : (k : Limits) (c : Call) → IsClear c d → refusal k (after s f c) g d ≡ refusal k s g d
+  pub other_room : (k : Limits) (c : Call) → IsClear c d → refusal k (after s f c) g d ≡ refusal k s g d
   other_room k Start h = started_room k s f g d h
   other_room k NewRef h = ref_room k s f g d h
   other_room k NewDeferred h = deferred_room k s f g d h
   other_room k _ h = absurd h
 
-  births_swap : (c : Call) → IsClear c d → after (after s f c) g d ≡ after (after s g d) f c
+  pub births_swap : (c : Call) → IsClear c d → after (after s f c) g d ≡ after (after s g d) f c
   births_swap Start h = started_swaps s f g d
   births_swap NewRef h = ref_swaps s f g d
   births_swap NewDeferred h = deferred_swaps s f g d
   births_swap _ h = absurd h
 
 -- only one of the two calls starts a fiber
-no_child : (b : Fiber) (d : Call) (q : Reply) → d ≢ Start → born b d q ≡ []
+pub no_child : (b : Fiber) (d : Call) (q : Reply) → d ≢ Start → born b d q ≡ []
 no_child b Start q h = absurd (h refl)
 no_child b _ q h = refl
 
-children_swap : (a b : Fiber) (c d : Call) (r q : Reply) → IsClear c d → born a c r ++ born b d q ≡ born b d q ++ born a c r
+pub children_swap : (a b : Fiber) (c d : Call) (r q : Reply) → IsClear c d → born a c r ++ born b d q ≡ born b d q ++ born a c r
 children_swap a b Start d r q h =
     ap (λ l. born a Start r ++ l) (no_child b d q h) ∙ append-nil (born a Start r) ∙ sym (ap (λ l. l ++ born a Start r) (no_child b d q h))
 children_swap a b NewRef d r q h = sym (append-nil (born b d q))
@@ -148,55 +145,34 @@ children_swap a b _ d r q h = absurd h
 
 -- ---- what no other fiber can make
 -- a fiber that makes nothing of the kind isn't answered a number of that kind
-abbrev IsMaking : Use → Type 0
-IsMaking u = (i : ℕ) (a : Ask) (q : Reply) → AskApart u 0 i a → NumberApart u 0 a q
+abbrev pub IsMaking : Use → Type 0
+IsMaking u = (n i : ℕ) (a : Ask) (q : Reply) → AskApart u n i a → NumberApart u n a q
 
-starts_clear : IsMaking Starts
-starts_clear i ask.Start q h = absurd (h refl)
-starts_clear i ask.NewRef q h = λ kind. absurd (cc)
-starts_clear i ask.NewDeferred q h = λ kind. absurd (cc)
-starts_clear i _ q h = tt
+pub starts_clear : IsMaking Starts
+starts_clear n i ask.Start q h = absurd (h refl)
+starts_clear n i ask.NewRef q h = λ kind. absurd (cc)
+starts_clear n i ask.NewDeferred q h = λ kind. absurd (cc)
+starts_clear n i _ q h = tt
 
-refs_clear : IsMaking MakesRefs
-refs_clear i ask.Start q h = λ kind. absurd (cc)
-refs_clear i ask.NewRef q h = absurd (h refl)
-refs_clear i ask.NewDeferred q h = λ kind. absurd (cc)
-refs_clear i _ q h = tt
+pub refs_clear : IsMaking MakesRefs
+refs_clear n i ask.Start q h = λ kind. absurd (cc)
+refs_clear n i ask.NewRef q h = absurd (h refl)
+refs_clear n i ask.NewDeferred q h = λ kind. absurd (cc)
+refs_clear n i _ q h = tt
 
-deferreds_clear : IsMaking MakesDeferreds
-deferreds_clear i ask.Start q h = λ kind. absurd (cc)
-deferreds_clear i ask.NewRef q h = λ kind. absurd (cc)
-deferreds_clear i ask.NewDeferred q h = absurd (h refl)
-deferreds_clear i _ q h = tt
+pub deferreds_clear : IsMaking MakesDeferreds
+deferreds_clear n i ask.Start q h = λ kind. absurd (cc)
+deferreds_clear n i ask.NewRef q h = λ kind. absurd (cc)
+deferreds_clear n i ask.NewDeferred q h = absurd (h refl)
+deferreds_clear n i _ q h = tt
 
 module _ (w : World) (f g : ℕ) (b : Fiber) (apart : g ≢ f) (at : slice_get w.fibers g ≡ Some b) where
   module _ (u : Use) (clear : IsMaking u) (alone : others (keeps u 0) f 0 w.fibers ≡ true) where
     off : keeps u 0 b ≡ true
     off = others_at (keeps u 0) f w.fibers 0 g b alone at (λ e. apart (omega (arith, e)))
 
-    moved_alone : (q : Reply) → others (keeps u 0) f 0 (set w.fibers g (move b q)) ≡ true
-    moved_alone q =
-        others_set (keeps u 0) f w.fibers 0 g (move b q) alone
-        (keeps_move u 0 b off q (clear b.number (ask_of b) q (asks_apart u 0 b off)))
-
-    called_alone : (d : Call) (q : Reply) → others (keeps u 0) f 0 (set w.fibers g (move b q) ++ born b d q) ≡ true
-    called_alone d q =
-        others_born (keeps u 0) f (set w.fibers g (move b q)) b d q (moved_alone q) (λ start. keeps_child u 0 b off (number_in q))
-
     asks_off : (d : Call) → wish_of (ask_of b) ≡ Shared d → AskApart u 0 b.number (ask_for d)
     asks_off d is = subst (AskApart u 0 b.number) (asked_so (ask_of b) d is) (asks_apart u 0 b off)
-
-  kept_called : (c d : Call) → is_birth_call w f c ≡ true → is_birth_call (called w g b d (reply_of w.cells g d)) f c ≡ true
-  kept_called Start d h = called_alone Starts starts_clear h d (reply_of w.cells g d)
-  kept_called NewRef d h = called_alone MakesRefs refs_clear h d (reply_of w.cells g d)
-  kept_called NewDeferred d h = called_alone MakesDeferreds deferreds_clear h d (reply_of w.cells g d)
-  kept_called _ d h = absurd (cc)
-
-  kept_silent : (c : Call) → is_birth_call w f c ≡ true → is_birth_call record { fibers = set w.fibers g (silent_move b); cells = w.cells } f c ≡ true
-  kept_silent Start h = moved_alone Starts starts_clear h reply.Done
-  kept_silent NewRef h = moved_alone MakesRefs refs_clear h reply.Done
-  kept_silent NewDeferred h = moved_alone MakesDeferreds deferreds_clear h reply.Done
-  kept_silent _ h = absurd (cc)
 
   clear_called : (c d : Call) → wish_of (ask_of b) ≡ Shared d → is_birth_call w f c ≡ true → IsClear c d
   clear_called Start d is h = λ e. subst (λ x. AskApart Starts 0 b.number (ask_for x)) e (asks_off Starts starts_clear h d is) refl
@@ -204,121 +180,66 @@ module _ (w : World) (f g : ℕ) (b : Fiber) (apart : g ≢ f) (at : slice_get w
   clear_called NewDeferred d is h = λ e. subst (λ x. AskApart MakesDeferreds 0 b.number (ask_for x)) e (asks_off MakesDeferreds deferreds_clear h d is) refl
   clear_called _ d is h = absurd (cc)
 
+  module _ (v : Wish) (is : wish_of (ask_of b) ≡ v) where
+    alone_later : (u : Use) → IsMaking u → others (keeps u 0) f 0 w.fibers ≡ true → others (keeps u 0) f 0 (made w g b v).fibers ≡ true
+    alone_later u clear alone =
+        let keep = off u clear alone in
+        others_later (keeps u 0) f w g b v alone
+        (keeps_move u 0 b keep (reply_to w.cells g v) (clear 0 b.number (ask_of b) (reply_to w.cells g v) (asks_apart u 0 b keep)))
+        (λ start. keeps_child u 0 b keep w.cells.next_fiber)
+
+    birth_later : (x : Wish) → is_birth w f x ≡ true → is_birth (made w g b v) f x ≡ true
+    birth_later (Shared Start) h = alone_later Starts starts_clear h
+    birth_later (Shared NewRef) h = alone_later MakesRefs refs_clear h
+    birth_later (Shared NewDeferred) h = alone_later MakesDeferreds deferreds_clear h
+    birth_later _ h = absurd (cc)
+
 -- ---- the birth, and the move of another fiber
-module _ (k : Limits) (f : ℕ) (a : Fiber) (c : Call) (is : wish_of (ask_of a) ≡ Shared c) where
-  abbrev place : World → Place
-  place w = record { limits = k; world = w }
+-- a birth, and a call that makes nothing of its kind
+pub quiet_clear : (k : Limits) (s : Cells) (f : ℕ) (a : Fiber) (g : ℕ) (b : Fiber) (c d : Call) → IsClear c d → AreQuiet k s f a (Shared c) g b (Shared d)
+quiet_clear k s f a g b c d clear = record {
+  mine = birth_reply s f g d c clear;
+  theirs = other_reply s f g d c clear;
+  cells = births_swap s f g d c clear;
+  my_room = birth_room s f g d k c clear;
+  their_room = other_room s f g d k c clear;
+  started = λ r q. children_swap a b c d r q clear;
+}
 
-  abbrev grown : World → World
-  grown w = called w f a c (reply_of w.cells f c)
+birth_wanted : (w : World) (f : ℕ) (x : Wish) → is_birth w f x ≡ true → wants x ≡ true
+birth_wanted w f (Shared c) e = refl
+birth_wanted w f Alone e = absurd (cc)
+birth_wanted w f Nothing e = absurd (cc)
 
-  birth_step : (w : World) → slice_get w.fibers f ≡ Some a → refusal k w.cells f c ≡ None → entering (place w) f ≡ Ok (place (grown w))
-  birth_step w at room = ap (placed k) (ap (turned k w f) at ∙ ap (wished k w f a) is ∙ ap (answered w f a c) room)
+module _ (k : Limits) (w : World) (f g : ℕ) (apart : g ≢ f) (a b : Fiber) (at : slice_get w.fibers f ≡ Some a) (there : slice_get w.fibers g ≡ Some b)
+    (next : Place) (goes : entering (place k w) f ≡ Ok next) where
+  module _ (x v : Wish) (is : wish_of (ask_of a) ≡ x) (wanted : wish_of (ask_of b) ≡ v) (birth : is_birth w f x ≡ true) (want : wants v ≡ true) where
+    birth_on : (y z : Place) → entering (place k w) g ≡ Ok y → entering y f ≡ Ok z → IsBirth y f
+    birth_on y z to on =
+        let then : World = made w g b v in record {
+          birth = subst (λ (p : Place). has_birth p.world f (slice_get p.world.fibers f) ≡ true) (leads_to k w g b there v wanted want y to)
+              (ap (has_birth then f) (still_at w g b v f a apart at) ∙ ap (is_birth then f) is ∙ birth_later w f g b apart there v wanted x birth);
+          next = z;
+          goes = on;
+        }
 
-  birth_free : (w : World) → slice_get w.fibers f ≡ Some a → is_birth_call w f c ≡ true → refusal k w.cells f c ≡ None → IsBirth (place w) f
-  birth_free w at birth room = record {
-    birth = ap (has_birth w f) at ∙ ap (is_birth w f) is ∙ birth;
-    next = place (grown w);
-    goes = birth_step w at room;
-  }
+    by_quiet : AreQuiet k w.cells f a x g b v → Commutes entering IsBirth f next g (entering (place k w) g)
+    by_quiet quiet =
+        with_free IsBirth f next g (entering (place k w) g) birth_on
+        (moves_meet k w f g apart a b at there x v is wanted (birth_wanted w f x birth) want quiet next goes)
 
-  module _ (w : World) (g : ℕ) (apart : g ≢ f) (at : slice_get w.fibers f ≡ Some a) (birth : is_birth_call w f c ≡ true)
-      (room : refusal k w.cells f c ≡ None) (b : Fiber) (there : slice_get w.fibers g ≡ Some b) where
-    abbrev on : World
-    on = grown w
+  by_wishes : (x v : Wish) → wish_of (ask_of a) ≡ x → wish_of (ask_of b) ≡ v → is_birth w f x ≡ true → wants v ≡ true →
+      Commutes entering IsBirth f next g (entering (place k w) g)
+  by_wishes (Shared c) (Shared d) is wanted birth want =
+      by_quiet (Shared c) (Shared d) is wanted birth want
+      (quiet_clear k w.cells f a g b c d (clear_called w f g b apart there c d wanted birth))
+  by_wishes x Alone is wanted birth want = by_quiet x Alone is wanted birth want (quiet_silent k w.cells f a g b x)
+  by_wishes x Nothing is wanted birth want = absurd (cc)
+  by_wishes Alone v is wanted birth want = absurd (cc)
+  by_wishes Nothing v is wanted birth want = absurd (cc)
 
-    abbrev r : Reply
-    r = reply_of w.cells f c
-
-    abbrev Com : Result Place RunError → Type 0
-    Com y = Commutes entering IsBirth f (place on) g y
-
-    still_there : slice_get on.fibers g ≡ Some b
-    still_there =
-        get_early (set w.fibers f (move a r)) (born a c r) g b (slice_get-set_other w.fibers f g (move a r) (λ e. apart (sym e)) ∙ there)
-
-    -- both moves, in either order, with the children of both after all fibers
-    turn_over : (b' : Fiber) (more : List Fiber) → born a c r ++ more ≡ more ++ born a c r →
-        set (set w.fibers g b' ++ more) f (move a r) ++ born a c r ≡ set (set w.fibers f (move a r) ++ born a c r) g b' ++ more
-    turn_over b' more swap =
-        let here : slice_get (set w.fibers g b') f ≡ Some a = slice_get-set_other w.fibers g f b' apart ∙ at in
-        let mine : slice_get (set w.fibers f (move a r)) g ≡ Some b = slice_get-set_other w.fibers f g (move a r) (λ e. apart (sym e)) ∙ there in
-        ap (λ l. l ++ born a c r) (set_early (set w.fibers g b') more f a (move a r) here)
-        ∙ append_assoc (set (set w.fibers g b') f (move a r)) more (born a c r)
-        ∙ ap (λ l. set (set w.fibers g b') f (move a r) ++ l) (sym swap)
-        ∙ ap (λ l. l ++ (born a c r ++ more)) (set_apart w.fibers g f b' (move a r) apart)
-        ∙ sym (append_assoc (set (set w.fibers f (move a r)) g b') (born a c r) more)
-        ∙ ap (λ l. l ++ more) (sym (set_early (set w.fibers f (move a r)) (born a c r) g b b' mine))
-
-    by_answer : (d : Call) → wish_of (ask_of b) ≡ Shared d → (o : Option CellError) → entering (place on) g ≡ placed k (answered on g b d o) →
-        Com (placed k (answered w g b d o))
-    by_answer d wants None goes =
-        let q = reply_of w.cells g d in
-        let y : World = called w g b d q in
-        let z : World = called on g b d q in
-        let clear = clear_called w f g b apart there c d wants birth in
-        let here : slice_get y.fibers f ≡ Some a =
-        get_early (set w.fibers g (move b q)) (born b d q) f a (slice_get-set_other w.fibers g f (move b q) apart ∙ at) in
-        let birth' = kept_called w f g b apart there c d birth in
-        let room' : refusal k y.cells f c ≡ None = birth_room w.cells f g d k c clear ∙ room in (
-          birth_free y here birth' room',
-          place z,
-          birth_step y here room'
-              ∙ ap (λ s. Ok (place (record { fibers = set y.fibers f (move a s) ++ born a c s; cells = after y.cells f c })))
-              (birth_reply w.cells f g d c clear)
-              ∙ ap (λ l. Ok (place (record { fibers = l; cells = after y.cells f c }))) (turn_over (move b q) (born b d q) (children_swap a b c d r q clear))
-              ∙ ap (λ s. Ok (place (record { fibers = z.fibers; cells = s }))) (sym (births_swap w.cells f g d c clear)),
-          goes ∙ ap (λ s. Ok (place (called on g b d s))) (other_reply w.cells f g d c clear),
-        )
-    by_answer d wants (Some e) goes = goes
-
-    by_wish : (v : Wish) → wish_of (ask_of b) ≡ v → entering (place on) g ≡ placed k (wished k on g b v) → Com (placed k (wished k w g b v))
-    by_wish (Shared d) wants goes =
-        by_answer d wants (refusal k w.cells g d)
-        (goes ∙ ap (λ o. placed k (answered on g b d o)) (other_room w.cells f g d k c (clear_called w f g b apart there c d wants birth)))
-    by_wish Alone wants goes =
-        let y : World = record { fibers = set w.fibers g (silent_move b); cells = w.cells } in
-        let birth' = kept_silent w f g b apart there c birth in
-        let here : slice_get y.fibers f ≡ Some a = slice_get-set_other w.fibers g f (silent_move b) apart ∙ at in
-        let over = turn_over (silent_move b) [] (append-nil (born a c r)) in (
-          birth_free y here birth' room,
-          place (record { fibers = set on.fibers g (silent_move b); cells = on.cells }),
-          birth_step y here room
-              ∙ ap (λ l. Ok (place (record { fibers = set l f (move a r) ++ born a c r; cells = on.cells })))
-              (sym (append-nil (set w.fibers g (silent_move b))))
-              ∙ ap (λ l. Ok (place (record { fibers = l; cells = on.cells }))) over
-              ∙ ap (λ l. Ok (place (record { fibers = l; cells = on.cells }))) (append-nil (set on.fibers g (silent_move b))),
-          goes,
-        )
-    by_wish Nothing wants goes = (birth_free w at birth room, place on, birth_step w at room, goes)
-
-    pub birth_commutes : Com (entering (place w) g)
-    birth_commutes =
-        subst Com (sym (ap (placed k) (ap (turned k w g) there)))
-        (by_wish (wish_of (ask_of b)) refl (ap (placed k) (ap (turned k on g) still_there)))
-
--- ---- what follows from the place after the birth
-module _ (k : Limits) (w : World) (f : ℕ) (q : Place) where
-  room_by : (a : Fiber) (c : Call) (o : Option CellError) → placed k (answered w f a c o) ≡ Ok q → o ≡ None
-  room_by a c None goes = refl
-  room_by a c (Some e) goes = absurd (cc)
-
-  module _ (g : ℕ) (apart : g ≢ f) (b : Fiber) (there : slice_get w.fibers g ≡ Some b) where
-    at_wish : (a : Fiber) → slice_get w.fibers f ≡ Some a → (x : Wish) → wish_of (ask_of a) ≡ x → is_birth w f x ≡ true → placed k (wished k w f a x) ≡ Ok q →
-        Commutes entering IsBirth f q g (entering record { limits = k; world = w } g)
-    at_wish a at (Shared c) is birth goes =
-        let room : refusal k w.cells f c ≡ None = room_by a c (refusal k w.cells f c) goes in
-        let led : placed k (answered w f a c None) ≡ Ok q = ap (λ o. placed k (answered w f a c o)) (sym room) ∙ goes in
-        let same : record { limits = k; world = called w f a c (reply_of w.cells f c) } ≡ q = cc in
-        subst (λ v. Commutes entering IsBirth f v g (entering record { limits = k; world = w } g)) same
-        (birth_commutes k f a c is w g apart at birth room b there)
-    at_wish a at Alone is birth goes = absurd (cc)
-    at_wish a at Nothing is birth goes = absurd (cc)
-
-    at_fiber : (o : Option Fiber) → slice_get w.fibers f ≡ o → has_birth w f o ≡ true → placed k (turned k w f o) ≡ Ok q →
-        Commutes entering IsBirth f q g (entering record { limits = k; world = w } g)
-    at_fiber None at birth goes = absurd (cc)
-    at_fiber (Some a) at birth goes = at_wish a at (wish_of (ask_of a)) refl birth goes
+  birth_commutes : is_birth w f (wish_of (ask_of a)) ≡ true → wants (wish_of (ask_of b)) ≡ true → Commutes entering IsBirth f next g (entering (place k w) g)
+  birth_commutes = by_wishes (wish_of (ask_of a)) (wish_of (ask_of b)) refl refl
 
 -- ---- without the notes of joins
 birth_call_bare : (w : World) (f : ℕ) (c : Call) → is_birth_call (unnoted w) f c ≡ is_birth_call w f c
@@ -374,16 +295,19 @@ module _ (p : Place) (f : ℕ) (h : IsBirth p f) (g : ℕ) (apart : g ≢ f) whe
   )
   by_entry (Err d) pair = bare_step h.next g ∙ ap bared pair
 
-  by_fiber : (o : Option Fiber) → slice_get p.world.fibers g ≡ o → moves_at o ≡ true → Commutes stepped IsBirth f (bare h.next) g (bared (entering p g))
-  by_fiber None at moves = absurd (cc)
-  by_fiber (Some b) at moves =
-      by_entry (entering p g) (at_fiber p.limits p.world f h.next g apart b at (slice_get p.world.fibers f) refl h.birth h.goes)
+  by_fibers : (o m : Option Fiber) → slice_get p.world.fibers f ≡ o → slice_get p.world.fibers g ≡ m → has_birth p.world f o ≡ true → moves_at m ≡ true →
+      Commutes stepped IsBirth f (bare h.next) g (bared (entering p g))
+  by_fibers None m at there birth moves = absurd (cc)
+  by_fibers (Some a) None at there birth moves = absurd (cc)
+  by_fibers (Some a) (Some b) at there birth moves =
+      by_entry (entering p g) (birth_commutes p.limits p.world f g apart a b at there h.next h.goes birth moves)
 
   -- the entry of a fiber without a next move need not commute: it can be that of the fiber that is started
   by_moves : (t : Bool) → moves_at (slice_get p.world.fibers g) ≡ t →
       (moves_at (slice_get p.world.fibers g) ≡ false) ⊎ Commutes stepped IsBirth f (bare h.next) g (stepped p g)
   by_moves true e =
-      inr (subst (Commutes stepped IsBirth f (bare h.next) g) (sym (moves_step p g e)) (by_fiber (slice_get p.world.fibers g) refl e))
+      inr (subst (Commutes stepped IsBirth f (bare h.next) g) (sym (moves_step p g e))
+      (by_fibers (slice_get p.world.fibers f) (slice_get p.world.fibers g) refl refl h.birth e))
   by_moves false e = inl e
 
   early_at : (moves_at (slice_get p.world.fibers g) ≡ false) ⊎ Commutes stepped IsBirth f (bare h.next) g (stepped p g)

@@ -73,8 +73,11 @@ module _ (k : Limits) (fs fs' : List Fiber) (rs rs' : List PlainView) (mf : IsMo
   pub rows_stay : AreWorlds k fs' rs' rows
   rows_stay = worlds_more fs fs' rs rs' mf mr k rows worlds
 
+  pub places_same : map (place_of k fs rs) rows ≡ map (place_of k fs' rs') rows
+  places_same = places_more fs fs' rs rs' mf mr k rows worlds
+
   pub places_stay : IsMore (map (place_of k fs rs) rows) (map (place_of k fs' rs') rows)
-  places_stay = subst (IsMore (map (place_of k fs rs) rows)) (places_more fs fs' rs rs' mf mr k rows worlds) (more_same (map (place_of k fs rs) rows))
+  places_stay = subst (IsMore (map (place_of k fs rs) rows)) places_same (more_same (map (place_of k fs rs) rows))
 
   module _ (a : AtOnce) (f : ℕ) (n : Numbers) (next : Place) (goes : leapt a now f ≡ Ok next) (is_next : IsWorldOf fs' rs' n next) (fits : AllFit next.world)
       (rows' : List Numbers) (adds : MayAdd rows rows' n) where

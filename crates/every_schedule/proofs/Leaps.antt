@@ -6,7 +6,8 @@ use Rattle.std.proofs.lemmas.Option.{slice_get_past, same_Some}
 use Rattle.cell_registry.specs.declared.limits.RunError.{RunError}
 use Rattle.cell_registry.specs.declared.limits.RunError.TheVariants as run
 use Rattle.fiber_frames.specs.Fiber.{Fiber, ask_of}
-use Rattle.world_search.specs.Free.{IsReduced, Leads, Leaps}
+use Rattle.world_search.specs.Free.{Leads, Leaps, Reduces}
+use Rattle.world_search.proofs.Free.{reduces}
 use Rattle.world_search.specs.Free.Leads.{Here, On}
 use Rattle.world_search.proofs.Lists.{get_low}
 use Rattle.scheduled_core.specs.declared.wish.Wish.TheVariants.{Nothing}
@@ -172,8 +173,8 @@ pub leaps : (n : AtOnce) (p : Place) (f : ℕ) → Leaps stepped (IsMade n) (ste
 leaps n p f = leaps_by n p f (slice_get p.world.fibers f) refl
 
 -- the reduced exploration is a reduced system
-pub leapt_reduced : (n : AtOnce) → IsReduced stepped (leapt n)
-leapt_reduced n = record { Free = IsMade n; free = made_early n; leaps = leaps n }
+pub leapt_reduces : (n : AtOnce) → Reduces stepped (leapt n)
+leapt_reduces n = reduces stepped (IsMade n) (made_early n) (leapt n) (leaps n)
 
 -- the entry of an unborn fiber changes nothing
 pub leapt_rests : (n : AtOnce) (p : Place) (f : ℕ) → length p.world.fibers ≤ f → leapt n p f ≡ Ok p

@@ -12,6 +12,7 @@ pub mod Standing
 pub mod Alikeness
 pub mod Entering
 pub mod OwnCalls
+pub mod TwoMoves
 pub mod OwnKept
 pub mod Alone
 pub mod Commuting
@@ -19,10 +20,13 @@ pub mod Growing
 pub mod Bare
 pub mod Still
 pub mod EarlyMoves
+pub mod Outside
+pub mod Apart
 pub mod Leaps
 pub mod Trails
 pub mod PastBound
 pub mod GrowingLeaps
+pub mod Chosen
 pub mod Deadlocks
 pub mod Stopping
 pub mod Leans
@@ -33,3 +37,4 @@ pub mod SeenLeaps
 pub mod RefValues
 pub mod Prefixes
 pub mod Certified
+pub mod Sets

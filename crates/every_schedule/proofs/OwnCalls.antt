@@ -32,7 +32,7 @@ IsAdmitted k s f (Shared c) = refusal k s f c ≡ None
 IsAdmitted k s f Alone = Unit {0}
 IsAdmitted k s f Nothing = Unit {0}
 
--- the call doesn't store in the ref of this number; further below: it doesn't use the ref, the deferred, the fiber of this number
+-- the call doesn't store in the ref of this number; further below: it doesn't use the ref, doesn't complete the deferred, doesn't use the deferred, the fiber
 abbrev pub IsNoStore : ℕ → Call → Type 0
 IsNoStore r (Set i v) = i ≢ r
 IsNoStore r (Modify i v) = i ≢ r
@@ -43,6 +43,10 @@ IsOffRef r (Get i) = i ≢ r
 IsOffRef r (Set i v) = i ≢ r
 IsOffRef r (Modify i v) = i ≢ r
 IsOffRef r _ = Unit {0}
+
+abbrev pub IsNoFill : ℕ → Call → Type 0
+IsNoFill r (Complete i v) = i ≢ r
+IsNoFill r _ = Unit {0}
 
 abbrev pub IsOffDeferred : ℕ → Call → Type 0
 IsOffDeferred r (Complete i v) = i ≢ r
@@ -64,14 +68,14 @@ IsCalm s f g d (Shared Look) = (cell_of (after s g d) f).request ≡ (cell_of s 
 IsCalm s f g d (Shared Mask) = Unit {0}
 IsCalm s f g d (Shared Unmask) = Unit {0}
 IsCalm s f g d (Shared Cut) = not (has_ended (cell_of s f).stage) ≡ true
-IsCalm s f g d (Shared (Cancel i)) = (g ≢ i) × (has_ended (cell_of s i).stage ≡ true)
+IsCalm s f g d (Shared (Cancel i)) = (g ≢ i) × ((has_ended (cell_of s i).stage ≡ true) ⊎ (d ≢ Cancel i))
 IsCalm s f g d (Shared (Join i)) = g ≢ i
 IsCalm s f g d (Shared (Finish o)) = IsOffFiber f d
 IsCalm s f g d (Shared (Get r)) = IsNoStore r d
 IsCalm s f g d (Shared (Set r v)) = IsOffRef r d
 IsCalm s f g d (Shared (Modify r v)) = IsOffRef r d
 IsCalm s f g d (Shared (Complete i v)) = IsFilled s i ⊎ IsOffDeferred i d
-IsCalm s f g d (Shared (Read i)) = IsFilled s i
+IsCalm s f g d (Shared (Read i)) = IsFilled s i ⊎ IsNoFill i d
 IsCalm s f g d Alone = Unit {0}
 IsCalm s f g d _ = ⊥
 
@@ -127,7 +131,7 @@ ref_stays s g (Set i v) r apart = get_or-set_other s.refs i r v (pos 0) (λ e. a
 ref_stays s g (Modify i v) r apart = get_or-set_other s.refs i r (wrapped (ref_of s i +ℤ v)) (pos 0) (λ e. apart (sym e))
 ref_stays s g _ r apart = refl
 
-deferred_stays : (s : Cells) (g : ℕ) (d : Call) (i : ℕ) → IsOffDeferred i d → deferred_of (after s g d) i ≡ deferred_of s i
+deferred_stays : (s : Cells) (g : ℕ) (d : Call) (i : ℕ) → IsNoFill i d → deferred_of (after s g d) i ≡ deferred_of s i
 unfolding after
 deferred_stays s g (Complete j w) i apart = get_or-set_other s.deferreds j i (filled (deferred_of s j) w) None (λ e. apart (sym e))
 deferred_stays s g _ i apart = refl
@@ -136,6 +140,21 @@ no_store : (r : ℕ) (d : Call) → IsOffRef r d → IsNoStore r d
 no_store r (Set i v) h = h
 no_store r (Modify i v) h = h
 no_store r _ h = tt
+
+no_fill : (r : ℕ) (d : Call) → IsOffDeferred r d → IsNoFill r d
+no_fill r (Complete i v) h = h
+no_fill r _ h = tt
+
+-- a call that isn't a request keeps the request of a cell
+pub request_same : (s : Cells) (f g : ℕ) (d : Call) → d ≢ Cancel f → (cell_of (after s g d) f).request ≡ (cell_of s f).request
+unfolding after
+request_same s f g (Cancel i) none = ap (λ (c : Cell). c.request) (get_or-set_other s.cells i f (requested (cell_of s i)) fresh (λ e. none (ap Cancel (sym e))))
+request_same s f g (Join i) none = get_or-set_kept (λ (c : Cell). c.request) s.cells i (awaited (cell_of s i)) fresh refl f
+request_same s f g Mask none = get_or-set_kept (λ (c : Cell). c.request) s.cells g (masked (cell_of s g)) fresh refl f
+request_same s f g Unmask none = get_or-set_kept (λ (c : Cell). c.request) s.cells g (unmasked (cell_of s g)) fresh refl f
+request_same s f g Cut none = get_or-set_kept (λ (c : Cell). c.request) s.cells g (cut (cell_of s g)) fresh refl f
+request_same s f g (Finish o) none = get_or-set_kept (λ (c : Cell). c.request) s.cells g (finished o (cell_of s g)) fresh refl f
+request_same s f g _ none = refl
 
 -- what other fibers see of a cell
 abbrev told_at : Stage → Bool → Bool × CancelReply × JoinReply
@@ -160,22 +179,27 @@ module _ (s : Cells) (f g : ℕ) (d : Call) (apart : g ≢ f) where
   still : owned (cell_of (after s g d) f) ≡ owned (cell_of s f)
   still = owned-after s g d f apart
 
-  pub room_stays : (k : Limits) (x : Wish) → IsCalm s f g d x → IsAdmitted k s f x → IsAdmitted k (after s g d) f x
+  -- whether the own call is refused
+  pub own_refusal : (k : Limits) (c : Call) → IsCalm s f g d (Shared c) → refusal k (after s g d) f c ≡ refusal k s f c
   unfolding refusal
-  room_stays k (Shared Look) own room = refl
-  room_stays k (Shared Mask) own room = ap (λ (o : Stage × ℕ × ℕ). spent o.2 k.count) still ∙ room
-  room_stays k (Shared Unmask) own room = ap (λ (o : Stage × ℕ × ℕ). spent o.2 k.count) still ∙ room
-  room_stays k (Shared Cut) own room = ap (λ (o : Stage × ℕ × ℕ). spent o.2 k.count) still ∙ room
-  room_stays k (Shared (Finish o)) own room = ap (λ (o : Stage × ℕ × ℕ). spent o.2 k.count) still ∙ room
-  room_stays k (Shared (Cancel i)) own room = refl
-  room_stays k (Shared (Join i)) own room = refl
-  room_stays k (Shared (Get r)) own room = refl
-  room_stays k (Shared (Set r v)) own room = refl
-  room_stays k (Shared (Modify r v)) own room = refl
-  room_stays k (Shared (Complete i v)) own room = refl
-  room_stays k (Shared (Read i)) own room = refl
+  own_refusal k Look own = refl
+  own_refusal k Mask own = ap (λ (o : Stage × ℕ × ℕ). spent o.2 k.count) still
+  own_refusal k Unmask own = ap (λ (o : Stage × ℕ × ℕ). spent o.2 k.count) still
+  own_refusal k Cut own = ap (λ (o : Stage × ℕ × ℕ). spent o.2 k.count) still
+  own_refusal k (Finish o) own = ap (λ (o : Stage × ℕ × ℕ). spent o.2 k.count) still
+  own_refusal k (Cancel i) own = refl
+  own_refusal k (Join i) own = refl
+  own_refusal k (Get r) own = refl
+  own_refusal k (Set r v) own = refl
+  own_refusal k (Modify r v) own = refl
+  own_refusal k (Complete i v) own = refl
+  own_refusal k (Read i) own = refl
+  own_refusal k _ own = absurd own
+
+  pub room_stays : (k : Limits) (x : Wish) → IsCalm s f g d x → IsAdmitted k s f x → IsAdmitted k (after s g d) f x
+  room_stays k (Shared c) own room = own_refusal k c own ∙ room
   room_stays k Alone own room = tt
-  room_stays k _ own room = absurd own
+  room_stays k Nothing own room = absurd own
 
   pub own_reply : (x : Wish) → IsCalm s f g d x → reply_to (after s g d) f x ≡ reply_to s f x
   unfolding reply_of
@@ -186,15 +210,18 @@ module _ (s : Cells) (f g : ℕ) (d : Call) (apart : g ≢ f) where
   own_reply (Shared (Finish o)) own = refl
   own_reply (Shared (Cancel i)) own =
       let stage : (cell_of (after s g d) i).stage ≡ (cell_of s i).stage = ap (λ (o : Stage × ℕ × ℕ). o.0) (owned-after s g d i own.0) in
-      ap reply.Cancel (ap (λ t. cancel_reply t (cell_of (after s g d) i).request) stage ∙
-      ended_told (cell_of s i).stage (cell_of (after s g d) i).request (cell_of s i).request own.1)
+      ap reply.Cancel (ap (λ t. cancel_reply t (cell_of (after s g d) i).request) stage ∙ elim own.1 [
+        | inl ended ↦ ended_told (cell_of s i).stage (cell_of (after s g d) i).request (cell_of s i).request ended
+        | inr none ↦ ap (cancel_reply (cell_of s i).stage) (request_same s i g d none)
+      ])
   own_reply (Shared (Join i)) own = ap (λ (o : Stage × ℕ × ℕ). reply.Join (join_reply o.0)) (owned-after s g d i own)
   own_reply (Shared (Get r)) own = ap reply.Value (ref_stays s g d r own)
   own_reply (Shared (Set r v)) own = refl
   own_reply (Shared (Modify r v)) own = ap reply.Value (ref_stays s g d r (no_store r d own))
   own_reply (Shared (Complete i v)) (inl own) = ap (λ o. reply.Completed (is_none o)) (filled_after s g d i own.0 own.1 ∙ sym own.1)
-  own_reply (Shared (Complete i v)) (inr own) = ap (λ o. reply.Completed (is_none o)) (deferred_stays s g d i own)
-  own_reply (Shared (Read i)) own = ap reply.Read (filled_after s g d i own.0 own.1 ∙ sym own.1)
+  own_reply (Shared (Complete i v)) (inr own) = ap (λ o. reply.Completed (is_none o)) (deferred_stays s g d i (no_fill i d own))
+  own_reply (Shared (Read i)) (inl own) = ap reply.Read (filled_after s g d i own.0 own.1 ∙ sym own.1)
+  own_reply (Shared (Read i)) (inr own) = ap reply.Read (deferred_stays s g d i own)
   own_reply Alone own = refl
   own_reply _ own = absurd own
 
@@ -266,22 +293,27 @@ module _ (s : Cells) (f g : ℕ) (d : Call) (apart : g ≢ f) where
   off_cell c Look h = ap (λ (x : Cell). reply.Seen x.request) (get_or-set_other s.cells f g c fresh apart)
   off_cell c _ h = refl
 
-  -- a request of a fiber that has ended, which only its own look would see
-  asked_end : (i : ℕ) → g ≢ i → has_ended (cell_of s i).stage ≡ true → (d' : Call) → reply_of (with_cell s i (requested (cell_of s i))) g d' ≡ reply_of s g d'
+  -- a request of a fiber that has ended, or that this call doesn't request: only the look of that fiber would see it
+  asked_end : (i : ℕ) → g ≢ i → (d' : Call) → (has_ended (cell_of s i).stage ≡ true) ⊎ (d' ≢ Cancel i) →
+      reply_of (with_cell s i (requested (cell_of s i))) g d' ≡ reply_of s g d'
   unfolding reply_of
-  asked_end i other ended Start = refl
-  asked_end i other ended (Cancel j) = dite (ℕ_discrete j i)
-      (λ same. ap reply.Cancel
-      (subst (λ n. cancel_reply (cell_of (with_cell s i (requested (cell_of s i))) n).stage (cell_of (with_cell s i (requested (cell_of s i))) n).request ≡
-      cancel_reply (cell_of s n).stage (cell_of s n).request) (sym same)
-      (ap (λ t. cancel_reply t (cell_of (with_cell s i (requested (cell_of s i))) i).request)
-      (get_or-set_kept (λ (c : Cell). c.stage) s.cells i (requested (cell_of s i)) fresh refl i)
-      ∙ ended_told (cell_of s i).stage _ (cell_of s i).request ended)))
+  asked_end i other Start known = refl
+  asked_end i other (Cancel j) known = dite (ℕ_discrete j i)
+      (λ same. elim known [
+        | inl ended ↦ ap reply.Cancel
+            (subst
+            (λ n. cancel_reply (cell_of (with_cell s i (requested (cell_of s i))) n).stage (cell_of (with_cell s i (requested (cell_of s i))) n).request ≡
+            cancel_reply (cell_of s n).stage (cell_of s n).request) (sym same)
+            (ap (λ t. cancel_reply t (cell_of (with_cell s i (requested (cell_of s i))) i).request)
+            (get_or-set_kept (λ (c : Cell). c.stage) s.cells i (requested (cell_of s i)) fresh refl i)
+            ∙ ended_told (cell_of s i).stage _ (cell_of s i).request ended))
+        | inr none ↦ absurd (none (ap Cancel same))
+      ])
       (λ isnt. ap (λ (x : Cell). reply.Cancel (cancel_reply x.stage x.request)) (get_or-set_other s.cells i j (requested (cell_of s i)) fresh isnt))
-  asked_end i other ended (Join j) =
+  asked_end i other (Join j) known =
       ap (λ t. reply.Join (join_reply t)) (get_or-set_kept (λ (c : Cell). c.stage) s.cells i (requested (cell_of s i)) fresh refl j)
-  asked_end i other ended Look = ap (λ (x : Cell). reply.Seen x.request) (get_or-set_other s.cells i g (requested (cell_of s i)) fresh other)
-  asked_end i other ended _ = refl
+  asked_end i other Look known = ap (λ (x : Cell). reply.Seen x.request) (get_or-set_other s.cells i g (requested (cell_of s i)) fresh other)
+  asked_end i other _ known = refl
 
   off_ref : (r : ℕ) (v : ℤ) → (d' : Call) → IsOffRef r d' → reply_of (with_ref s r v) g d' ≡ reply_of s g d'
   unfolding reply_of
@@ -304,7 +336,7 @@ module _ (s : Cells) (f g : ℕ) (d : Call) (apart : g ≢ f) where
       told_so (set s.cells f (cut (cell_of s f)))
       (get_or-set_kept told s.cells f (cut (cell_of s f)) fresh (cut_told (cell_of s f).stage (cell_of s f).request own)) d
   other_reply (Shared (Finish o)) own = off_cell (finished o (cell_of s f)) d own
-  other_reply (Shared (Cancel i)) own = asked_end i own.0 own.1 d
+  other_reply (Shared (Cancel i)) own = asked_end i own.0 d own.1
   other_reply (Shared (Join i)) own =
       told_so (set s.cells i (awaited (cell_of s i))) (get_or-set_kept told s.cells i (awaited (cell_of s i)) fresh refl) d
   other_reply (Shared (Get r)) own = refl

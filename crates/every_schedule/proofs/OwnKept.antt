@@ -1,5 +1,6 @@
 -- An own move stays an own move, whatever another fiber does.
-use Rattle.std.proofs.Common.{◌≡◌, ◌≢◌, ◌⊎◌, inl, inr, ℕ, zero, suc, ◌+◌, ◌<◌, ◌≤◌, nat_eq, nat_lt, Bool, true, false, not, ◌&&◌, ◌||◌, List, [], ◌∷◌, ◌++◌, set, Some, None, Option, refl, sym, ap, ap₂, ◌∙◌, subst, arith, get_or-set_other, append-nil}
+use Rattle.std.proofs.Common.{◌≡◌, ◌≢◌, ◌⊎◌, inl, inr, ℕ, zero, suc, ◌+◌, ◌<◌, ◌≤◌, nat_eq, nat_lt, Bool, true, false, not, ◌&&◌, ◌||◌, List, [], ◌∷◌, ◌++◌, set}
+use Rattle.std.proofs.Common.{Some, None, Option, refl, sym, ap, ap₂, ◌∙◌, subst, arith, append-nil}
 use Rattle.std.specs.Prelude.{is_none, ℤ}
 use Rattle.std.specs.List.{slice_get}
 use Rattle.derived_ops.specs.Naming.{A_deferred, A_fiber, A_ref, No_handle, Place}
@@ -14,24 +15,23 @@ use Rattle.fiber_frames.specs.Fiber.{Cuts, Fiber, Looks, Move_case, Reduces, Res
 use Rattle.fiber_frames.specs.Rows.{number_in}
 use Rattle.fiber_frames.specs.Uses.{AskApart, NumberApart, Spares, is_some, used_place, uses_in}
 use Rattle.fiber_frames.proofs.UnusedMoves.{unused_ask, unused_child, unused_move}
-use Rattle.cell_registry.specs.declared.cell.Cell.{Cell}
 use Rattle.cell_registry.specs.declared.cell.Stage.{Stage}
 use Rattle.cell_registry.specs.declared.call.Call.{Call}
 use Rattle.cell_registry.specs.declared.call.Call.TheVariants.{Start, Cancel, Join, Look, Mask, Unmask, Cut, Finish}
 use Rattle.cell_registry.specs.declared.call.Call.TheVariants.{NewRef, NewDeferred, Get, Set, Modify, Complete, Read}
-use Rattle.cell_registry.specs.Cells.{Cells, after, awaited, cell_of, cut, deferred_of, finished, fresh, masked, reply_of, requested, unmasked}
+use Rattle.cell_registry.specs.Cells.{Cells, after, cell_of, deferred_of, owned, reply_of}
 use Rattle.cell_registry.specs.Words.{has_ended}
 use Rattle.cell_registry.proofs.Calls.{owned-after}
-use Rattle.cell_registry.proofs.Lists.{get_or-set_kept}
 use Rattle.scheduled_core.specs.declared.wish.Wish.{Wish}
 use Rattle.scheduled_core.specs.declared.wish.Wish.TheVariants.{Shared, Alone, Nothing}
-use Rattle.scheduled_core.specs.Core.{World, born, called, wish_of}
-use Rattle.scheduled_core.proofs.Lists.{slice_get-set_other}
-use Rattle.scheduled_core.proofs.Standing.Lists.{get_early}
+use Rattle.scheduled_core.specs.Core.{World, wish_of}
+use Rattle.scheduled_core.specs.Finals.{reply_to}
 use Rattle.scheduled_core.proofs.PlainFits.{request_stays}
 use Rattle.every_schedule.specs.Places.{wants}
-use Rattle.every_schedule.specs.Reduced.{has_come_to_end, is_another, is_completed, is_kept, is_left_alone, is_own, is_own_deferred, is_own_ref, keeps, next_of, others, rests}
-use Rattle.every_schedule.proofs.OwnCalls.{IsCalm, IsNoStore, IsOffDeferred, IsOffFiber, IsOffRef, filled_after}
+use Rattle.every_schedule.specs.Reduced.{has_come_to_end, is_another, is_completed, is_kept, is_left_alone, is_own, is_own_deferred, is_own_ref}
+use Rattle.every_schedule.specs.Reduced.{keeps, next_of, others, rests}
+use Rattle.every_schedule.proofs.OwnCalls.{IsCalm, IsNoFill, IsNoStore, IsOffDeferred, IsOffFiber, IsOffRef, filled_after, left_by, request_same}
+use Rattle.every_schedule.proofs.TwoMoves.{made, still_at}
 
 -- ---- truth values
 pub both_true : (a b : Bool) → a && b ≡ true → (a ≡ true) × (b ≡ true)
@@ -45,7 +45,7 @@ pub or_cases : (a b : Bool) → a || b ≡ true → (a ≡ true) ⊎ (b ≡ true
 or_cases true b e = inl refl
 or_cases false b e = inr e
 
-or_first : (a b : Bool) → a ≡ true → a || b ≡ true
+pub or_first : (a b : Bool) → a ≡ true → a || b ≡ true
 or_first a b e = ap (λ x. x || b) e
 
 pub or_second : (a b : Bool) → b ≡ true → a || b ≡ true
@@ -59,7 +59,7 @@ not_some (suc n) e = absurd (cc)
 some_not : (n : ℕ) → n ≡ 0 → not (is_some n) ≡ true
 some_not n e = ap (λ m. not (is_some m)) e
 
-not_same : (m n : ℕ) → not (nat_eq m n) ≡ true → m ≢ n
+pub not_same : (m n : ℕ) → not (nat_eq m n) ≡ true → m ≢ n
 not_same m n e = λ same. let is : nat_eq m n ≡ true = eq-eqb m n same in let no : false ≡ true = sym (ap not is) ∙ e in absurd (cc)
 
 pub same_not : (m n : ℕ) → m ≢ n → not (nat_eq m n) ≡ true
@@ -69,7 +69,7 @@ same_not m n apart = go (nat_eq m n) refl
     go true e = absurd (apart (eqb-true m n e))
     go false e = refl
 
-below_true : (m n : ℕ) → nat_lt m n ≡ true → m < n
+pub below_true : (m n : ℕ) → nat_lt m n ≡ true → m < n
 below_true m n e = elim (cases_lt m n) [ inl low ↦ low | inr past ↦ let no : false ≡ true = sym (le-ltb m n past) ∙ e in absurd (cc) ]
 
 -- ---- the other fibers
@@ -101,13 +101,21 @@ module _ (p : Fiber → Bool) (f : ℕ) where
       let here = both_true (nat_eq i f || p c) (others p f (suc i) gs) all in
       and_true (nat_eq i f || p c) (others p f (suc i) (gs ++ b ∷ [])) here.0 (others_more gs (suc i) b here.1 so)
 
-  pub others_born : (gs : List Fiber) (b : Fiber) (d : Call) (q : Reply) → others p f 0 gs ≡ true → (d ≡ Start → p (child b (number_in q)) ≡ true) →
-      others p f 0 (gs ++ born b d q) ≡ true
-  others_born gs b Start q all so = others_more gs 0 (child b (number_in q)) all (so refl)
-  others_born gs b _ q all so = ap (others p f 0) (append-nil gs) ∙ all
+  -- after the move of a fiber
+  pub others_later : (w : World) (g : ℕ) (b : Fiber) (v : Wish) → others p f 0 w.fibers ≡ true → p (move b (reply_to w.cells g v)) ≡ true →
+      (v ≡ Shared Start → p (child b w.cells.next_fiber) ≡ true) → others p f 0 (made w g b v).fibers ≡ true
+  unfolding reply_of
+  others_later w g b (Shared Start) all so started =
+      others_more (set w.fibers g (move b (reply.Number w.cells.next_fiber))) 0 (child b w.cells.next_fiber) (others_set w.fibers 0 g _ all so) (started refl)
+  others_later w g b (Shared c) all so started =
+      ap (others p f 0) (append-nil (set w.fibers g (move b (reply_of w.cells g c)))) ∙ others_set w.fibers 0 g (move b (reply_of w.cells g c)) all so
+  others_later w g b Alone all so started =
+      ap (others p f 0) (append-nil (set w.fibers g (silent_move b))) ∙ others_set w.fibers 0 g (silent_move b) all so
+  others_later w g b Nothing all so started =
+      ap (others p f 0) (append-nil (set w.fibers g (silent_move b))) ∙ others_set w.fibers 0 g (silent_move b) all so
 
 -- ---- fibers that leave a fiber alone
-move_number : (b : Fiber) (q : Reply) → (move b q).number ≡ b.number
+pub move_number : (b : Fiber) (q : Reply) → (move b q).number ≡ b.number
 move_number b q = go (move_case b)
   where
     go : (c : Move_case) → (move_in b q c).number ≡ b.number
@@ -132,7 +140,7 @@ module _ (u : Use) (n : ℕ) (b : Fiber) (keeps_off : keeps u n b ≡ true) wher
 
 -- a number that is given later is another one
 module _ (u : Use) (n : ℕ) (s : Cells) (g : ℕ) (low : n < next_of (used_place u) s) where
-  number_apart : (a : Ask) (d : Call) → wish_of a ≡ Shared d → NumberApart u n a (reply_of s g d)
+  pub number_apart : (a : Ask) (d : Call) → wish_of a ≡ Shared d → NumberApart u n a (reply_of s g d)
   unfolding reply_of
   number_apart ask.Start d is = λ kind.
       let start : Start ≡ d = cc in
@@ -151,7 +159,7 @@ module _ (u : Use) (n : ℕ) (s : Cells) (g : ℕ) (low : n < next_of (used_plac
       λ same. omega (arith, under, number, same)
   number_apart _ d is = tt
 
-silent_apart : (u : Use) (n : ℕ) (a : Ask) (q : Reply) → wish_of a ≡ Alone → NumberApart u n a q
+pub silent_apart : (u : Use) (n : ℕ) (a : Ask) (q : Reply) → wish_of a ≡ Alone → NumberApart u n a q
 silent_apart u n ask.Start q is = absurd (cc)
 silent_apart u n ask.NewRef q is = absurd (cc)
 silent_apart u n ask.NewDeferred q is = absurd (cc)
@@ -172,27 +180,11 @@ unfolding after
 deferreds_more s g NewDeferred = omega arith
 deferreds_more s g _ = omega arith
 
-next_more : (s : Cells) (g : ℕ) (d : Call) (k : Place) → next_of k s ≤ next_of k (after s g d)
+pub next_more : (s : Cells) (g : ℕ) (d : Call) (k : Place) → next_of k s ≤ next_of k (after s g d)
 next_more s g d A_fiber = fibers_more s g d
 next_more s g d A_ref = refs_more s g d
 next_more s g d A_deferred = deferreds_more s g d
 next_more s g d No_handle = omega arith
-
-start_reply : (s : Cells) (g : ℕ) (d : Call) → d ≡ Start → number_in (reply_of s g d) ≡ s.next_fiber
-unfolding reply_of
-start_reply s g Start e = refl
-start_reply s g _ e = absurd (cc)
-
--- a call that isn't a request keeps the request of a cell
-request_same : (s : Cells) (f g : ℕ) (d : Call) → d ≢ Cancel f → (cell_of (after s g d) f).request ≡ (cell_of s f).request
-unfolding after
-request_same s f g (Cancel i) none = ap (λ (c : Cell). c.request) (get_or-set_other s.cells i f (requested (cell_of s i)) fresh (λ e. none (ap Cancel (sym e))))
-request_same s f g (Join i) none = get_or-set_kept (λ (c : Cell). c.request) s.cells i (awaited (cell_of s i)) fresh refl f
-request_same s f g Mask none = get_or-set_kept (λ (c : Cell). c.request) s.cells g (masked (cell_of s g)) fresh refl f
-request_same s f g Unmask none = get_or-set_kept (λ (c : Cell). c.request) s.cells g (unmasked (cell_of s g)) fresh refl f
-request_same s f g Cut none = get_or-set_kept (λ (c : Cell). c.request) s.cells g (cut (cell_of s g)) fresh refl f
-request_same s f g (Finish o) none = get_or-set_kept (λ (c : Cell). c.request) s.cells g (finished o (cell_of s g)) fresh refl f
-request_same s f g _ none = refl
 
 -- the ask for a call
 abbrev pub ask_for : Call → Ask
@@ -229,29 +221,33 @@ pub asked_so : (a : Ask) (d : Call) → wish_of a ≡ Shared d → a ≡ ask_for
 asked_so a d is = asked_for a d (ap ask_in is)
 
 -- calls that keep off a number
-no_request : (f i : ℕ) → i ≢ f → (d : Call) → AskApart Cancels f i (ask_for d) → d ≢ Cancel f
+pub no_request : (f i : ℕ) → i ≢ f → (d : Call) → AskApart Cancels f i (ask_for d) → d ≢ Cancel f
 no_request f i other d apart = λ e. elim ((subst (λ c. AskApart Cancels f i (ask_for c)) e apart) refl) [
   | inl own ↦ other (sym own)
   | inr isnt ↦ isnt refl
 ]
 
-off_ref : (r i : ℕ) (d : Call) → AskApart Stores r i (ask_for d) → AskApart Gets r i (ask_for d) → IsOffRef r d
+pub off_ref : (r i : ℕ) (d : Call) → AskApart Stores r i (ask_for d) → AskApart Gets r i (ask_for d) → IsOffRef r d
 off_ref r i (Get j) stores gets = gets refl
 off_ref r i (Set j v) stores gets = stores refl
 off_ref r i (Modify j v) stores gets = stores refl
 off_ref r i _ stores gets = tt
 
-no_store_of : (r i : ℕ) (d : Call) → AskApart Stores r i (ask_for d) → IsNoStore r d
+pub no_store_of : (r i : ℕ) (d : Call) → AskApart Stores r i (ask_for d) → IsNoStore r d
 no_store_of r i (Set j v) stores = stores refl
 no_store_of r i (Modify j v) stores = stores refl
 no_store_of r i _ stores = tt
 
-off_deferred_of : (r i : ℕ) (d : Call) → AskApart Completes r i (ask_for d) → AskApart Awaits r i (ask_for d) → IsOffDeferred r d
+pub no_fill_of : (r i : ℕ) (d : Call) → AskApart Completes r i (ask_for d) → IsNoFill r d
+no_fill_of r i (Complete j v) completes = completes refl
+no_fill_of r i _ completes = tt
+
+pub off_deferred_of : (r i : ℕ) (d : Call) → AskApart Completes r i (ask_for d) → AskApart Awaits r i (ask_for d) → IsOffDeferred r d
 off_deferred_of r i (Complete j v) completes awaits = completes refl
 off_deferred_of r i (Read j) completes awaits = awaits refl
 off_deferred_of r i _ completes awaits = tt
 
-off_fiber_of : (f i : ℕ) → i ≢ f → (d : Call) → AskApart Cancels f i (ask_for d) → AskApart Joins f i (ask_for d) → IsOffFiber f d
+pub off_fiber_of : (f i : ℕ) → i ≢ f → (d : Call) → AskApart Cancels f i (ask_for d) → AskApart Joins f i (ask_for d) → IsOffFiber f d
 off_fiber_of f i other (Cancel j) cancels joins = elim (cancels refl) [
   | inl own ↦ λ same. other (sym own ∙ same)
   | inr isnt ↦ isnt
@@ -267,9 +263,22 @@ rests_so : (o : Option Fiber) → rests o ≡ true → (c : Fiber) × (o ≡ Som
 rests_so None e = absurd (cc)
 rests_so (Some c) e = (c, refl, e)
 
-completed_so : (o : Option ℤ) → not (is_none o) ≡ true → (v : ℤ) × (o ≡ Some v)
+pub completed_so : (o : Option ℤ) → not (is_none o) ≡ true → (v : ℤ) × (o ≡ Some v)
 completed_so None e = absurd (cc)
 completed_so (Some v) e = (v, refl)
+
+-- ---- what the move of a fiber gives
+module _ (w : World) (g : ℕ) (b : Fiber) where
+  pub next_later : (v : Wish) (k : Place) → next_of k w.cells ≤ next_of k (left_by w.cells g v)
+  next_later (Shared d) k = next_more w.cells g d k
+  next_later _ k = omega arith
+
+  -- a number that it is answered isn't one that was given
+  pub answered_apart : (v : Wish) → wish_of (ask_of b) ≡ v → wants v ≡ true → (u : Use) (n : ℕ) → n < next_of (used_place u) w.cells →
+      NumberApart u n (ask_of b) (reply_to w.cells g v)
+  answered_apart (Shared d) is want u n given = number_apart u n w.cells g given (ask_of b) d is
+  answered_apart Alone is want u n given = silent_apart u n (ask_of b) reply.Done is
+  answered_apart Nothing is want u n given = absurd (cc)
 
 module _ (w : World) (f g : ℕ) (b : Fiber) (apart : g ≢ f) (at : slice_get w.fibers g ≡ Some b) where
   -- ---- numbers that only fiber f uses
@@ -286,22 +295,6 @@ module _ (w : World) (f g : ℕ) (b : Fiber) (apart : g ≢ f) (at : slice_get w
     asks_off : (d : Call) → wish_of (ask_of b) ≡ Shared d → AskApart u n b.number (ask_for d)
     asks_off d is = subst (AskApart u n b.number) (asked_so (ask_of b) d is) (asks_apart u n b keeps_off)
 
-    number_called : (d : Call) → wish_of (ask_of b) ≡ Shared d → is_kept u (called w g b d (reply_of w.cells g d)) f n ≡ true
-    number_called d is =
-        let q = reply_of w.cells g d in
-        let more = next_more w.cells g d (used_place u) in
-        let below = low in
-        and_true (nat_lt n (next_of (used_place u) (after w.cells g d))) (others (keeps u n) f 0 (set w.fibers g (move b q) ++ born b d q))
-        (lt-ltb n (next_of (used_place u) (after w.cells g d)) (omega (arith, more, below)))
-        (others_born (keeps u n) f (set w.fibers g (move b q)) b d q
-        (others_set (keeps u n) f w.fibers 0 g (move b q) two.1 (keeps_move u n b keeps_off q (number_apart u n w.cells g low (ask_of b) d is)))
-        (λ start. keeps_child u n b keeps_off (number_in q)))
-
-    number_silent : wish_of (ask_of b) ≡ Alone → is_kept u (record { fibers = set w.fibers g (silent_move b); cells = w.cells }) f n ≡ true
-    number_silent is =
-        and_true (nat_lt n (next_of (used_place u) w.cells)) (others (keeps u n) f 0 (set w.fibers g (silent_move b))) two.0
-        (others_set (keeps u n) f w.fibers 0 g (silent_move b) two.1 (keeps_move u n b keeps_off reply.Done (silent_apart u n (ask_of b) reply.Done is)))
-
   -- ---- fiber f, whose cancellation no other fiber can request
   module _ (left : is_left_alone w f ≡ true) where
     abbrev parts : (is_kept Cancels w f f ≡ true) × (others (is_another f) f 0 w.fibers ≡ true)
@@ -310,37 +303,18 @@ module _ (w : World) (f g : ℕ) (b : Fiber) (apart : g ≢ f) (at : slice_get w
     another : is_another f b ≡ true
     another = others_at (is_another f) f w.fibers 0 g b parts.1 at (λ e. apart (omega (arith, e)))
 
-    moved_another : (q : Reply) → is_another f (move b q) ≡ true
-    moved_another q = ap (λ n. not (nat_eq n f)) (move_number b q) ∙ another
-
-    left_called : (d : Call) → wish_of (ask_of b) ≡ Shared d → is_left_alone (called w g b d (reply_of w.cells g d)) f ≡ true
-    left_called d is =
-        let q = reply_of w.cells g d in
-        let below = low Cancels f parts.0 in
-        and_true (is_kept Cancels (called w g b d q) f f) (others (is_another f) f 0 (set w.fibers g (move b q) ++ born b d q))
-        (number_called Cancels f parts.0 d is)
-        (others_born (is_another f) f (set w.fibers g (move b q)) b d q
-        (others_set (is_another f) f w.fibers 0 g (move b q) parts.1 (moved_another q))
-        (λ start. same_not (number_in q) f (λ same. let number = start_reply w.cells g d start in omega (arith, number, same, below))))
-
-    left_silent : wish_of (ask_of b) ≡ Alone → is_left_alone (record { fibers = set w.fibers g (silent_move b); cells = w.cells }) f ≡ true
-    left_silent is =
-        and_true (is_kept Cancels (record { fibers = set w.fibers g (silent_move b); cells = w.cells }) f f) (others (is_another f) f 0 (set w.fibers g (silent_move b)))
-        (number_silent Cancels f parts.0 is)
-        (others_set (is_another f) f w.fibers 0 g (silent_move b) parts.1 (moved_another reply.Done))
-
     not_asked : (d : Call) → wish_of (ask_of b) ≡ Shared d → d ≢ Cancel f
     not_asked d is = no_request f b.number (not_same b.number f another) d (asks_off Cancels f parts.0 d is)
 
   -- ---- a fiber that has ended
   module _ (i : ℕ) (ended : has_come_to_end w i ≡ true) where
-    abbrev ends : (rests (slice_get w.fibers i) ≡ true) × (has_ended (cell_of w.cells i).stage ≡ true)
+    abbrev pub ends : (rests (slice_get w.fibers i) ≡ true) × (has_ended (cell_of w.cells i).stage ≡ true)
     ends = both_true (rests (slice_get w.fibers i)) (has_ended (cell_of w.cells i).stage) ended
 
     abbrev there : (c : Fiber) × (slice_get w.fibers i ≡ Some c) × (not (wants (wish_of (ask_of c))) ≡ true)
     there = rests_so (slice_get w.fibers i) ends.0
 
-    not_it : (x : Wish) → wish_of (ask_of b) ≡ x → wants x ≡ true → g ≢ i
+    pub not_it : (x : Wish) → wish_of (ask_of b) ≡ x → wants x ≡ true → g ≢ i
     not_it x is some = λ same.
         let here : Some b ≡ Some there.0 = sym at ∙ ap (slice_get w.fibers) same ∙ there.1 in
         let one : b ≡ there.0 = cc in
@@ -348,102 +322,8 @@ module _ (w : World) (f g : ℕ) (b : Fiber) (apart : g ≢ f) (at : slice_get w
         let no : false ≡ true = ap not (sym some) ∙ none in
         absurd (cc)
 
-    end_called : (d : Call) → wish_of (ask_of b) ≡ Shared d → has_come_to_end (called w g b d (reply_of w.cells g d)) i ≡ true
-    end_called d is =
-        let q = reply_of w.cells g d in
-        let other = not_it (Shared d) is refl in
-        let still : slice_get (set w.fibers g (move b q) ++ born b d q) i ≡ Some there.0 =
-        get_early (set w.fibers g (move b q)) (born b d q) i there.0 (slice_get-set_other w.fibers g i (move b q) other ∙ there.1) in
-        and_true (rests (slice_get (set w.fibers g (move b q) ++ born b d q) i)) (has_ended (cell_of (after w.cells g d) i).stage)
-        (ap rests still ∙ there.2)
-        (ap (λ (o : Stage × ℕ × ℕ). has_ended o.0) (owned-after w.cells g d i other) ∙ ends.1)
-
-    end_silent : wish_of (ask_of b) ≡ Alone → has_come_to_end (record { fibers = set w.fibers g (silent_move b); cells = w.cells }) i ≡ true
-    end_silent is =
-        let other = not_it Alone is refl in
-        and_true (rests (slice_get (set w.fibers g (silent_move b)) i)) (has_ended (cell_of w.cells i).stage)
-        (ap rests (slice_get-set_other w.fibers g i (silent_move b) other ∙ there.1) ∙ there.2) ends.1
-
-  -- ---- a deferred that is completed
-  completed_called : (d : Call) (i : ℕ) → is_completed w i ≡ true → is_completed (called w g b d (reply_of w.cells g d)) i ≡ true
-  completed_called d i done =
-      let is = completed_so (deferred_of w.cells i) done in
-      ap (λ o. not (is_none o)) (filled_after w.cells g d i is.0 is.1)
-
   -- ---- the own move of fiber f, in state a
   module _ (a : Fiber) where
-    abbrev then_called : Call → World
-    then_called d = called w g b d (reply_of w.cells g d)
-
-    abbrev then_silent : World
-    then_silent = record { fibers = set w.fibers g (silent_move b); cells = w.cells }
-
-    pub kept_called : (d : Call) → wish_of (ask_of b) ≡ Shared d → (x : Wish) → is_own w f a x ≡ true → is_own (then_called d) f a x ≡ true
-    kept_called d is (Shared Look) own =
-        elim (or_cases (cell_of w.cells f).request (is_left_alone w f) own) [
-          | inl known ↦ or_first (cell_of (after w.cells g d) f).request (is_left_alone (then_called d) f) (request_stays w.cells g d f known)
-          | inr left ↦ or_second (cell_of (after w.cells g d) f).request (is_left_alone (then_called d) f) (left_called left d is)
-        ]
-    kept_called d is (Shared Mask) own = refl
-    kept_called d is (Shared Unmask) own = refl
-    kept_called d is (Shared Cut) own = ap (λ (o : Stage × ℕ × ℕ). not (has_ended o.0)) (owned-after w.cells g d f apart) ∙ own
-    kept_called d is (Shared (Cancel i)) own = end_called i own d is
-    kept_called d is (Shared (Join i)) own = end_called i own d is
-    kept_called d is (Shared (Finish o)) own =
-        let both = both_true (is_left_alone w f) (is_kept Joins w f f) own in
-        and_true (is_left_alone (then_called d) f) (is_kept Joins (then_called d) f f) (left_called both.0 d is) (number_called Joins f both.1 d is)
-    kept_called d is (Shared (Get r)) own = number_called Stores r own d is
-    kept_called d is (Shared (Set r v)) own =
-        let both = both_true (is_kept Stores w f r) (is_kept Gets w f r) own in
-        and_true (is_kept Stores (then_called d) f r) (is_kept Gets (then_called d) f r) (number_called Stores r both.0 d is) (number_called Gets r both.1 d is)
-    kept_called d is (Shared (Modify r v)) own =
-        let both = both_true (is_kept Stores w f r) (is_kept Gets w f r) own in
-        and_true (is_kept Stores (then_called d) f r) (is_kept Gets (then_called d) f r) (number_called Stores r both.0 d is) (number_called Gets r both.1 d is)
-    kept_called d is (Shared (Complete i v)) own =
-        elim (or_cases (is_completed w i) (is_own_deferred w f i) own) [
-          | inl done ↦ or_first (is_completed (then_called d) i) (is_own_deferred (then_called d) f i) (completed_called d i done)
-          | inr left ↦
-              let both = both_true (is_kept Completes w f i) (is_kept Awaits w f i) left in
-              or_second (is_completed (then_called d) i) (is_own_deferred (then_called d) f i)
-              (and_true (is_kept Completes (then_called d) f i) (is_kept Awaits (then_called d) f i) (number_called Completes i both.0 d is) (number_called Awaits i both.1 d is))
-        ]
-    kept_called d is (Shared (Read i)) own = completed_called d i own
-    kept_called d is Alone own = own
-    kept_called d is _ own = absurd (cc)
-
-    pub kept_silent : wish_of (ask_of b) ≡ Alone → (x : Wish) → is_own w f a x ≡ true → is_own then_silent f a x ≡ true
-    kept_silent is (Shared Look) own =
-        elim (or_cases (cell_of w.cells f).request (is_left_alone w f) own) [
-          | inl known ↦ or_first (cell_of w.cells f).request (is_left_alone then_silent f) known
-          | inr left ↦ or_second (cell_of w.cells f).request (is_left_alone then_silent f) (left_silent left is)
-        ]
-    kept_silent is (Shared Mask) own = refl
-    kept_silent is (Shared Unmask) own = refl
-    kept_silent is (Shared Cut) own = own
-    kept_silent is (Shared (Cancel i)) own = end_silent i own is
-    kept_silent is (Shared (Join i)) own = end_silent i own is
-    kept_silent is (Shared (Finish o)) own =
-        let both = both_true (is_left_alone w f) (is_kept Joins w f f) own in
-        and_true (is_left_alone then_silent f) (is_kept Joins then_silent f f) (left_silent both.0 is) (number_silent Joins f both.1 is)
-    kept_silent is (Shared (Get r)) own = number_silent Stores r own is
-    kept_silent is (Shared (Set r v)) own =
-        let both = both_true (is_kept Stores w f r) (is_kept Gets w f r) own in
-        and_true (is_kept Stores then_silent f r) (is_kept Gets then_silent f r) (number_silent Stores r both.0 is) (number_silent Gets r both.1 is)
-    kept_silent is (Shared (Modify r v)) own =
-        let both = both_true (is_kept Stores w f r) (is_kept Gets w f r) own in
-        and_true (is_kept Stores then_silent f r) (is_kept Gets then_silent f r) (number_silent Stores r both.0 is) (number_silent Gets r both.1 is)
-    kept_silent is (Shared (Complete i v)) own =
-        elim (or_cases (is_completed w i) (is_own_deferred w f i) own) [
-          | inl done ↦ or_first (is_completed then_silent i) (is_own_deferred then_silent f i) done
-          | inr left ↦
-              let both = both_true (is_kept Completes w f i) (is_kept Awaits w f i) left in
-              or_second (is_completed then_silent i) (is_own_deferred then_silent f i)
-              (and_true (is_kept Completes then_silent f i) (is_kept Awaits then_silent f i) (number_silent Completes i both.0 is) (number_silent Awaits i both.1 is))
-        ]
-    kept_silent is (Shared (Read i)) own = own
-    kept_silent is Alone own = own
-    kept_silent is _ own = absurd (cc)
-
     off_ref_so : (r : ℕ) → is_own_ref w f r ≡ true → (d : Call) → wish_of (ask_of b) ≡ Shared d → IsOffRef r d
     off_ref_so r own d is =
         let both = both_true (is_kept Stores w f r) (is_kept Gets w f r) own in
@@ -458,7 +338,7 @@ module _ (w : World) (f g : ℕ) (b : Fiber) (apart : g ≢ f) (at : slice_get w
     calm_called d is (Shared Mask) own = tt
     calm_called d is (Shared Unmask) own = tt
     calm_called d is (Shared Cut) own = own
-    calm_called d is (Shared (Cancel i)) own = (not_it i own (Shared d) is refl, (ends i own).1)
+    calm_called d is (Shared (Cancel i)) own = (not_it i own (Shared d) is refl, inl (ends i own).1)
     calm_called d is (Shared (Join i)) own = not_it i own (Shared d) is refl
     calm_called d is (Shared (Finish o)) own =
         let both = both_true (is_left_alone w f) (is_kept Joins w f f) own in
@@ -473,6 +353,96 @@ module _ (w : World) (f g : ℕ) (b : Fiber) (apart : g ≢ f) (at : slice_get w
               let both = both_true (is_kept Completes w f i) (is_kept Awaits w f i) left in
               inr (off_deferred_of i b.number d (asks_off Completes i both.0 d is) (asks_off Awaits i both.1 d is))
         ]
-    calm_called d is (Shared (Read i)) own = completed_so (deferred_of w.cells i) own
+    calm_called d is (Shared (Read i)) own = inl (completed_so (deferred_of w.cells i) own)
     calm_called d is Alone own = tt
     calm_called d is _ own = absurd (cc)
+
+  -- ---- after the move of fiber g
+  module _ (v : Wish) (is : wish_of (ask_of b) ≡ v) (want : wants v ≡ true) where
+    abbrev q : Reply
+    q = reply_to w.cells g v
+
+    abbrev then : World
+    then = made w g b v
+
+    pub request_later : (cell_of w.cells f).request ≡ true → (cell_of then.cells f).request ≡ true
+    request_later = by v
+      where
+        by : (x : Wish) → (cell_of w.cells f).request ≡ true → (cell_of (left_by w.cells g x) f).request ≡ true
+        by (Shared d) e = request_stays w.cells g d f e
+        by _ e = e
+
+    owned_later : (i : ℕ) → g ≢ i → owned (cell_of then.cells i) ≡ owned (cell_of w.cells i)
+    owned_later i other = by v
+      where
+        by : (x : Wish) → owned (cell_of (left_by w.cells g x) i) ≡ owned (cell_of w.cells i)
+        by (Shared d) = owned-after w.cells g d i other
+        by _ = refl
+
+    pub open_later : not (has_ended (cell_of w.cells f).stage) ≡ true → not (has_ended (cell_of then.cells f).stage) ≡ true
+    open_later e = ap (λ (o : Stage × ℕ × ℕ). not (has_ended o.0)) (owned_later f apart) ∙ e
+
+    pub end_later : (i : ℕ) → has_come_to_end w i ≡ true → has_come_to_end then i ≡ true
+    end_later i ended =
+        let other = not_it i ended v is want in
+        let c = there i ended in
+        and_true (rests (slice_get then.fibers i)) (has_ended (cell_of then.cells i).stage)
+        (ap rests (still_at w g b v i c.0 other c.1) ∙ c.2)
+        (ap (λ (o : Stage × ℕ × ℕ). has_ended o.0) (owned_later i other) ∙ (ends i ended).1)
+
+    pub completed_later : (i : ℕ) → is_completed w i ≡ true → is_completed then i ≡ true
+    completed_later i done = by v
+      where
+        by : (x : Wish) → is_completed (made w g b x) i ≡ true
+        by (Shared d) = let has = completed_so (deferred_of w.cells i) done in ap (λ o. not (is_none o)) (filled_after w.cells g d i has.0 has.1)
+        by _ = done
+
+    number_later : (u : Use) (n : ℕ) → is_kept u w f n ≡ true → is_kept u then f n ≡ true
+    number_later u n kept =
+        let more = next_later w g b v (used_place u) in
+        let below = low u n kept in
+        let off = keeps_off u n kept in
+        and_true (nat_lt n (next_of (used_place u) then.cells)) (others (keeps u n) f 0 then.fibers)
+        (lt-ltb n (next_of (used_place u) then.cells) (omega (arith, more, below)))
+        (others_later (keeps u n) f w g b v (two u n kept).1 (keeps_move u n b off q (answered_apart w g b v is want u n below))
+        (λ start. keeps_child u n b off w.cells.next_fiber))
+
+    left_later : is_left_alone w f ≡ true → is_left_alone then f ≡ true
+    left_later left =
+        let both = parts left in
+        let below = low Cancels f both.0 in
+        and_true (is_kept Cancels then f f) (others (is_another f) f 0 then.fibers) (number_later Cancels f both.0)
+        (others_later (is_another f) f w g b v both.1 (ap (λ n. not (nat_eq n f)) (move_number b q) ∙ another left)
+        (λ start. same_not w.cells.next_fiber f (λ same. omega (arith, same, below))))
+
+    two_later : (u x : Use) (n : ℕ) → is_kept u w f n && is_kept x w f n ≡ true → is_kept u then f n && is_kept x then f n ≡ true
+    two_later u x n kept =
+        let both = both_true (is_kept u w f n) (is_kept x w f n) kept in
+        and_true (is_kept u then f n) (is_kept x then f n) (number_later u n both.0) (number_later x n both.1)
+
+    -- the own move of fiber f, in state a, stays one
+    pub kept_later : (a : Fiber) (x : Wish) → is_own w f a x ≡ true → is_own then f a x ≡ true
+    kept_later a (Shared Look) own =
+        elim (or_cases (cell_of w.cells f).request (is_left_alone w f) own) [
+          | inl known ↦ or_first (cell_of then.cells f).request (is_left_alone then f) (request_later known)
+          | inr left ↦ or_second (cell_of then.cells f).request (is_left_alone then f) (left_later left)
+        ]
+    kept_later a (Shared Mask) own = refl
+    kept_later a (Shared Unmask) own = refl
+    kept_later a (Shared Cut) own = open_later own
+    kept_later a (Shared (Cancel i)) own = end_later i own
+    kept_later a (Shared (Join i)) own = end_later i own
+    kept_later a (Shared (Finish o)) own =
+        let both = both_true (is_left_alone w f) (is_kept Joins w f f) own in
+        and_true (is_left_alone then f) (is_kept Joins then f f) (left_later both.0) (number_later Joins f both.1)
+    kept_later a (Shared (Get r)) own = number_later Stores r own
+    kept_later a (Shared (Set r x)) own = two_later Stores Gets r own
+    kept_later a (Shared (Modify r x)) own = two_later Stores Gets r own
+    kept_later a (Shared (Complete i x)) own =
+        elim (or_cases (is_completed w i) (is_own_deferred w f i) own) [
+          | inl done ↦ or_first (is_completed then i) (is_own_deferred then f i) (completed_later i done)
+          | inr left ↦ or_second (is_completed then i) (is_own_deferred then f i) (two_later Completes Awaits i left)
+        ]
+    kept_later a (Shared (Read i)) own = completed_later i own
+    kept_later a Alone own = own
+    kept_later a _ own = absurd (cc)

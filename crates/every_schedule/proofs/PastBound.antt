@@ -6,7 +6,7 @@ use Rattle.cell_registry.specs.declared.limits.{Limits.Limits, RunError.RunError
 use Rattle.scheduled_core.specs.declared.report.Report.{Report}
 use Rattle.world_search.specs.declared.{answers.Answer.Answer as Found, landings.Landing.Landing}
 use Rattle.every_schedule.specs.{declared.{exploration.Answer.Answer, leaping.AtOnce.AtOnce}, Explored.{IsPastBound, IsReached, ListOnce}, Places.{Kept, Place}}
-use Rattle.every_schedule.specs.{Places.{first_place, report_at, stepped}, Reduced.leapt, Private.{Keeping.AreSingle, Telling.{AreTold, IsEnd, IsTold}}}
+use Rattle.every_schedule.specs.{Places.{first_place, report_at, stepped}, Persistent.chosen, Private.{Keeping.AreSingle, Telling.{AreTold, IsEnd, IsTold}}}
 use Rattle.every_schedule.{specs.Private.Trails.{AreUnfolded, EndApart, EndsAlone, IsLeftOut, IsUnfoldedOf}, proofs.Told.{all_at, first_moves, once, reached}}
 use Rattle.every_schedule.proofs.Trails.{right, unfolded_once}
 use Rattle.world_search.specs.declared.landings.Landing.TheVariants as to
@@ -62,7 +62,7 @@ all_told kept found answers a one is told = record {
 -- an answer that is left out leads to an end that isn't listed
 pub past_bound : (code : Tree) (k : Limits) (kept : Kept) (n : AtOnce) (most : ℕ) (raw found : List Found) (answers : List Answer) (a : Found) →
     AreTold kept found answers → AreSingle kept.faults → AreUnfolded n most (first_place code k) raw found →
-    All (search.IsRight (leapt n) report_at kept.places kept.faults (first_place code k)) raw →
+    All (search.IsRight (chosen n) report_at kept.places kept.faults (first_place code k)) raw →
     search.TellOnce report_at kept.places raw → EndApart found → IsLeftOut n most (first_place code k) raw a → EndsAlone a found →
     IsPastBound code k most answers
 past_bound code k kept n most raw found answers a told single each its once_raw apart out alone =

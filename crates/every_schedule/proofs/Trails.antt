@@ -13,7 +13,7 @@ use Rattle.world_search.proofs.{Lists.{get_end, get_last, more_by, more_in}, Fre
 use Rattle.every_schedule.specs.{Places.{Kept, Place, report_at, stepped}, declared.leaping.AtOnce.AtOnce, Reduced.{IsMade, leapt}, Explored.HasMove}
 use Rattle.every_schedule.specs.Private.Trails.{AreMade, AreSorted, AreUnfolded, EndApart, EndsAlone, IsFirstOf, IsKeptIn, IsLeapTrail, IsOwnTrail, IsTrail}
 use Rattle.every_schedule.{specs.Private.Trails.{IsUnfolded, IsUnfoldedOf, MakesAtOnce, rank_of}, proofs.Bare.{reports_grow, unborn_stays}}
-use Rattle.every_schedule.proofs.{EarlyMoves.made_early, Growing.size, Leaps.{leaps, leapt_rests}, Told.{all_at, all_from}}
+use Rattle.every_schedule.{specs.Persistent.chosen, proofs.{Chosen.chosen_reduces, Growing.size, Leaps.leapt_rests, Told.{all_at, all_from}}}
 use Rattle.fair_ends.{specs.Fair.IsBehind, proofs.Ahead.{led_append, led_run}}
 use Rattle.world_search.specs.declared.landings.Landing.TheVariants as to
 use Rattle.world_search.specs.Answers as search
@@ -160,7 +160,7 @@ leap_made n new p f t = subst (MakesAtOnce n p f) (sym t.is) t.makes
 
 -- the whole trail
 pub trail_whole : (n : AtOnce) (first : Place) (schedule new : List ℕ) (y : Result Place RunError) → IsTrail [] new first y →
-    run (leapt n) (Ok first) schedule ≡ y → IsUnfolded n first schedule new
+    run (chosen n) (Ok first) schedule ≡ y → IsUnfolded n first schedule new
 trail_whole n first schedule new y t e = subst (IsUnfolded n first schedule) (sym t.is) (record { leads = t.leads ∙ sym e; few = t.few; moves = t.moves })
 
 -- ---- answers
@@ -195,13 +195,13 @@ kept_sorted xs ys a moved k =
     (k.0, all_at (λ (x : Found). IsIn x ys) xs k.1.0 k.0 k.1.1 here, k.2)
 
 module _ (kept : Kept) (first : Place) (n : AtOnce) (most : ℕ) (found answers : List Found) (each : AreUnfolded n most first found answers) where
-  pub right : All (search.IsRight (leapt n) report_at kept.places kept.faults first) found →
+  pub right : All (search.IsRight (chosen n) report_at kept.places kept.faults first) found →
       All (search.IsRight stepped report_at kept.places kept.faults first) answers
   right h = all_from (search.IsRight stepped report_at kept.places kept.faults first) answers (λ i a e.
       let u = each i a e in
-      let there = all_at (search.IsRight (leapt n) report_at kept.places kept.faults first) found u.number u.answer u.at h in
+      let there = all_at (search.IsRight (chosen n) report_at kept.places kept.faults first) found u.number u.answer u.at h in
       subst (λ (l : Landing). search.LeadsTo stepped report_at kept.places kept.faults first a.schedule.items l) (sym u.end)
-      (leads_up stepped (IsMade n) (made_early n) (leapt n) (leaps n) report_at size reports_grow kept.places kept.faults first a.schedule.items
+      (leads_up stepped (chosen n) (chosen_reduces n) report_at size reports_grow kept.places kept.faults first a.schedule.items
       u.answer.schedule.items u.answer.end u.entries.leads there))
 
   pub few : All (search.IsNumbered 1000) answers
@@ -230,16 +230,16 @@ module _ (kept : Kept) (first : Place) (n : AtOnce) (most : ℕ) (found answers 
     end_so (Ok p) h = (h.0, answered_so (Ok p) h.1)
     end_so (Err e) h = answered_so (Err e) h
 
-    pub all_covered : ((t : List ℕ) → search.IsCovered (leapt n) report_at kept.places kept.faults found (run (leapt n) (Ok first) t)) →
+    pub all_covered : ((t : List ℕ) → search.IsCovered (chosen n) report_at kept.places kept.faults found (run (chosen n) (Ok first) t)) →
         (s : List ℕ) → search.IsCovered stepped report_at kept.places kept.faults answers (run stepped (Ok first) s)
     all_covered h s = covered_so (run stepped (Ok first) s)
-        (covers stepped (IsMade n) (made_early n) (leapt n) (leaps n) report_at size reports_grow kept.places kept.faults found first h s)
+        (covers stepped (chosen n) (chosen_reduces n) report_at size reports_grow kept.places kept.faults found first h s)
 
     pub all_onward : ((t : List ℕ) → (more : List ℕ) ×
-        search.IsEnd (leapt n) report_at kept.places kept.faults found (run (leapt n) (Ok first) (t ++ more))) → (s : List ℕ) → (more : List ℕ) ×
+        search.IsEnd (chosen n) report_at kept.places kept.faults found (run (chosen n) (Ok first) (t ++ more))) → (s : List ℕ) → (more : List ℕ) ×
         search.IsEnd stepped report_at kept.places kept.faults answers (run stepped (Ok first) (s ++ more))
     all_onward h s =
-        let on = goes_onward stepped (IsMade n) (made_early n) (leapt n) (leaps n) report_at size reports_grow kept.places kept.faults found first h s in
+        let on = goes_onward stepped (chosen n) (chosen_reduces n) report_at size reports_grow kept.places kept.faults found first h s in
         (on.0, end_so (run stepped (Ok first) (s ++ on.0)) on.1)
 
 -- ---- ends at different numbers
@@ -362,15 +362,15 @@ pub apart_sorted : (xs ys : List Found) → IsPermutation xs ys → EndApart xs 
 apart_sorted xs ys moved h = IsPermutation-keeps xs EndApart h apart_swapped ys moved
 
 -- if each report and each fault is listed once, so is each end
-not_apart : (k : AtOnce) (kept : Kept) (first : Place) (s : List ℕ) (l : Landing) → search.LeadsTo (leapt k) report_at kept.places kept.faults first s l →
+not_apart : (k : AtOnce) (kept : Kept) (first : Place) (s : List ℕ) (l : Landing) → search.LeadsTo (chosen k) report_at kept.places kept.faults first s l →
     search.AreApart report_at kept.places l l → ⊥
 not_apart k kept first s (to.World j) h apart = apart h.0 h.0 h.1 h.1 refl
 not_apart k kept first s (to.Fault j) h apart = apart refl
 
 pub found_apart : (k : AtOnce) (kept : Kept) (first : Place) (found : List Found) →
-    All (search.IsRight (leapt k) report_at kept.places kept.faults first) found → search.TellOnce report_at kept.places found → EndApart found
+    All (search.IsRight (chosen k) report_at kept.places kept.faults first) found → search.TellOnce report_at kept.places found → EndApart found
 found_apart k kept first found right once i j a b ei ej same =
-    let its = all_at (search.IsRight (leapt k) report_at kept.places kept.faults first) found in
+    let its = all_at (search.IsRight (chosen k) report_at kept.places kept.faults first) found in
     elim (cases_order i j) [
       | inl is ↦ is
       | inr other ↦ elim other [

@@ -2,6 +2,7 @@ pub mod Explored
 pub mod Places
 pub mod Sizes
 pub mod Reduced
+pub mod Persistent
 pub mod Claims
 pub mod Fairness
 pub mod Private

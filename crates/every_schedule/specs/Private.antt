@@ -11,3 +11,4 @@ pub mod Trails
 pub mod Seen
 pub mod Looking
 pub mod Stopping
+pub mod Persistent

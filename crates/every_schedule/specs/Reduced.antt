@@ -194,21 +194,21 @@ leapt_by n p f (Some g) = behind n (stepped p f)
 abbrev pub leapt : AtOnce → Place → ℕ → Result Place RunError
 leapt n p f = leapt_by n p f (slice_get p.world.fibers f)
 
--- up to 100 own moves and births of each fiber, in 10 rounds
+-- up to 100 own moves and births of each fiber, in 10 rounds, after the entries of a persistent set
 abbrev pub hundred : AtOnce
-hundred = record { rounds = 10; most = 10; stores = true; births = true }
+hundred = record { rounds = 10; most = 10; stores = true; births = true; chosen = true }
 
 -- up to 100 own moves of each fiber, one in a round
 abbrev pub hundred_own : AtOnce
-hundred_own = record { rounds = 100; most = 1; stores = true; births = false }
+hundred_own = record { rounds = 100; most = 1; stores = true; births = false; chosen = false }
 
 -- up to 100 own moves and births of each fiber, none of which sets or changes a ref, in 10 rounds
 abbrev pub hundred_still : AtOnce
-hundred_still = record { rounds = 10; most = 10; stores = false; births = true }
+hundred_still = record { rounds = 10; most = 10; stores = false; births = true; chosen = false }
 
 -- no own moves
 abbrev pub none_at_once : AtOnce
-none_at_once = record { rounds = 0; most = 0; stores = true; births = false }
+none_at_once = record { rounds = 0; most = 0; stores = true; births = false; chosen = false }
 
 -- the fiber's next move is an own move, and its call isn't refused
 pub record IsOwn (p : Place) (f : ℕ) : Type 0 where

@@ -13,7 +13,9 @@ ghost use Rattle.fiber_frames.specs.Fiber.{Fiber};
 ghost use Rattle.every_schedule.specs.Claims.{stored_by};
 ghost use Rattle.every_schedule.specs.Places.{Place, first_place, report_at};
 ghost use Rattle.every_schedule.specs.Reduced.{leapt};
+ghost use Rattle.every_schedule.specs.Persistent.{pick as the_pick};
 ghost use Rattle.every_schedule.specs.Private.Keeping.{AreSingle};
+ghost use Rattle.every_schedule.specs.Private.Persistent.{IsSet};
 ghost use Rattle.every_schedule.specs.Private.Trails.{MakesAtOnce};
 
 use crate::core_world::CoreWorld;
@@ -21,6 +23,7 @@ use crate::current::{Current, fibers_of};
 use crate::faults::Faults;
 use crate::leaping::{AtOnce, leap};
 use crate::own_moves::stored_in;
+use crate::persistent::pick;
 use crate::pool::{Pool, Pooled};
 use crate::reports::same_reports;
 use crate::rows::Rows;
@@ -38,6 +41,7 @@ pub(crate) const NONE: AtOnce = AtOnce {
     most: 0,
     stores: true,
     births: false,
+    chosen: false,
 };
 
 /// All worlds and faults that were found. The states of fibers and registries are kept once, and a world is a row of
@@ -162,6 +166,23 @@ impl CoreWorlds {
         ensures { result ≡ self.now.bytes }
     {
         self.rows.bytes().saturating_add(self.current.bytes())
+    }
+
+    /// Returns the fibers whose entries are made at a world, or `None` if those of all fibers are.
+    pub(crate) fn pick(
+        &mut self,
+        world: usize,
+        at_once: AtOnce,
+    ) -> Result<Option<Vec<bool>>, AllocError>
+        requires { world < length self.old.places }
+        ensures places { self.new.places ≡ self.old.places }
+        ensures faults { self.new.faults ≡ self.old.faults }
+        ensures picked { IfOk result (λ it. (p : Place) → slice_get self.old.places world ≡ Some p →
+            IsSet (the_pick at_once p) it) }
+    {
+        self.current
+            .go_to(self.rows.registry(world), self.rows.fibers(world))?;
+        pick(self.alloc, &mut self.current, at_once)
     }
 
     /// Makes the entry of a fiber at a world, then own moves, as `at_once` allows. The trail becomes these entries.

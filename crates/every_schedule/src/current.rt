@@ -13,14 +13,17 @@ ghost use Rattle.scheduled_core.specs.Fitting.{AllFit, Fits, cell_registered};
 ghost use Rattle.scheduled_core.specs.Private.Asking.{Asking};
 ghost use Rattle.scheduled_core.specs.Private.Moving.{Refuses, Replied, children};
 ghost use Rattle.world_search.specs.Lists.{IsMore};
+ghost use Rattle.every_schedule.specs.Persistent.{weight_at};
 ghost use Rattle.every_schedule.specs.Places.{moves_at, stepped};
+ghost use Rattle.every_schedule.specs.Sizes.{capped};
+ghost use Rattle.fiber_frames.specs.Weights.{weight_of as the_weight};
 ghost use Rattle.every_schedule.specs.Private.Numbered.{AreAt, IsWorld, IsWorldOf};
 ghost use Rattle.every_schedule.specs.Private.Standing.{IsNumbered, IsOnward, IsSame, here};
 ghost use Rattle.every_schedule.specs.Private.Knowing.{AreKnownOf, IsOwned};
 ghost use Rattle.every_schedule.specs.Private.Turning.{AreTurned, IsChild, IsMoved, IsSaid, MayTurn, reply_of};
 
 use crate::core_world::CoreWorld;
-use crate::known::{Known, Owned};
+use crate::known::{Known, Owned, weight_of};
 use crate::pool::{Pool, Pooled};
 use crate::turns::{Said, Turn, Turns, reply_said, told};
 use cell_registry::{Limits, PlainRegistry, RunError};
@@ -250,6 +253,34 @@ impl Current {
             Some(known) => known.owned,
             None => Owned::Sometimes,
         }
+    }
+
+    /// What all fibers still have to run.
+    pub(crate) fn weight(&self) -> u64
+        ensures { result ≡ weight_at (here self.now) }
+    {
+        let mut sum = 0u64;
+        for place in 0..self.born() {
+            sum = sum.saturating_add(self.weight_of(place));
+        }
+        sum
+    }
+
+    // What a fiber still has to run.
+    fn weight_of(&self, place: usize) -> u64
+        requires { place < length (here self.now).world.fibers }
+        ensures { (g : Fiber) → slice_get (here self.now).world.fibers place ≡ Some g → result ≡ capped (the_weight g) }
+    {
+        let number = self.numbers[place] as usize;
+        match self.states.known.get(number) {
+            Some(known) => known.weight,
+            None => weight_of(&self.states.fibers.items[number]),
+        }
+    }
+
+    /// Where memory is taken from.
+    pub(crate) fn alloc(&self) -> Global {
+        self.alloc
     }
 
     /// Whether a fiber can still use the fiber, the ref or the deferred of this number in this way.

@@ -27,6 +27,7 @@ const AT_ONCE: AtOnce = AtOnce {
     most: 1,
     stores: true,
     births: false,
+    chosen: false,
 };
 
 /// All worlds and faults that were found, where own moves follow each entry at once.

@@ -53,6 +53,10 @@ use world_search::{Bounds, Landing, Unwatched, Watcher, search};
 /// a fiber that has ended; calls on a completed deferred; and calls on a ref, completions of a deferred and the end of
 /// a fiber, if no other fiber can still see or influence them.
 ///
+/// At a world it makes only the entries of a persistent set, if it finds one: fibers whose next moves no other fiber
+/// can see or influence, whatever the others do. The entry of one of them leads to a world whose fibers have less left
+/// to run, so no fiber is left out for ever.
+///
 /// In the schedules of the answers each entry is one move, of a fiber that has a next move there. They needn't be the
 /// shortest; those of [`explore_full`] are. During the search, `bounds.entries` doesn't count the own moves. An answer
 /// whose schedule has more than `bounds.entries` entries with them is left out, and the exploration isn't complete.
@@ -157,7 +161,7 @@ pub fn explore_watched<V: Watcher>(
         AT_ONCE,
         bounds.entries,
     )?;
-    let answers = told(alloc, &worlds.worlds, unfolded.answers)?;
+    let answers = told(alloc, worlds.worlds(), unfolded.answers)?;
     Ok(Exploration {
         answers: Answers::new(answers),
         worlds: found.worlds,

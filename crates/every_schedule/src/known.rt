@@ -5,6 +5,8 @@ ghost use Rattle.fiber_frames.specs.Fiber.{Fiber, ask_of, waits_alone};
 ghost use Rattle.fiber_frames.specs.Naming.{NamedRun};
 ghost use Rattle.fiber_frames.specs.Uses.{is_some, uses_in};
 ghost use Rattle.scheduled_core.specs.Core.{wish_of};
+ghost use Rattle.every_schedule.specs.Sizes.{capped};
+ghost use Rattle.fiber_frames.specs.Weights.{weight_of as the_weight};
 ghost use Rattle.every_schedule.specs.Private.Knowing.{IsKnown, IsOwned, TellUses, use_code};
 
 use cell_registry::{Call, Limits};
@@ -33,6 +35,7 @@ pub(crate) struct Known {
     pub(crate) wish: Wish,
     pub(crate) waits_alone: bool,
     pub(crate) owned: Owned,
+    pub(crate) weight: u64,
     // The nine uses of each number in turn, in the order of `code_of`. `None` for a use that wasn't looked up.
     uses: Vec<Option<bool>>,
 }
@@ -48,6 +51,7 @@ impl Known {
             wish: Wish::of(fiber.ask()),
             waits_alone: fiber.waits_alone(),
             owned: owned_of(fiber),
+            weight: weight_of(fiber),
             uses,
         })
     }
@@ -73,6 +77,13 @@ impl Known {
             }
         }
     }
+}
+
+/// What a fiber still has to run.
+pub(crate) fn weight_of(fiber: &Config) -> u64
+    ensures { result ≡ capped (the_weight fiber.now) }
+{
+    fiber.weight()
 }
 
 // In which worlds the next move of a state is an own move.

@@ -15,7 +15,7 @@ use cell_registry::RunError;
 use effect_term::facts_of;
 use std::alloc::AllocError;
 
-/// Which own moves are made at once after an entry.
+/// Which entries are made, and which own moves at once after an entry.
 #[derive(Clone, Copy)]
 pub(crate) struct AtOnce {
     /// The most rounds over all fibers.
@@ -26,6 +26,8 @@ pub(crate) struct AtOnce {
     pub(crate) stores: bool,
     /// Births are among them: starts, new refs and new deferreds, while no other fiber can make one.
     pub(crate) births: bool,
+    /// Only the entries of a persistent set are made, where a search finds one.
+    pub(crate) chosen: bool,
 }
 
 /// Makes the entry of a fiber, then the own moves that `at_once` allows. Adds these entries to the trail, also an entry

@@ -173,8 +173,8 @@ pub(crate) fn spares(current: &mut Current, what: Use, by: u16, number: u16, pla
     !current.uses(place, what, number)
 }
 
-// Whether a fiber has ended.
-fn has_come_to_end(current: &Current, fiber: u16) -> bool
+/// Whether a fiber has ended.
+pub(crate) fn has_come_to_end(current: &Current, fiber: u16) -> bool
     requires { AllFit (here current.now).world }
     ensures { result ≡ has_ended (here current.now).world fiber }
 {
@@ -188,8 +188,8 @@ fn has_come_to_end(current: &Current, fiber: u16) -> bool
     }
 }
 
-// Whether a deferred is completed.
-fn is_completed(current: &Current, deferred: u16) -> bool
+/// Whether a deferred is completed.
+pub(crate) fn is_completed(current: &Current, deferred: u16) -> bool
     requires { deferred < (here current.now).world.cells.next_deferred }
     ensures { result ≡ is_filled (here current.now).world deferred }
 {

@@ -32,6 +32,7 @@ pub(crate) const STILL: AtOnce = AtOnce {
     most: 10,
     stores: false,
     births: true,
+    chosen: false,
 };
 
 /// All worlds and faults that were found. A world of the core can be kept several times, with different refs.

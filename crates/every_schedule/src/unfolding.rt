@@ -9,13 +9,18 @@ ghost use Rattle.cell_registry.specs.Cells.{AreLimits};
 ghost use Rattle.world_search.specs.declared.answers.Answer.{Answer as Found};
 ghost use Rattle.world_search.specs.Lists.{IsMore};
 ghost use Rattle.every_schedule.specs.Places.{Place, first_place};
+ghost use Rattle.std.specs.Prelude.{◌⊎◌, Ok as GoesWell, Err as Fails};
+ghost use Rattle.scheduled_core.specs.Fitting.{AllFit};
+ghost use Rattle.every_schedule.specs.Persistent.{chosen};
 ghost use Rattle.every_schedule.specs.Private.Numbered.{IsWorld, IsWorldOf};
+ghost use Rattle.every_schedule.specs.Private.Standing.{IsOnward, here};
 ghost use Rattle.every_schedule.specs.Private.Trails.{AreSorted, AreUnfolded, EndApart, EndsAlone, IsKeptIn};
-ghost use Rattle.every_schedule.specs.Private.Trails.{IsLeftOut, IsUnfolded, rank_of};
+ghost use Rattle.every_schedule.specs.Private.Trails.{IsLeftOut, IsTrail, IsUnfolded, rank_of};
 
 use crate::core_world::CoreWorld;
 use crate::current::Current;
 use crate::leaping::{AtOnce, is_memory, leap};
+use crate::persistent::is_entered;
 use cell_registry::{Limits, RunError};
 use effect_term::Program;
 use std::alloc::{AllocError, Global};
@@ -163,7 +168,7 @@ fn unfold_from(
     current.go_to(registry, numbers)?;
     let mut trail = Vec::new(alloc);
     for fiber in schedule {
-        match leap(&mut *current, *fiber, at_once, &mut trail) {
+        match enter(alloc, &mut *current, *fiber, at_once, &mut trail) {
             Ok(()) => {}
             Err(fault) => {
                 if is_memory(fault) {
@@ -174,4 +179,29 @@ fn unfold_from(
         }
     }
     Ok(trail)
+}
+
+// Makes the entry of a fiber, and own moves after it, if the entry is made at this world. Adds them to the trail.
+fn enter(
+    alloc: Global,
+    current: &mut Current,
+    fiber: u16,
+    at_once: AtOnce,
+    trail: &mut Vec<u16>,
+) -> Result<(), RunError>
+    requires { AllFit (here current.old).world }
+    ensures onward { IsOnward current.old current.new }
+    ensures goes { OnOk result (chosen at_once (here current.old) fiber ≡ GoesWell (here current.new)) }
+    ensures fits { OnOk result (AllFit (here current.new).world) }
+    ensures trail { OnOk result (IsTrail trail.old.items trail.new.items (here current.old)
+        (GoesWell (here current.new))) }
+    ensures stops { IfErr result (λ e. (e ≡ RunError.NoMemory) ⊎
+        ((chosen at_once (here current.old) fiber ≡ Fails e) ×
+        IsTrail trail.old.items trail.new.items (here current.old) (Fails e))) }
+{
+    if is_entered(alloc, &mut *current, fiber, at_once)? {
+        leap(current, fiber, at_once, trail)
+    } else {
+        Ok(())
+    }
 }

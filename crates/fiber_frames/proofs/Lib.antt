@@ -38,6 +38,9 @@ pub mod UnusedMoves
 pub mod NamedUses
 pub mod WordHits
 pub mod PathHits
+pub mod Capped
+pub mod WordWeights
+pub mod PathWeights
 pub mod Renumbering
 pub mod Spines
 pub mod RenumberedMoves

@@ -21,7 +21,7 @@ module _ {A : Type 0} (g : A → ℕ) where
   total_suc (x ∷ xs) zero d low = omega arith
   total_suc (x ∷ xs) (suc i) d low = let on = total_suc xs i d (omega (arith, low)) in omega (arith, on)
 
-  total_more : (xs : List A) (i : ℕ) (d : A) → i < length xs → total g (take (i + 1) xs) ≡ total g (take i xs) + g (get_or xs i d)
+  pub total_more : (xs : List A) (i : ℕ) (d : A) → i < length xs → total g (take (i + 1) xs) ≡ total g (take i xs) + g (get_or xs i d)
   total_more xs i d low = let e : i + 1 ≡ suc i = omega arith in ap (λ j. total g (take j xs)) e ∙ total_suc xs i d low
 
   total_one : (xs : List A) (i : ℕ) (d : A) → i < length xs → g (get_or xs i d) ≤ total g xs

@@ -3,13 +3,28 @@ use Rattle.fiber_frames.proofs.Prelude.{◌≡◌, ◌<◌, ◌≤◌, ℕ, ◌+
 use Rattle.fiber_frames.proofs.Prelude.{word_tree, tree_past_end, tree_word, EnvEntry, Use, close, env_of, last_of, own_hits, term_hits, tree_hits, many_parts}
 
 -- the last part of a word
-abbrev last_part : CoreWord → (a b c : ℕ → Tree) → ℕ → Tree
+abbrev pub last_part : CoreWord → (a b c : ℕ → Tree) → ℕ → Tree
 last_part (CoreWord.Join f j l) a b c = c
 last_part (CoreWord.Make m) a b c = a
 last_part (CoreWord.Loop t) a b c = a
 last_part CoreWord.Uncancelable a b c = a
 last_part (CoreWord.Poll q) a b c = a
 last_part _ a b c = b
+
+module _ (ws : List CoreWord) (i : ℕ) where
+  -- the term at a place is that of the word there
+  pub term_here : (w : CoreWord) → word_at ws i ≡ w → (m : ℕ) →
+      tree_at ws i m ≡ word_tree w m (tree_at ws (i + 1)) (tree_at ws (i + 1 + second w)) (tree_at ws (i + 1 + third w))
+  term_here w at m =
+      subst (λ v. tree_at ws i m ≡ word_tree v m (tree_at ws (i + 1)) (tree_at ws (i + 1 + second v)) (tree_at ws (i + 1 + third v))) at (tree_word ws i m)
+
+  pub last_at : (v : CoreWord) (j : ℕ) → last_part v (tree_at ws (i + 1)) (tree_at ws (i + 1 + second v)) (tree_at ws (i + 1 + third v)) j ≡
+      tree_at ws (i + 1 + last_of v) j
+  last_at (CoreWord.Make m) j = ap (λ k. tree_at ws k j) (omega arith)
+  last_at (CoreWord.Loop t) j = ap (λ k. tree_at ws k j) (omega arith)
+  last_at CoreWord.Uncancelable j = ap (λ k. tree_at ws k j) (omega arith)
+  last_at (CoreWord.Poll q) j = ap (λ k. tree_at ws k j) (omega arith)
+  last_at _ j = refl
 
 module _ (u : Use) (n : ℕ) (es : List EnvEntry) (level : ℕ) where
   abbrev hits : Tree → ℕ
@@ -72,21 +87,13 @@ module _ (u : Use) (n : ℕ) (es : List EnvEntry) (level : ℕ) where
 
   module _ (ws : List CoreWord) (i : ℕ) (w : CoreWord) (at : word_at ws i ≡ w) where
     here : (m : ℕ) → tree_at ws i m ≡ word_tree w m (tree_at ws (i + 1)) (tree_at ws (i + 1 + second w)) (tree_at ws (i + 1 + third w))
-    here m = subst (λ v. tree_at ws i m ≡ word_tree v m (tree_at ws (i + 1)) (tree_at ws (i + 1 + second v)) (tree_at ws (i + 1 + third v))) at (tree_word ws i m)
-
-    last_at : (v : CoreWord) (j : ℕ) → last_part v (tree_at ws (i + 1)) (tree_at ws (i + 1 + second v)) (tree_at ws (i + 1 + third v)) j ≡
-        tree_at ws (i + 1 + last_of v) j
-    last_at (CoreWord.Make m) j = ap (λ k. tree_at ws k j) (omega arith)
-    last_at (CoreWord.Loop t) j = ap (λ k. tree_at ws k j) (omega arith)
-    last_at CoreWord.Uncancelable j = ap (λ k. tree_at ws k j) (omega arith)
-    last_at (CoreWord.Poll q) j = ap (λ k. tree_at ws k j) (omega arith)
-    last_at _ j = refl
+    here m = term_here ws i w at m
 
     pub term_front : (m : ℕ) → 0 < many_parts w → own_hits u n es level w ≡ 0 → (1 < many_parts w → (j : ℕ) → counted ws (i + 1) j ≡ 0) →
         (2 < many_parts w → (j : ℕ) → counted ws (i + 1 + second w) j ≡ 0) → (j : ℕ) × (counted ws i m ≡ counted ws (i + 1 + last_of w) j)
     term_front m some own first next =
         let on = word_front m (tree_at ws (i + 1)) (tree_at ws (i + 1 + second w)) (tree_at ws (i + 1 + third w)) w some own first next in
-        (on.0, ap hits (here m) ∙ on.1 ∙ ap hits (last_at w on.0))
+        (on.0, ap hits (here m) ∙ on.1 ∙ ap hits (last_at ws i w on.0))
 
     pub term_own : (m : ℕ) → 0 < own_hits u n es level w → 0 < counted ws i m
     term_own m own = subst (λ t. 0 < hits t) (sym (here m)) (word_own m (tree_at ws (i + 1)) (tree_at ws (i + 1 + second w)) (tree_at ws (i + 1 + third w)) w own)

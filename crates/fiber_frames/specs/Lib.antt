@@ -17,5 +17,6 @@ pub mod Leading
 pub mod Naming
 pub mod Uses
 pub mod Hits
+pub mod Weights
 pub mod Unmarked
 pub mod Shapes

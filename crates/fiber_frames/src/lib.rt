@@ -45,6 +45,7 @@ mod slots;
 mod stack;
 mod table;
 mod uses;
+mod weights;
 
 pub use ask::{Ask, Look};
 pub use config::{Config, Moved};

@@ -125,8 +125,8 @@ fn word_uses(word: &CoreWord, env: &[EnvEntry], level: usize, sought: Sought) ->
     }
 }
 
-// The distance from the first part of a word to its last part.
-fn last(word: &CoreWord) -> u32
+/// The distance from the first part of a word to its last part.
+pub(crate) fn last(word: &CoreWord) -> u32
     ensures { result ≡ last_of word.now }
 {
     match word {

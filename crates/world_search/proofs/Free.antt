@@ -7,7 +7,7 @@ use Rattle.world_search.specs.declared.answers.Answer.{Answer}
 use Rattle.world_search.specs.declared.landings.Landing.{Landing}
 use Rattle.world_search.specs.declared.landings.Landing.TheVariants as to
 use Rattle.world_search.specs.Answers.{LeadsTo, Tells, IsAnswered, IsCovered, IsEnd}
-use Rattle.world_search.specs.Free.{Commutes, AreEarly, AreFree, Leads, Leaps, AreGrowing}
+use Rattle.world_search.specs.Free.{Commutes, AreEarly, AreFree, Leads, Leaps, AreGrowing, Reduces}
 use Rattle.world_search.specs.Free.Leads.{Here, On}
 use Rattle.world_search.specs.Systems.{run, reported, IsSettled}
 use Rattle.world_search.proofs.Closed.{run-append}
@@ -64,11 +64,11 @@ early step Free free = record { goes = free.goes; commutes = λ w f x h q g apar
 
 module _ {W E : Type 0} (step : W → ℕ → Result W E) where
   -- some entries after y lead to where at most n entries lead from x
-  abbrev Comes : W → Result W E → ℕ → Type 0
+  abbrev pub Comes : W → Result W E → ℕ → Type 0
   Comes x y n = (t : List ℕ) × (more : List ℕ) × (length t ≤ n) × (run step y more ≡ run step (Ok x) t)
 
   -- an entry that changes nothing is left out
-  idle_left_out : (s : List ℕ) (w x : W) (y : Result W E) → y ≡ Ok w → Comes x (run step (Ok w) s) (length s) → Comes x (run step y s) (suc (length s))
+  pub idle_left_out : (s : List ℕ) (w x : W) (y : Result W E) → y ≡ Ok w → Comes x (run step (Ok w) s) (length s) → Comes x (run step y s) (suc (length s))
   idle_left_out s w x y idle h = (h.0, h.1, omega (arith, h.2), ap (λ z. run step (run step z s) h.1) idle ∙ h.3)
 
   module _ (Free : W → ℕ → Type 0) (free : AreEarly step Free) where
@@ -90,7 +90,7 @@ module _ {W E : Type 0} (step : W → ℕ → Result W E) where
         ])
 
     -- several free moves made earlier
-    ahead_led : (w v : W) → Leads step Free w v → (s : List ℕ) → Comes v (run step (Ok w) s) (length s)
+    pub ahead_led : (w v : W) → Leads step Free w v → (s : List ℕ) → Comes v (run step (Ok w) s) (length s)
     ahead_led w v (Here a b same) s = (s, [], omega arith, ap (λ x. run step (Ok x) s) same)
     ahead_led w v (On a f x b h q on) s =
         let one = ahead s a x f h q in
@@ -130,7 +130,7 @@ module _ {W E : Type 0} (step : W → ℕ → Result W E) where
       overtakes w s = overtaken (length s) w s (omega arith)
 
       -- a schedule of the reduced system is one of the full system, in which each free move is an entry
-      unfolded_next : (y : Result W E) (z : Result W E) → Leaps step Free y z → (s : List ℕ) × (run step y s ≡ z)
+      pub unfolded_next : (y : Result W E) (z : Result W E) → Leaps step Free y z → (s : List ℕ) × (run step y s ≡ z)
       unfolded_next (Ok x) z h = let on = leads_run x h.0 h.1 in (on.0, on.1 ∙ sym h.2)
       unfolded_next (Err e) z h = ([], sym h)
 
@@ -142,86 +142,91 @@ module _ {W E : Type 0} (step : W → ℕ → Result W E) where
           let rest = unfolded (leap w f) t in
           (f ∷ (one.0 ++ rest.0), run-append step (step w f) one.0 rest.0 ∙ ap (λ y. run step y rest.0) one.1 ∙ rest.1)
 
-      module _ {R : Type 0} (report : W → R) where
-        pub settled_down : (w : W) → IsSettled step report w → IsSettled leap report w
-        settled_down w h t =
-            let on = unfolded (Ok w) t in
-            reported_same leap step report (run leap (Ok w) t) ∙ ap (reported step report) (sym on.1) ∙ h on.0
+      -- each entry of the reduced system is one of the full system with some free moves after it
+      pub reduces : Reduces step leap
+      reduces = record { overtakes = overtakes; unfolded = unfolded }
 
-        module _ (size : R → ℕ) (growing : AreGrowing step report size) where
-          up_at : (w : W) (s more t : List ℕ) (y : Result W E) → run step (Ok w) s ≡ y → run step y more ≡ run leap (Ok w) t →
-              reported leap report (run leap (Ok w) t) ≡ Ok (report w)
-              → reported step report y ≡ Ok (report w)
-          up_at w s more t (Ok x) led on same =
-              let v = reported_ok leap report (run leap (Ok w) t) (report w) same in
-              let sizes : size (report v.0) ≡ size (report w) = ap size v.2 in
-              elim (grown step report size growing s w x led) [
-                | inl stays ↦ ap Ok stays
-                | inr more_here ↦ elim (grown step report size growing more x v.0 (on ∙ v.1)) [
-                  | inl stays ↦ let still = ap size stays in absurd (omega arith)
-                  | inr more_there ↦ absurd (omega arith)
-                ]
-              ]
-          up_at w s more t (Err e) led on same =
-              let fault : run leap (Ok w) t ≡ Err e = sym on ∙ run_fault step e more in
-              let no : reported leap report (Err e) ≡ Ok (report w) = ap (reported leap report) (sym fault) ∙ same in
-              absurd (cc)
+module _ {W E : Type 0} (step leap : W → ℕ → Result W E) (red : Reduces step leap) where
+  module _ {R : Type 0} (report : W → R) where
+    pub settled_down : (w : W) → IsSettled step report w → IsSettled leap report w
+    settled_down w h t =
+        let on = red.unfolded (Ok w) t in
+        reported_same leap step report (run leap (Ok w) t) ∙ ap (reported step report) (sym on.1) ∙ h on.0
 
-          -- a world that is settled in the reduced system is settled in the full one
-          pub settled_up : (w : W) → IsSettled leap report w → IsSettled step report w
-          settled_up w h s = let o = overtakes w s in up_at w s o.1 o.0 (run step (Ok w) s) refl o.2 (h o.0)
+    module _ (size : R → ℕ) (growing : AreGrowing step report size) where
+      up_at : (w : W) (s more t : List ℕ) (y : Result W E) → run step (Ok w) s ≡ y → run step y more ≡ run leap (Ok w) t →
+          reported leap report (run leap (Ok w) t) ≡ Ok (report w)
+          → reported step report y ≡ Ok (report w)
+      up_at w s more t (Ok x) led on same =
+          let v = reported_ok leap report (run leap (Ok w) t) (report w) same in
+          let sizes : size (report v.0) ≡ size (report w) = ap size v.2 in
+          elim (grown step report size growing s w x led) [
+            | inl stays ↦ ap Ok stays
+            | inr more_here ↦ elim (grown step report size growing more x v.0 (on ∙ v.1)) [
+              | inl stays ↦ let still = ap size stays in absurd (omega arith)
+              | inr more_there ↦ absurd (omega arith)
+            ]
+          ]
+      up_at w s more t (Err e) led on same =
+          let fault : run leap (Ok w) t ≡ Err e = sym on ∙ run_fault step e more in
+          let no : reported leap report (Err e) ≡ Ok (report w) = ap (reported leap report) (sym fault) ∙ same in
+          absurd (cc)
 
-          module _ (ws : List W) (es : List E) where
-            -- the schedule of an answer, with each free move as an entry
-            pub leads_up : (first : W) (s t : List ℕ) (l : Landing) → run step (Ok first) s ≡ run leap (Ok first) t →
-                LeadsTo leap report ws es first t l → LeadsTo step report ws es first s l
-            leads_up first s t (to.World j) same h = (h.0, h.1, same ∙ h.2, settled_up h.0 h.3)
-            leads_up first s t (to.Fault j) same h = (h.0, h.1, same ∙ h.2)
+      -- a world that is settled in the reduced system is settled in the full one
+      pub settled_up : (w : W) → IsSettled leap report w → IsSettled step report w
+      settled_up w h s = let o = red.overtakes w s in up_at w s o.1 o.0 (run step (Ok w) s) refl o.2 (h o.0)
 
-            module _ (answers : List Answer) where
-              tells_up : (l : Landing) (v w : W) → report v ≡ report w → Tells leap report ws es l (Ok v) → Tells step report ws es l (Ok w)
-              tells_up (to.World j) v w same h = (h.0, h.1, h.2 ∙ same)
-              tells_up (to.Fault j) v w same h = absurd h
+      module _ (ws : List W) (es : List E) where
+        -- the schedule of an answer, with each free move as an entry
+        pub leads_up : (first : W) (s t : List ℕ) (l : Landing) → run step (Ok first) s ≡ run leap (Ok first) t →
+            LeadsTo leap report ws es first t l → LeadsTo step report ws es first s l
+        leads_up first s t (to.World j) same h = (h.0, h.1, same ∙ h.2, settled_up h.0 h.3)
+        leads_up first s t (to.Fault j) same h = (h.0, h.1, same ∙ h.2)
 
-              tells_fault : (l : Landing) (e : E) → Tells leap report ws es l (Err e) → Tells step report ws es l (Err e)
-              tells_fault (to.World j) e h = absurd h
-              tells_fault (to.Fault j) e h = h
+        module _ (answers : List Answer) where
+          tells_up : (l : Landing) (v w : W) → report v ≡ report w → Tells leap report ws es l (Ok v) → Tells step report ws es l (Ok w)
+          tells_up (to.World j) v w same h = (h.0, h.1, h.2 ∙ same)
+          tells_up (to.Fault j) v w same h = absurd h
 
-              answered_up : (v w : W) → report v ≡ report w → IsAnswered leap report ws es answers (Ok v) → IsAnswered step report ws es answers (Ok w)
-              answered_up v w same h = (h.0, h.1, tells_up h.0.end v w same h.2)
+          tells_fault : (l : Landing) (e : E) → Tells leap report ws es l (Err e) → Tells step report ws es l (Err e)
+          tells_fault (to.World j) e h = absurd h
+          tells_fault (to.Fault j) e h = h
 
-              answered_fault : (e : E) → IsAnswered leap report ws es answers (Err e) → IsAnswered step report ws es answers (Err e)
-              answered_fault e h = (h.0, h.1, tells_fault h.0.end e h.2)
+          answered_up : (v w : W) → report v ≡ report w → IsAnswered leap report ws es answers (Ok v) → IsAnswered step report ws es answers (Ok w)
+          answered_up v w same h = (h.0, h.1, tells_up h.0.end v w same h.2)
 
-              covered_at : (y z : Result W E) (more : List ℕ) → run step y more ≡ z → IsCovered leap report ws es answers z →
-                  IsCovered step report ws es answers y
-              covered_at (Ok w) z more on h = λ settled.
-                  let v = reported_ok step report z (report w) (ap (reported step report) (sym on) ∙ settled more) in
-                  let still = settled_run step report w v.0 more (on ∙ v.1) settled in
-                  let told : IsCovered leap report ws es answers (Ok v.0) = subst (IsCovered leap report ws es answers) v.1 h in
-                  answered_up v.0 w v.2 (told (settled_down v.0 still.0))
-              covered_at (Err e) z more on h =
-                  let fault : z ≡ Err e = sym on ∙ run_fault step e more in
-                  let told : IsCovered leap report ws es answers (Err e) = subst (IsCovered leap report ws es answers) fault h in
-                  answered_fault e told
+          answered_fault : (e : E) → IsAnswered leap report ws es answers (Err e) → IsAnswered step report ws es answers (Err e)
+          answered_fault e h = (h.0, h.1, tells_fault h.0.end e h.2)
 
-              -- answers that cover all schedules of the reduced system cover those of the full one
-              pub covers : (first : W) → ((t : List ℕ) → IsCovered leap report ws es answers (run leap (Ok first) t)) → (s : List ℕ) →
-                  IsCovered step report ws es answers (run step (Ok first) s)
-              covers first h s = let o = overtakes first s in covered_at (run step (Ok first) s) (run leap (Ok first) o.0) o.1 o.2 (h o.0)
+          covered_at : (y z : Result W E) (more : List ℕ) → run step y more ≡ z → IsCovered leap report ws es answers z →
+              IsCovered step report ws es answers y
+          covered_at (Ok w) z more on h = λ settled.
+              let v = reported_ok step report z (report w) (ap (reported step report) (sym on) ∙ settled more) in
+              let still = settled_run step report w v.0 more (on ∙ v.1) settled in
+              let told : IsCovered leap report ws es answers (Ok v.0) = subst (IsCovered leap report ws es answers) v.1 h in
+              answered_up v.0 w v.2 (told (settled_down v.0 still.0))
+          covered_at (Err e) z more on h =
+              let fault : z ≡ Err e = sym on ∙ run_fault step e more in
+              let told : IsCovered leap report ws es answers (Err e) = subst (IsCovered leap report ws es answers) fault h in
+              answered_fault e told
 
-              ends_up : (y : Result W E) → IsEnd leap report ws es answers y → IsEnd step report ws es answers y
-              ends_up (Ok w) h = (settled_up w h.0, answered_up w w refl h.1)
-              ends_up (Err e) h = answered_fault e h
+          -- answers that cover all schedules of the reduced system cover those of the full one
+          pub covers : (first : W) → ((t : List ℕ) → IsCovered leap report ws es answers (run leap (Ok first) t)) → (s : List ℕ) →
+              IsCovered step report ws es answers (run step (Ok first) s)
+          covers first h s = let o = red.overtakes first s in covered_at (run step (Ok first) s) (run leap (Ok first) o.0) o.1 o.2 (h o.0)
 
-              -- if some entries lead from each world of the reduced system to an answer, some do from each world of the full one
-              pub goes_onward : (first : W) → ((t : List ℕ) → (more : List ℕ) × IsEnd leap report ws es answers (run leap (Ok first) (t ++ more))) →
-                  (s : List ℕ) → (more : List ℕ) × IsEnd step report ws es answers (run step (Ok first) (s ++ more))
-              goes_onward first h s =
-                  let o = overtakes first s in
-                  let on = h o.0 in
-                  let rest = unfolded (run leap (Ok first) o.0) on.0 in
-                  let led : run leap (Ok first) (o.0 ++ on.0) ≡ run step (Ok first) (s ++ (o.1 ++ rest.0)) =
-                  run-append leap (Ok first) o.0 on.0 ∙ sym rest.1 ∙ ap (λ y. run step y rest.0) (sym o.2) ∙
-                  sym (run-append step (run step (Ok first) s) o.1 rest.0) ∙ sym (run-append step (Ok first) s (o.1 ++ rest.0)) in
-                  (o.1 ++ rest.0, ends_up (run step (Ok first) (s ++ (o.1 ++ rest.0))) (subst (IsEnd leap report ws es answers) led on.1))
+          ends_up : (y : Result W E) → IsEnd leap report ws es answers y → IsEnd step report ws es answers y
+          ends_up (Ok w) h = (settled_up w h.0, answered_up w w refl h.1)
+          ends_up (Err e) h = answered_fault e h
+
+          -- if some entries lead from each world of the reduced system to an answer, some do from each world of the full one
+          pub goes_onward : (first : W) → ((t : List ℕ) → (more : List ℕ) × IsEnd leap report ws es answers (run leap (Ok first) (t ++ more))) →
+              (s : List ℕ) → (more : List ℕ) × IsEnd step report ws es answers (run step (Ok first) (s ++ more))
+          goes_onward first h s =
+              let o = red.overtakes first s in
+              let on = h o.0 in
+              let rest = red.unfolded (run leap (Ok first) o.0) on.0 in
+              let led : run leap (Ok first) (o.0 ++ on.0) ≡ run step (Ok first) (s ++ (o.1 ++ rest.0)) =
+              run-append leap (Ok first) o.0 on.0 ∙ sym rest.1 ∙ ap (λ y. run step y rest.0) (sym o.2) ∙
+              sym (run-append step (run step (Ok first) s) o.1 rest.0) ∙ sym (run-append step (Ok first) s (o.1 ++ rest.0)) in
+              (o.1 ++ rest.0, ends_up (run step (Ok first) (s ++ (o.1 ++ rest.0))) (subst (IsEnd leap report ws es answers) led on.1))

@@ -9,5 +9,6 @@ pub mod Snug
 pub mod Answering
 pub mod Results
 pub mod Free
+pub mod Chosen
 pub mod Claiming
 pub mod Views

@@ -1,6 +1,7 @@
 -- Free moves: a system in which some moves commute with those of all other fibers, and a reduced system that makes such
 -- moves directly after each entry.
-use Rattle.std.specs.Prelude.{◌≡◌, ◌≢◌, ◌⊎◌, ℕ, ◌<◌, Result, Ok, Err}
+use Rattle.std.specs.Prelude.{◌≡◌, ◌≢◌, ◌⊎◌, ℕ, ◌<◌, List, Result, Ok, Err}
+use Rattle.world_search.specs.Systems.{run}
 
 module _ {W E : Type 0} (step : W → ℕ → Result W E) where
   -- the free move of fiber f, which leads to x, commutes with the entry of fiber g: both orders lead to the same world,
@@ -31,11 +32,12 @@ module _ {W E : Type 0} (step : W → ℕ → Result W E) where
   Leaps Free (Ok x) y = (v : W) × Leads Free x v × (y ≡ Ok v)
   Leaps Free (Err e) y = y ≡ Err e
 
-  -- Each entry of the reduced system is one of the full system with some free moves after it
-  pub record IsReduced (leap : W → ℕ → Result W E) : Type 1 where
-    pub Free : W → ℕ → Type 0
-    pub free : AreEarly Free
-    pub leaps : (w : W) (f : ℕ) → Leaps Free (step w f) (leap w f)
+  -- The reduced system gets as far as the full one: after each schedule, some further entries lead where a schedule of
+  -- the reduced system leads; and each of its schedules leads where one of the full system leads
+  pub record Reduces (leap : W → ℕ → Result W E) : Type 0 where
+    pub overtakes : (w : W) (s : List ℕ) →
+        (t : List ℕ) × (more : List ℕ) × (run step (run step (Ok w) s) more ≡ run leap (Ok w) t)
+    pub unfolded : (x : Result W E) (t : List ℕ) → (s : List ℕ) × (run step x s ≡ run leap x t)
 
   -- each entry keeps the report or makes it larger
   abbrev pub AreGrowing : {R : Type 0} → (W → R) → (R → ℕ) → Type 0

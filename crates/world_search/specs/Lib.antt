@@ -3,5 +3,6 @@ pub mod Systems
 pub mod Landings
 pub mod Answers
 pub mod Free
+pub mod Chosen
 pub mod Claims
 pub mod Private

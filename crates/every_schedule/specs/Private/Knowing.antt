@@ -10,6 +10,8 @@ use Rattle.fiber_frames.specs.Naming.{NamedRun}
 use Rattle.fiber_frames.specs.Uses.{is_some, uses_in}
 use Rattle.scheduled_core.specs.declared.wish.Wish.{Wish}
 use Rattle.scheduled_core.specs.Core.{World, wish_of}
+use Rattle.every_schedule.specs.Sizes.{capped}
+use Rattle.fiber_frames.specs.Weights.{weight_of}
 use Rattle.every_schedule.specs.Reduced.{is_own}
 use Rattle.every_schedule.specs.declared.known.Known.{Known}
 use Rattle.every_schedule.specs.declared.known.Owned.{Owned}
@@ -46,6 +48,7 @@ pub record IsKnown (g : Fiber) (k : Known) : Type 0 where
   pub wish : k.wish ≡ wish_of (ask_of g)
   pub waits : k.waits_alone ≡ waits_alone g
   pub owned : IsOwned (wish_of (ask_of g)) (waits_alone g) k.owned
+  pub weight : k.weight ≡ capped (weight_of g)
   pub uses : TellUses g k.uses.items
 
 -- each item is what is known of the state of its number

@@ -11,6 +11,7 @@ use Rattle.world_search.specs.declared.landings.Landing.TheVariants as to
 use Rattle.every_schedule.specs.declared.leaping.AtOnce.{AtOnce}
 use Rattle.every_schedule.specs.Explored.{HasMove}
 use Rattle.every_schedule.specs.Places.{Place, stepped}
+use Rattle.every_schedule.specs.Persistent.{chosen}
 use Rattle.every_schedule.specs.Reduced.{IsMade, leapt}
 
 -- each of these entries, from this place on, is of a fiber that has a next move where the entry is made
@@ -52,7 +53,7 @@ pub record IsLeapTrail (n : AtOnce) (old new : List ℕ) (p : Place) (f : ℕ) :
 
 -- these entries lead where the schedule leads in the reduced exploration, which makes own moves after each entry
 pub record IsUnfolded (n : AtOnce) (first : Place) (schedule entries : List ℕ) : Type 0 where
-  pub leads : run stepped (Ok first) entries ≡ run (leapt n) (Ok first) schedule
+  pub leads : run stepped (Ok first) entries ≡ run (chosen n) (Ok first) schedule
   pub few : All (λ f. f < 1000) entries
   pub moves : AreMade first entries
 

@@ -1,11 +1,13 @@
-use Rattle.std.proofs.{Common.{◌≡◌, ℕ, true, inl, inr, ◌<◌, ◌≤◌, ◌++◌, List, length, sym, ap, subst, arith, rules}, lemmas.Grind.common_steps}
+use Rattle.std.proofs.lemmas.Result.{err_from_is_err_and}
+use Rattle.std.proofs.{Common.{◌≡◌, ℕ, true, inl, inr, ◌<◌, ◌≤◌, ◌++◌, List, length, refl, sym, ap, subst, arith, rules}, lemmas.Grind.common_steps}
 use Rattle.std.specs.{Prelude.Some, List.{All, slice_get}}
 use Rattle.derived_ops.specs.{Expansion.code_of, Reading.source_of}
 use Rattle.scheduled_core.specs.Core.{core, first_world}
 use Rattle.world_search.specs.declared.answers.Answer.{Answer as Found}
 use Rattle.every_schedule.specs.{declared.exploration.Answer.Answer, Explored.{AreInOrder, AreMoves, IsAnswered, IsCovered, IsPastBound, IsReached, ListOnce}}
-use Rattle.every_schedule.specs.{Places.{Place, first_place, report_at, stepped}, Reduced.hundred, Private.Trails.{AreUnfolded, EndApart, IsLeftOut}}
-use Rattle.every_schedule.proofs.{Placed.core_run, Deadlocks.none_waits, Growing.size, GrowingLeaps.leaps_grow, Laws.{alike, ended, faultless}}
+use Rattle.every_schedule.specs.{Places.{Kept, Place, first_place, report_at, stepped}, Reduced.hundred, Private.Trails.{AreUnfolded, EndApart, IsLeftOut}}
+use Rattle.every_schedule.specs.Private.{Keeping.AreSingle, Telling.{AreTold, IsWithin}}
+use Rattle.every_schedule.proofs.{Placed.core_run, Deadlocks.none_waits, Growing.size, GrowingLeaps.chosen_grow, Laws.{alike, ended, faultless}}
 use Rattle.every_schedule.proofs.{PastBound.past_bound, Told.{all_within, answered, covered, in_order, moving, numbered, once, reached, short}}
 use Rattle.every_schedule.proofs.Trails.{all_covered, all_onward, brief, few, found_apart, made, right, unfolded_once}
 use Rattle.world_search.specs.Answers as search
@@ -16,13 +18,14 @@ told-requires g c =
     let code = code_of (source_of c.args.program.now) in
     let k = c.args.limits in
     let start = first_place code k in
-    let kept = c.search.new.worlds.worlds in
+    let kept = c.search.new.worlds in
     let raw = c.in_ok-found.found.answers.items in
     let found = c.in_ok-unfolded.unfolded.answers.items in
-    let first : slice_get c.in_ok-worlds.worlds.worlds.places 0 ≡ Some start = ap (λ (l : List Place). slice_get l 0) c.in_ok-worlds.ensures.places in
+    let first : slice_get c.in_ok-worlds.worlds.places 0 ≡ Some start = ap (λ (l : List Place). slice_get l 0) c.in_ok-worlds.ensures.places in
     let each : AreUnfolded hundred c.args.bounds.entries start raw found =
     subst (λ (l : List Found). AreUnfolded hundred c.args.bounds.entries start l found) c.as_slice.ensures.value c.in_ok-unfolded.ensures.each in
-    all_within kept start found (right kept start hundred c.args.bounds.entries raw found each (c.in_ok-found.ensures.each start first))
+    subst (λ (k : Kept). All (λ a. IsWithin k a.end) found) (sym c.worlds-2.ensures)
+    (all_within kept start found (right kept start hundred c.args.bounds.entries raw found each (c.in_ok-found.ensures.each start first)))
 
 pub returns : goal.returns
 returns g c =
@@ -30,14 +33,15 @@ returns g c =
     let k = c.args.limits in
     let most = c.args.bounds.entries in
     let start = first_place code k in
-    let kept = c.search.new.worlds.worlds in
+    let kept = c.search.new.worlds in
     let raw = c.in_ok-found.found.answers.items in
     let found = c.in_ok-unfolded.unfolded.answers.items in
     let answers = c.in_ok-answers.answers.items in
-    let told = c.in_ok-answers.ensures.told in
+    let told : AreTold kept found answers = subst (λ (k : Kept). AreTold k found answers) c.worlds-2.ensures c.in_ok-answers.ensures.told in
+    let single : AreSingle kept.faults = subst (λ (k : Kept). AreSingle k.faults) c.worlds-2.ensures c.told.ensures.single in
     let same = c.as_slice.ensures.value in
     let is = sym c.new-2.ensures in
-    let first : slice_get c.in_ok-worlds.worlds.worlds.places 0 ≡ Some start = ap (λ (l : List Place). slice_get l 0) c.in_ok-worlds.ensures.places in
+    let first : slice_get c.in_ok-worlds.worlds.places 0 ≡ Some start = ap (λ (l : List Place). slice_get l 0) c.in_ok-worlds.ensures.places in
     let each : AreUnfolded hundred most start raw found =
     subst (λ (l : List Found). AreUnfolded hundred most start l found) same c.in_ok-unfolded.ensures.each in
     let its = c.in_ok-found.ensures.each start first in
@@ -52,7 +56,7 @@ returns g c =
     (subst (search.IsCovered stepped report_at kept.places kept.faults found) (core_run code k schedule)
     (all_covered kept start hundred most raw found each (whole yes) (c.in_ok-found.ensures.all (c.are_both.ensures.one yes) start first) schedule))) in
     let on = λ (yes : c.are_both.result ≡ true) (schedule : List ℕ). all_onward kept start hundred most raw found each (whole yes)
-    (c.in_ok-found.ensures.onward (c.are_both.ensures.one yes) size (leaps_grow hundred) start first) schedule in
+    (c.in_ok-found.ensures.onward (c.are_both.ensures.one yes) size (chosen_grow hundred) start first) schedule in
     let onward = λ (yes : c.are_both.result ≡ true) (schedule : List ℕ).
     subst (λ (l : List Answer). IsAnswered k l (core code k (schedule ++ (on yes schedule).0))) is
     (answered kept found answers told k (core code k (schedule ++ (on yes schedule).0))
@@ -68,16 +72,16 @@ returns g c =
           ((on yes schedule).0, ended k c.new-2.result f (core code k (schedule ++ (on yes schedule).0)) have (onward yes schedule));
       deadlock = λ yes have schedule w leads f stays. none_waits k c.new-2.result have code schedule (on yes schedule).0 w f leads (onward yes schedule) stays;
       once = subst (λ (l : List Answer). ListOnce l) is
-          (once kept found answers told c.told.ensures.single (unfolded_once kept start hundred most raw found each once_raw apart));
+          (once kept found answers told single (unfolded_once kept start hundred most raw found each once_raw apart));
       stopped = λ isnt unhalted.
-          let alone : length c.in_ok-worlds.worlds.worlds.places ≡ 1 = ap (λ (l : List Place). length l) c.in_ok-worlds.ensures.places in
+          let alone : length c.in_ok-worlds.worlds.places ≡ 1 = ap (λ (l : List Place). length l) c.in_ok-worlds.ensures.places in
           elim (c.are_both.ensures.neither isnt) [
             | inl stop ↦ inl (c.in_ok-found.ensures.stopped stop unhalted alone)
             | inr cut ↦
                 let out = c.in_ok-unfolded.ensures.left cut in
                 let left : IsLeftOut hundred most start raw out.0 = subst (λ (l : List Found). IsLeftOut hundred most start l out.0) same out.1 in
                 inr (subst (λ (l : List Answer). IsPastBound code k most l) is
-                (past_bound code k kept hundred most raw found answers out.0 told c.told.ensures.single each its once_raw apart left (out.2 apart_raw)))
+                (past_bound code k kept hundred most raw found answers out.0 told single each its once_raw apart left (out.2 apart_raw)))
           ];
       halted = first_of (search rules, grind (arith, common_steps));
       may = first_of (search rules, grind (arith, common_steps));
@@ -96,3 +100,18 @@ returns g c =
       lawful = first_of (search rules, grind (arith, common_steps));
       memory = first_of (search rules, grind (arith, common_steps));
     }
+
+pub returns-in_err-found-clause-memory : goal.returns-in_err-found-clause-memory
+returns-in_err-found-clause-memory g c =
+    let p = err_from_is_err_and c.from_residual-in_err-found.result c.from_residual-in_err-found.ensures.1 in
+    rw (p.1, p.2) refl
+
+pub returns-in_err-unfolded-clause-memory : goal.returns-in_err-unfolded-clause-memory
+returns-in_err-unfolded-clause-memory g c =
+    let p = err_from_is_err_and c.from_residual-in_err-unfolded.result c.from_residual-in_err-unfolded.ensures.1 in
+    rw (p.1, p.2) c.in_err-unfolded.ensures.memory
+
+pub returns-in_err-answers-clause-memory : goal.returns-in_err-answers-clause-memory
+returns-in_err-answers-clause-memory g c =
+    let p = err_from_is_err_and c.from_residual-in_err-answers.result c.from_residual-in_err-answers.ensures.1 in
+    rw (p.1, p.2) refl

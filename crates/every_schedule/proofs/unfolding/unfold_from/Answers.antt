@@ -1,9 +1,9 @@
 use Rattle.std.proofs.{Common.{◌≡◌, ℕ, ◌≤◌, [], get_or, List, length, Ok, Err, refl, sym, ap, ◌∙◌, subst, arith}, lemmas.List.{take_all, Folds.fold_stuck}}
 use Rattle.std.proofs.lemmas.List.Sums.{fold_more}
 use Rattle.world_search.{specs.{Lists.IsMore, Systems.{entered, run}}, proofs.Lists.more_same}
-use Rattle.every_schedule.specs.{Places.Place, Reduced.leapt, Private.{Numbered.{IsWorld, IsWorldOf, Numbers}, Standing.{IsOnward, here}, Trails.{IsLeapTrail, IsTrail, IsUnfolded}}}
+use Rattle.every_schedule.specs.{Places.Place, Persistent.chosen, Private.{Numbered.{IsWorld, IsWorldOf, Numbers}, Standing.{IsOnward, here}, Trails.{IsTrail, IsUnfolded}}}
 use Rattle.every_schedule.proofs.{Leaps.refused_with, Numbered.{fits_so, one_world}, Standing.{onward_none, onward_on}}
-use Rattle.every_schedule.proofs.Trails.{leap_trail, trail_more, trail_none, trail_whole}
+use Rattle.every_schedule.proofs.Trails.{trail_more, trail_none, trail_whole}
 use Rattle.fiber_frames.specs.Fiber.{Fiber}
 use Rattle.cell_registry.specs.Plain.{PlainView}
 use Rattle.every_schedule.proofs.unfolding.unfold_from.Goals as goal
@@ -19,8 +19,8 @@ loop-fiber-init c =
       trail = subst (λ (l : List ℕ). IsTrail [] l first (Ok first)) (sym c.new-trail.ensures.items) (trail_none [] first);
     }
 
-pub leap-requires : goal.leap-requires
-leap-requires c = c.loop-fiber.invariant.fits
+pub enter-requires : goal.enter-requires
+enter-requires c = c.loop-fiber.invariant.fits
 
 pub loop-fiber-preserved : goal.loop-fiber-preserved
 loop-fiber-preserved c =
@@ -29,13 +29,12 @@ loop-fiber-preserved c =
     let i = c.loop-fiber.fiber-index in
     let f = get_or c.args.schedule.now i 0 in
     record {
-      onward = onward_on c.go_to.new.self c.loop-fiber.current c.leap.new.current known.onward c.leap.ensures.onward;
+      onward = onward_on c.go_to.new.self c.loop-fiber.current c.enter.new.current known.onward c.enter.ensures.onward;
       fits = c.in-Ok.ensures.fits;
-      goes = fold_more (entered (leapt c.args.at_once)) (Ok first) c.args.schedule.now i 0 c.loop-fiber-test.true ∙
-          ap (λ x. entered (leapt c.args.at_once) x f) known.goes ∙ c.in-Ok.ensures.goes;
-      trail = trail_more [] c.loop-fiber.trail.items c.leap.new.trail.items first (here c.loop-fiber.current) (Ok (here c.leap.new.current)) known.trail
-          (leap_trail c.args.at_once c.loop-fiber.trail.items c.leap.new.trail.items (here c.loop-fiber.current) f (Ok (here c.leap.new.current))
-          c.in-Ok.ensures.trail c.in-Ok.ensures.goes);
+      goes = fold_more (entered (chosen c.args.at_once)) (Ok first) c.args.schedule.now i 0 c.loop-fiber-test.true ∙
+          ap (λ x. entered (chosen c.args.at_once) x f) known.goes ∙ c.in-Ok.ensures.goes;
+      trail = trail_more [] c.loop-fiber.trail.items c.enter.new.trail.items first (here c.loop-fiber.current) (Ok (here c.enter.new.current)) known.trail
+          c.in-Ok.ensures.trail;
     }
 
 pub returns-in-Err-clause-entries : goal.returns-in-Err-clause-entries
@@ -46,18 +45,17 @@ returns-in-Err-clause-entries c = λ p at.
     let i = c.loop-fiber.fiber-index in
     let f = get_or c.args.schedule.now i 0 in
     let fault = c.in-Err.fault in
-    let stops = refused_with fault ((leapt n (here c.loop-fiber.current) f ≡ Err fault) ×
-    IsLeapTrail n c.loop-fiber.trail.items c.leap.new.trail.items (here c.loop-fiber.current) f) (c.is_memory.ensures c.if-is_memory.false)
+    let stops = refused_with fault ((chosen n (here c.loop-fiber.current) f ≡ Err fault) ×
+    IsTrail c.loop-fiber.trail.items c.enter.new.trail.items (here c.loop-fiber.current) (Err fault)) (c.is_memory.ensures c.if-is_memory.false)
     c.in-Err.ensures.stops in
-    let led : run (leapt n) (Ok first) c.args.schedule.now ≡ Err fault =
-    sym (fold_stuck (entered (leapt n)) (Err fault) (λ g. refl) (Ok first) c.args.schedule.now i 0 c.loop-fiber-test.true
-    (ap (λ x. entered (leapt n) x f) known.goes ∙ stops.0)) in
+    let led : run (chosen n) (Ok first) c.args.schedule.now ≡ Err fault =
+    sym (fold_stuck (entered (chosen n)) (Err fault) (λ g. refl) (Ok first) c.args.schedule.now i 0 c.loop-fiber-test.true
+    (ap (λ x. entered (chosen n) x f) known.goes ∙ stops.0)) in
     let same : first ≡ p = one_world p.limits c.args.current.now.fibers c.args.current.now.registries
     (record { registry = c.args.registry; fibers = c.args.numbers.now }) p first at refl c.in_ok-go_to.ensures.here in
-    subst (λ (x : Place). IsUnfolded n x c.args.schedule.now c.leap.new.trail.items) same
-    (trail_whole n first c.args.schedule.now c.leap.new.trail.items (Err fault)
-    (trail_more [] c.loop-fiber.trail.items c.leap.new.trail.items first (here c.loop-fiber.current) (Err fault) known.trail
-    (leap_trail n c.loop-fiber.trail.items c.leap.new.trail.items (here c.loop-fiber.current) f (Err fault) stops.1 stops.0)) led)
+    subst (λ (x : Place). IsUnfolded n x c.args.schedule.now c.enter.new.trail.items) same
+    (trail_whole n first c.args.schedule.now c.enter.new.trail.items (Err fault)
+    (trail_more [] c.loop-fiber.trail.items c.enter.new.trail.items first (here c.loop-fiber.current) (Err fault) known.trail stops.1) led)
 
 pub returns-clause-entries : goal.returns-clause-entries
 returns-clause-entries c = λ p at.
@@ -65,8 +63,8 @@ returns-clause-entries c = λ p at.
     let n = c.args.at_once in
     let first = here c.go_to.new.self in
     let past : length c.args.schedule.now ≤ c.loop-fiber.fiber-index = omega arith in
-    let led : run (leapt n) (Ok first) c.args.schedule.now ≡ Ok (here c.loop-fiber.current) =
-    ap (run (leapt n) (Ok first)) (sym (take_all c.loop-fiber.fiber-index c.args.schedule.now past)) ∙ known.goes in
+    let led : run (chosen n) (Ok first) c.args.schedule.now ≡ Ok (here c.loop-fiber.current) =
+    ap (run (chosen n) (Ok first)) (sym (take_all c.loop-fiber.fiber-index c.args.schedule.now past)) ∙ known.goes in
     let same : first ≡ p = one_world p.limits c.args.current.now.fibers c.args.current.now.registries
     (record { registry = c.args.registry; fibers = c.args.numbers.now }) p first at refl c.in_ok-go_to.ensures.here in
     subst (λ (x : Place). IsUnfolded n x c.args.schedule.now c.loop-fiber.trail.items) same

@@ -7,5 +7,6 @@ returns c = record {
   wish = c.of.ensures ∙ ap wish_of c.ask.ensures.ask;
   waits = c.waits_alone.ensures;
   owned = c.owned_of.ensures;
+  weight = c.weight_of.ensures;
   uses = c.in_ok-uses.ensures c.args.fiber.now;
 }

@@ -19,6 +19,7 @@ returns-in-None-clause-known c =
       wish = c.requires.wish;
       waits = c.requires.waits;
       owned = c.requires.owned;
+      weight = c.requires.weight;
       uses = tell_set c.args.fiber.now c.args.self.now.uses.items c.args.what c.args.number (9 * c.from.result + c.code_of.result) c.uses-it.result place (omega arith) c.requires.uses
           c.uses-it.ensures.exact;
     }
