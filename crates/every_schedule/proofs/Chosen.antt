@@ -1,89 +1,21 @@
 -- The entries of persistent sets get as far as all entries.
-use Rattle.std.proofs.Common.{◌≡◌, ◌<◌, ◌≤◌, ℕ, zero, suc, nat_lt, Bool, true, false, not, ◌&&◌, ◌||◌, List, [], ◌∷◌, get_or, length, replicate, set}
-use Rattle.std.proofs.Common.{Option, Some, None, Result, Ok, Err, refl, sym, ap, ◌∙◌, subst, arith}
-use Rattle.std.specs.List.{slice_get}
-use Rattle.std.proofs.lemmas.List.{get_or-set_same, length-set}
+use Rattle.std.proofs.Common.{◌≡◌, ◌<◌, ◌≤◌, ℕ, zero, suc, Bool, true, false, not, ◌&&◌, ◌||◌, List, [], ◌∷◌, length}
+use Rattle.std.proofs.Common.{Option, Some, None, Result, Ok, Err, refl, ap, ◌∙◌, subst, arith}
 use Rattle.cell_registry.specs.declared.limits.RunError.{RunError}
-use Rattle.fiber_frames.specs.Fiber.{Fiber}
-use Rattle.scheduled_core.specs.Core.{World}
 use Rattle.world_search.specs.Chosen.{IsChosen, IsPart}
 use Rattle.world_search.specs.Chosen.IsChosen.{Part, Whole}
 use Rattle.world_search.specs.Free.{Reduces}
 use Rattle.world_search.proofs.Chosen as search
 use Rattle.every_schedule.specs.declared.leaping.AtOnce.{AtOnce}
-use Rattle.every_schedule.specs.declared.needs.Needs.{Needs}
-use Rattle.every_schedule.specs.Persistent.{best, chosen, chosen_if, depends_on, grown, in_set, is_better, is_entered, is_lighter, is_member, is_persistent}
-use Rattle.every_schedule.specs.Persistent.{is_ready_in, joined, joined_if, needs_at, pick, picked_by, seed_if, set_if, set_of, spread, weight_at}
+use Rattle.every_schedule.specs.Persistent.{best, chosen, chosen_if, in_set, is_entered, is_lighter, is_member, is_persistent}
+use Rattle.every_schedule.specs.Persistent.{pick, picked_by, set_if, set_of, weight_at}
 use Rattle.every_schedule.specs.Places.{Place, stepped}
 use Rattle.every_schedule.specs.Reduced.{IsMade, leapt}
 use Rattle.every_schedule.proofs.Apart.{Stands, apart, stands_now}
 use Rattle.every_schedule.proofs.EarlyMoves.{made_early}
 use Rattle.every_schedule.proofs.Leaps.{leaps, leapt_rests}
 use Rattle.every_schedule.proofs.OwnKept.{below_true, both_true}
-
--- ---- the set of a seed
-joined_many : (d : Needs) (i : ℕ) (bs : List Fiber) (s : List Bool) → length (joined d i bs s) ≡ length s
-joined_many d i [] s = refl
-joined_many d i (b ∷ bs) [] = refl
-joined_many d i (b ∷ bs) (t ∷ s) = ap suc (joined_many d (suc i) bs s)
-
-joined_keeps : (d : Needs) (i : ℕ) (bs : List Fiber) (s : List Bool) (k : ℕ) → in_set s k ≡ true → in_set (joined d i bs s) k ≡ true
-joined_keeps d i [] s k e = e
-joined_keeps d i (b ∷ bs) [] k e = e
-joined_keeps d i (b ∷ bs) (t ∷ s) zero e = ap (λ x. x || depends_on d i b) e
-joined_keeps d i (b ∷ bs) (t ∷ s) (suc k) e = joined_keeps d (suc i) bs s k e
-
-module _ (w : World) where
-  joined_if_many : (b : Bool) (f : ℕ) (s : List Bool) → length (joined_if b w f s) ≡ length s
-  joined_if_many true f s = joined_many (needs_at w f) 0 w.fibers s
-  joined_if_many false f s = refl
-
-  joined_if_keeps : (b : Bool) (f : ℕ) (s : List Bool) (k : ℕ) → in_set s k ≡ true → in_set (joined_if b w f s) k ≡ true
-  joined_if_keeps true f s k e = joined_keeps (needs_at w f) 0 w.fibers s k e
-  joined_if_keeps false f s k e = e
-
-  spread_many : (n : ℕ) (s : List Bool) → length (spread w n s) ≡ length s
-  unfolding spread
-  spread_many zero s = refl
-  spread_many (suc n) s = joined_if_many (in_set (spread w n s) n) n (spread w n s) ∙ spread_many n s
-
-  spread_keeps : (n : ℕ) (s : List Bool) (k : ℕ) → in_set s k ≡ true → in_set (spread w n s) k ≡ true
-  unfolding spread
-  spread_keeps zero s k e = e
-  spread_keeps (suc n) s k e = joined_if_keeps (in_set (spread w n s) n) n (spread w n s) k (spread_keeps n s k e)
-
-  grown_many : (n : ℕ) (s : List Bool) → length (grown n w s) ≡ length s
-  unfolding grown
-  grown_many zero s = refl
-  grown_many (suc n) s = grown_many n (spread w (length w.fibers) s) ∙ spread_many (length w.fibers) s
-
-  grown_keeps : (n : ℕ) (s : List Bool) (k : ℕ) → in_set s k ≡ true → in_set (grown n w s) k ≡ true
-  unfolding grown
-  grown_keeps zero s k e = e
-  grown_keeps (suc n) s k e = grown_keeps n (spread w (length w.fibers) s) k (spread_keeps (length w.fibers) s k e)
-
-  none_many : (n : ℕ) → length (replicate n false) ≡ n
-  none_many zero = refl
-  none_many (suc n) = ap suc (none_many n)
-
-  set_many : (seed : ℕ) → length (set_of w seed) ≡ length w.fibers
-  set_many seed = grown_many (length w.fibers) (set (replicate (length w.fibers) false) seed true)
-      ∙ length-set (replicate (length w.fibers) false) seed true ∙ none_many (length w.fibers)
-
-  seed_in : (seed : ℕ) → seed < length w.fibers → in_set (set_of w seed) seed ≡ true
-  seed_in seed low =
-      let many = none_many (length w.fibers) in
-      grown_keeps (length w.fibers) (set (replicate (length w.fibers) false) seed true) seed
-      (get_or-set_same (replicate (length w.fibers) false) seed true false (omega (arith, low, many)))
-
-  seed_low : (n seed : ℕ) (t : Bool) (before : Option ℕ) → (before ≡ Some seed → seed < n) → seed_if t n before ≡ Some seed → seed < suc n
-  seed_low n seed true before below e = let same : n ≡ seed = cc in omega (arith, same)
-  seed_low n seed false before below e = let low = below e in omega (arith, low)
-
-  best_low : (n seed : ℕ) → best w n ≡ Some seed → seed < n
-  unfolding best
-  best_low zero seed e = absurd (cc)
-  best_low (suc n) seed e = seed_low n seed (is_ready_in w (slice_get w.fibers n) && is_better w n (best w n)) (best w n) (best_low n seed) e
+use Rattle.every_schedule.proofs.Seeds.{best_low, seed_in, set_many}
 
 -- a flag of the set is that of a born fiber
 in_low : (s : List Bool) (f : ℕ) → in_set s f ≡ true → f < length s

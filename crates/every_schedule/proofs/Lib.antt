@@ -38,3 +38,4 @@ pub mod RefValues
 pub mod Prefixes
 pub mod Certified
 pub mod Sets
+pub mod Seeds

@@ -1,9 +1,11 @@
 -- Sets of fibers, and the choice of one, as the code finds them.
 use Rattle.std.proofs.Common.{◌≡◌, inl, inr, ℕ, zero, suc, ◌+◌, ◌<◌, ◌≤◌, nat_lt, Bool, true, false, not, ◌&&◌, ◌||◌}
-use Rattle.std.proofs.Common.{List, [], ◌∷◌, drop, length, get_or, set, Option, Some, None, refl, sym, ap, ap₂, ◌∙◌, subst, arith}
+use Rattle.std.proofs.Common.{List, [], ◌∷◌, ◌++◌, append_assoc, drop, take, length, get_or, set, Option, Some, None, refl, sym, ap, ap₂, ◌∙◌, subst, arith}
 use Rattle.std.specs.List.{slice_get}
 use Rattle.std.proofs.lemmas.Bool.{lt-ltb}
-use Rattle.std.proofs.lemmas.List.{at_drop_all, at_drop_more, drop_all, get_or-set_other, get_or-set_same, length-set}
+use Rattle.std.proofs.lemmas.List.{append-nil, drop_all, take_all}
+use Rattle.std.specs.declared.alloc.Global.{Global}
+use Rattle.std.specs.declared.vec.Vec.{Vec}
 use Rattle.std.proofs.lemmas.Option.{same_Some, slice_get_within}
 use mathlib.Core.Logic.{dite}
 use native.Mathlib.Decide.{ℕ_discrete}
@@ -24,9 +26,9 @@ use Rattle.scheduled_core.specs.Fitting.{AllFit, given_by}
 use Rattle.every_schedule.specs.declared.needs.Needs.{Needs}
 use Rattle.every_schedule.specs.declared.persistent.Seed.{Seed}
 use Rattle.every_schedule.specs.Persistent.{best, depends_on, grown, in_set, is_better, is_given, is_inside, is_making, is_ready_in, is_sound, joined, joined_if}
-use Rattle.every_schedule.specs.Persistent.{members, needs_at, needs_in, needs_of, needs_of_call, needs_one, needs_two, needs_unless, one_if}
+use Rattle.every_schedule.specs.Persistent.{members, needs_at, needs_in, needs_of, needs_of_call, needs_one, needs_two, needs_unless}
 use Rattle.every_schedule.specs.Persistent.{seed_if, set_of, spared, spread, stand, stands_in, stands_with, weights}
-use Rattle.every_schedule.specs.Private.Persistent.{IsBest, IsJoined, has_fewer, is_tried}
+use Rattle.every_schedule.specs.Private.Persistent.{AreRows, AreWide, IsBest, has_fewer, joined_by, row, row_at, spared_by}
 use Rattle.every_schedule.specs.Places.{Place}
 use Rattle.every_schedule.specs.Private.Numbered.{IsWorldOf}
 use Rattle.every_schedule.specs.Private.Standing.{IsOnward, Stand}
@@ -41,21 +43,15 @@ or_true : (t u : Bool) → u ≡ true → true ≡ t || u
 or_true true u e = refl
 or_true false u e = sym e
 
-or_not : (t u : Bool) → u ≡ false → t || not u ≡ true
-or_not true u e = refl
-or_not false u e = ap not e
+or_false : (t u : Bool) → u ≡ false → t || u ≡ t
+or_false true u e = refl
+or_false false u e = e
 
-or_same : (t u : Bool) → t || not u ≡ true → t || u ≡ t
-or_same true u e = refl
-or_same false true e = absurd (cc)
-or_same false false e = refl
+or_so : (t u : Bool) → t ≡ true → t || u ≡ t
+or_so true u e = refl
+or_so false u e = absurd (cc)
 
-keeps_or : (x y u : Bool) → x || u ≡ true → (x ≡ true → y ≡ true) → y || u ≡ true
-keeps_or true y u e h = ap (λ (z : Bool). z || u) (h refl)
-keeps_or false true u e h = refl
-keeps_or false false u e h = e
-
-and_false : (t : Bool) → t && false ≡ false
+pub and_false : (t : Bool) → t && false ≡ false
 and_false true = refl
 and_false false = refl
 
@@ -64,87 +60,93 @@ rest_suc [] i x e = absurd (cc)
 rest_suc (y ∷ xs) zero x e = ap (λ z. z ∷ xs) (same_Some y x e)
 rest_suc (y ∷ xs) (suc i) x e = rest_suc xs i x e
 
--- ---- fibers that join a set
-module _ (d : Needs) where
-  joined_set : (j : ℕ) (gs : List Fiber) (s : List Bool) (i : ℕ) (b : Fiber) → slice_get gs i ≡ Some b → depends_on d (j + i) b ≡ true →
-      joined d j gs (set s i true) ≡ joined d j gs s
-  joined_set j [] s i b at so = absurd (cc)
-  joined_set j (g ∷ gs) [] i b at so = refl
-  joined_set j (g ∷ gs) (t ∷ s) zero b at so =
-      let place : j ≡ j + 0 = omega arith in
-      let is : depends_on d j g ≡ true = ap (λ (x : Fiber). depends_on d j x) (same_Some g b at) ∙ ap (λ (k : ℕ). depends_on d k b) place ∙ so in
-      ap (λ (x : Bool). x ∷ joined d (suc j) gs s) (or_true t (depends_on d j g) is)
-  joined_set j (g ∷ gs) (t ∷ s) (suc i) b at so =
-      let place : suc j + i ≡ j + suc i = omega arith in
-      ap (λ (l : List Bool). (t || depends_on d j g) ∷ l) (joined_set (suc j) gs s i b at (ap (λ (k : ℕ). depends_on d k b) place ∙ so))
+-- ---- rows of flags
+row_many : (d : Needs) (i : ℕ) (bs : List Fiber) → length (row d i bs) ≡ length bs
+row_many d i [] = refl
+row_many d i (b ∷ bs) = ap suc (row_many d (suc i) bs)
 
-  joined_from : (j : ℕ) (gs : List Fiber) (s : List Bool) →
-      ((i : ℕ) (b : Fiber) → slice_get gs i ≡ Some b → in_set s i || not (depends_on d (j + i) b) ≡ true) →
-      length s ≡ length gs → joined d j gs s ≡ s
-  joined_from j [] s each many = refl
-  joined_from j (g ∷ gs) [] each many = refl
-  joined_from j (g ∷ gs) (t ∷ s) each many =
-      let place : j + 0 ≡ j = omega arith in
-      let first : t || not (depends_on d j g) ≡ true = ap (λ (k : ℕ). t || not (depends_on d k g)) (sym place) ∙ each 0 g refl in
-      let rest = joined_from (suc j) gs s
-      (λ i b at.
-      let next : suc j + i ≡ j + suc i = omega arith in
-      ap (λ (k : ℕ). in_set s i || not (depends_on d k b)) next ∙ each (suc i) b at)
-      (omega (arith, many)) in
-      ap (λ (x : Bool). x ∷ joined d (suc j) gs s) (or_same t (depends_on d j g) first) ∙ ap (λ (l : List Bool). t ∷ l) rest
+pub row_at_many : (w : World) (f : ℕ) → length (row_at w f) ≡ length w.fibers
+row_at_many w f = row_many (needs_at w f) 0 w.fibers
 
-  -- no further fiber joins once each was tried
-  pub all_joined : (gs : List Fiber) (s : List Bool) → ((i : ℕ) (b : Fiber) → slice_get gs i ≡ Some b → is_tried d i b s ≡ true) →
-      length s ≡ length gs → joined d 0 gs s ≡ s
-  all_joined gs s each many =
-      joined_from 0 gs s (λ i b at. let place : 0 + i ≡ i = omega arith in ap (λ (k : ℕ). in_set s i || not (depends_on d k b)) place ∙ each i b at) many
+-- the rows of a world are as wide as it has fibers
+pub rows_wide : (w : World) (rows : List (Vec Bool Global)) (n : ℕ) → AreRows w rows → n ≡ length w.fibers → AreWide rows n
+rows_wide w rows n are long = record {
+  many = are.many ∙ sym long;
+  each = λ f v at. ap length (are.each f v at) ∙ row_at_many w f ∙ sym long;
+}
 
-  module _ (i : ℕ) (gs : List Fiber) (s : List Bool) where
-    pub joins_before : in_set s i ≡ true → IsJoined d i gs s s
-    joins_before is = record { many = refl; same = refl; kept = λ k e. e; tried = λ b at. ap (λ (t : Bool). t || not (depends_on d i b)) is }
+-- one more fiber has its flag
+pub row_more : (d : Needs) (gs : List Fiber) (i : ℕ) (b : Fiber) (xs r : List Bool) (t : Bool) → slice_get gs i ≡ Some b → t ≡ depends_on d i b →
+    xs ++ row d i (drop i gs) ≡ r → (xs ++ t ∷ []) ++ row d (i + 1) (drop (i + 1) gs) ≡ r
+row_more d gs i b xs r t at is known =
+    let more : i + 1 ≡ suc i = omega arith in
+    append_assoc xs (t ∷ []) (row d (i + 1) (drop (i + 1) gs))
+    ∙ ap₂ (λ (u : Bool) (k : ℕ). xs ++ (u ∷ row d k (drop k gs))) is more
+    ∙ ap (λ (l : List Fiber). xs ++ row d i l) (sym (rest_suc gs i b at))
+    ∙ known
 
-    pub joins_not : ((b : Fiber) → slice_get gs i ≡ Some b → depends_on d i b ≡ false) → IsJoined d i gs s s
-    joins_not none = record { many = refl; same = refl; kept = λ k e. e; tried = λ b at. or_not (in_set s i) (depends_on d i b) (none b at) }
+-- the fibers of a row that join a set are those that the move depends on
+joined_row : (d : Needs) (i : ℕ) (bs : List Fiber) (s : List Bool) → joined_by (row d i bs) s ≡ joined d i bs s
+joined_row d i [] s = refl
+joined_row d i (b ∷ bs) [] = refl
+joined_row d i (b ∷ bs) (t ∷ s) = ap (λ (l : List Bool). (t || depends_on d i b) ∷ l) (joined_row d (suc i) bs s)
 
-    pub joins_now : (b : Fiber) → slice_get gs i ≡ Some b → i < length s → depends_on d i b ≡ true → IsJoined d i gs s (set s i true)
-    joins_now b at low so =
-        let here : in_set (set s i true) i ≡ true = get_or-set_same s i true false low in
-        let place : 0 + i ≡ i = omega arith in
-        record {
-          many = length-set s i true;
-          same = joined_set 0 gs s i b at (ap (λ (k : ℕ). depends_on d k b) place ∙ so);
-          kept = λ k e. dite (ℕ_discrete k i)
-              (λ is. ap (in_set (set s i true)) is ∙ here)
-              (λ isnt. get_or-set_other s i k true false isnt ∙ e);
-          tried = λ x there. ap (λ (t : Bool). t || not (depends_on d i x)) here;
-        }
+pub spared_row : (d : Needs) (s : List Bool) (i : ℕ) (bs : List Fiber) → spared_by s i (row d i bs) ≡ spared d s i bs
+spared_row d s i [] = refl
+spared_row d s i (b ∷ bs) = ap (λ (t : Bool). (in_set s i || not (depends_on d i b)) && t) (spared_row d s (suc i) bs)
 
-  -- one more fiber was tried
-  pub tried_more : (i : ℕ) (gs : List Fiber) (s t : List Bool) → IsJoined d i gs s t →
-      ((k : ℕ) (b : Fiber) → k < i → slice_get gs k ≡ Some b → is_tried d k b s ≡ true) →
-      (k : ℕ) (b : Fiber) → k < i + 1 → slice_get gs k ≡ Some b → is_tried d k b t ≡ true
-  tried_more i gs s t joins before k b low at = dite (ℕ_discrete k i)
-      (λ is. subst (λ (x : ℕ). is_tried d x b t ≡ true) (sym is) (joins.tried b (subst (λ (x : ℕ). slice_get gs x ≡ Some b) is at)))
-      (λ isnt. keeps_or (in_set s k) (in_set t k) (not (depends_on d k b)) (before k b (omega arith) at) (joins.kept k))
+-- a row of a world is that of its fiber
+pub row_joined : (w : World) (rows : List (Vec Bool Global)) (f : ℕ) (v : Vec Bool Global) (s : List Bool) → AreRows w rows → slice_get rows f ≡ Some v →
+    joined_by v.items s ≡ joined (needs_at w f) 0 w.fibers s
+row_joined w rows f v s are at = ap (λ (l : List Bool). joined_by l s) (are.each f v at) ∙ joined_row (needs_at w f) 0 w.fibers s
 
-  -- a move depends on no fiber outside the set
-  module _ (s : List Bool) (gs : List Fiber) (i : ℕ) where
-    abbrev left : ℕ → Bool
-    left j = spared d s j (drop j gs)
+-- one more fiber of a row joins, or doesn't
+join_on : (row s : List Bool) (i : ℕ) → i < length row → i < length s → get_or row i false ≡ true →
+    joined_by (take (suc i) row) s ≡ set (joined_by (take i row) s) i true
+join_on [] s i low within e = absurd (cc)
+join_on (r ∷ row) [] i low within e = absurd (omega arith)
+join_on (r ∷ row) (t ∷ s) zero low within e = ap (λ (x : Bool). x ∷ s) (sym (or_true t r e))
+join_on (r ∷ row) (t ∷ s) (suc i) low within e = ap (λ (l : List Bool). (t || r) ∷ l) (join_on row s i (omega arith) (omega arith) e)
 
-    turn : (b : Fiber) → slice_get gs i ≡ Some b → left i ≡ is_tried d i b s && left (suc i)
-    turn b at = ap (spared d s i) (rest_suc gs i b at)
+join_off : (row s : List Bool) (i : ℕ) → get_or row i false ≡ false → joined_by (take (suc i) row) s ≡ joined_by (take i row) s
+join_off [] s zero e = refl
+join_off [] s (suc i) e = refl
+join_off (r ∷ row) [] zero e = refl
+join_off (r ∷ row) [] (suc i) e = refl
+join_off (r ∷ row) (t ∷ s) zero e = ap (λ (x : Bool). x ∷ s) (or_false t r e)
+join_off (r ∷ row) (t ∷ s) (suc i) e = ap (λ (l : List Bool). (t || r) ∷ l) (join_off row s i e)
 
-    pub one_spared : (b : Fiber) → slice_get gs i ≡ Some b → is_tried d i b s ≡ true → left i ≡ left (i + 1)
-    one_spared b at so = turn b at ∙ ap (λ (t : Bool). t && left (suc i)) so ∙ (let e : suc i ≡ i + 1 = omega arith in ap left e)
+join_in : (row s : List Bool) (i : ℕ) → get_or (joined_by (take i row) s) i false ≡ true → joined_by (take (suc i) row) s ≡ joined_by (take i row) s
+join_in [] s zero e = refl
+join_in [] s (suc i) e = refl
+join_in (r ∷ row) [] zero e = refl
+join_in (r ∷ row) [] (suc i) e = refl
+join_in (r ∷ row) (t ∷ s) zero e = ap (λ (x : Bool). x ∷ s) (or_so t r e)
+join_in (r ∷ row) (t ∷ s) (suc i) e = ap (λ (l : List Bool). (t || r) ∷ l) (join_in row s i e)
 
-    pub one_unspared : (b : Fiber) → slice_get gs i ≡ Some b → is_tried d i b s ≡ false → left i ≡ false
-    one_unspared b at none = turn b at ∙ ap (λ (t : Bool). t && left (suc i)) none
+module _ (row s : List Bool) (i : ℕ) (u : List Bool) (was : u ≡ joined_by (take i row) s) where
+  more : suc i ≡ i + 1
+  more = omega arith
 
-    pub none_unspared : length gs ≤ i → left i ≡ true
-    none_unspared past = ap (spared d s i) (drop_all i gs past)
+  pub joins_now : i < length row → length row ≡ length s → get_or row i false ≡ true → set u i true ≡ joined_by (take (i + 1) row) s
+  joins_now low many e =
+      ap (λ (l : List Bool). set l i true) was ∙ sym (join_on row s i low (omega (arith, low, many)) e) ∙ ap (λ (k : ℕ). joined_by (take k row) s) more
+
+  pub joins_not : get_or row i false ≡ false → u ≡ joined_by (take (i + 1) row) s
+  joins_not e = was ∙ sym (join_off row s i e) ∙ ap (λ (k : ℕ). joined_by (take k row) s) more
+
+  pub joins_before : get_or u i false ≡ true → u ≡ joined_by (take (i + 1) row) s
+  joins_before e =
+      was ∙ sym (join_in row s i (ap (λ (l : List Bool). get_or l i false) (sym was) ∙ e)) ∙ ap (λ (k : ℕ). joined_by (take k row) s) more
 
 -- ---- sets that grow
+-- what was written to all of a list's items
+pub written_back : (n : ℕ) (new old : List Bool) → n ≡ length old → length new ≡ length old → take n (new ++ drop (length new) old) ≡ new
+written_back n new old is many =
+    ap (λ (l : List Bool). take n (new ++ l)) (drop_all (length new) old (omega (arith, many)))
+    ∙ ap (take n) (append-nil new)
+    ∙ take_all n new (omega (arith, is, many))
+
 module _ (w : World) where
   pub spread_none : (s : List Bool) → spread w 0 s ≡ s
   unfolding spread
@@ -178,7 +180,7 @@ module _ (w : World) where
 
 -- ---- the choice of a seed
 module _ (w : World) where
-  pub best_none : best w 0 ≡ None
+  best_none : best w 0 ≡ None
   unfolding best
   best_none = refl
 
@@ -186,14 +188,10 @@ module _ (w : World) where
   unfolding best
   best_suc n = refl
 
-  best_next : (n : ℕ) (t : Bool) → is_ready_in w (slice_get w.fibers n) && is_better w n (best w n) ≡ t → best w (n + 1) ≡ seed_if t n (best w n)
+  pub best_next : (n : ℕ) (t : Bool) → is_ready_in w (slice_get w.fibers n) && is_better w n (best w n) ≡ t → best w (n + 1) ≡ seed_if t n (best w n)
   best_next n t e =
       let more : n + 1 ≡ suc n = omega arith in
       ap (best w) more ∙ best_suc n ∙ ap (λ (b : Bool). seed_if b n (best w n)) e
-
-  none_best : (o : Option ℕ) → IsBest w o None → o ≡ None
-  none_best None h = refl
-  none_best (Some f) h = absurd h
 
   -- the first seeds have none before them
   pub best_first : IsBest w (best w 0) None
@@ -204,7 +202,7 @@ module _ (w : World) where
   best_waits n s waits h =
       subst (λ (o : Option ℕ). IsBest w o s) (sym (best_next n false (ap (λ (t : Bool). t && is_better w n (best w n)) waits))) h
 
-  better_by : (n : ℕ) (o : Option ℕ) (m : ℕ) (s : Option Seed) → m ≡ members (set_of w n) → IsBest w o s → is_better w n o ≡ has_fewer m s
+  pub better_by : (n : ℕ) (o : Option ℕ) (m : ℕ) (s : Option Seed) → m ≡ members (set_of w n) → IsBest w o s → is_better w n o ≡ has_fewer m s
   better_by n None m None e h = refl
   better_by n None m (Some s) e h = absurd h
   better_by n (Some f) m None e h = absurd h
@@ -223,11 +221,6 @@ module _ (w : World) where
     best_replaced x fiber is size long fewer =
         subst (λ (o : Option ℕ). IsBest w o (Some x)) (sym (best_next n true (both ∙ fewer)))
         record { fiber = fiber; set = is; many = size ∙ many; long = long }
-
-  -- the set of a seed has a flag for each fiber
-  pub seed_long : (o : Option ℕ) (s : Seed) → IsBest w o (Some s) → length s.set.items ≡ length w.fibers
-  seed_long None s h = absurd h
-  seed_long (Some f) s h = h.long
 
   -- ---- what is checked of a set
   module _ (s : List Bool) where
@@ -254,13 +247,6 @@ module _ (w : World) where
         stand_suc m ∙ dite (ℕ_discrete n m)
         (λ is. ap (λ (t : Bool). t && stand w s m) (ap stands_at (sym is) ∙ out))
         (λ isnt. ap (λ (t : Bool). stands_at m && t) (stand_fails n m (omega arith) out) ∙ and_false (stands_at m))
-
--- ---- how many are in a set
-pub members_more : (s : List Bool) (i : ℕ) → i < length s → members (drop i s) ≡ one_if (get_or s i false) + members (drop (i + 1) s)
-members_more s i low = at_drop_more members s i false low
-
-pub members_none : (s : List Bool) (i : ℕ) → length s ≤ i → members (drop i s) ≡ 0
-members_none s i past = at_drop_all members s i past
 
 -- ---- how much fibers still have to run
 pub weights_more : (gs : List Fiber) (i : ℕ) (g : Fiber) → slice_get gs i ≡ Some g → weights (drop i gs) ≡ weight_of g + weights (drop (i + 1) gs)
@@ -333,9 +319,6 @@ module _ (w : World) where
   module _ (fits : AllFit w) (s : List Bool) (f : ℕ) (g : Fiber) (at : slice_get w.fibers f ≡ Some g) where
     stands_so : stands_in w s f (slice_get w.fibers f) ≡ is_sound w f (wish_of (ask_of g)) && stands_with (needs_of w f (wish_of (ask_of g))) w s
     stands_so = ap (stands_in w s f) at
-
-    pub stands_unsound : is_sound w f (wish_of (ask_of g)) ≡ false → stands_in w s f (slice_get w.fibers f) ≡ false
-    stands_unsound e = stands_so ∙ ap (λ (t : Bool). t && stands_with (needs_of w f (wish_of (ask_of g))) w s) e
 
     pub stands_spared : is_sound w f (wish_of (ask_of g)) ≡ true →
         stands_in w s f (slice_get w.fibers f) ≡ is_inside s (needs_at w f).fiber && spared (needs_at w f) s 0 w.fibers

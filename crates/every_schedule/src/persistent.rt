@@ -1,23 +1,24 @@
 //! Persistent sets: the fibers whose entries are made at a world.
-ghost use Rattle.std.specs.Prelude.{◌≡◌, ◌<◌, ◌≤◌, ◌+◌, ◌||◌, not, false, true, Bool, List, Option, length};
-ghost use Rattle.std.specs.Prelude.{IfOk, OnOk, Some};
+ghost use Rattle.std.specs.Prelude.{◌≡◌, ◌<◌, ◌≤◌, ◌+◌, ◌&&◌, ◌||◌, not, false, true, Bool, List, Option, length};
+ghost use Rattle.std.specs.Prelude.{IfOk, OnOk};
 ghost use Rattle.std.specs.List.{slice_get};
+ghost use Rattle.scheduled_core.specs.Core.{World};
 ghost use Rattle.scheduled_core.specs.Fitting.{AllFit};
-ghost use Rattle.fiber_frames.specs.Fiber.{Fiber};
 ghost use Rattle.every_schedule.specs.Persistent.{best as the_best, in_set, is_lighter as the_lightness};
-ghost use Rattle.every_schedule.specs.Persistent.{is_persistent as the_persistence, joined, joined_if};
+ghost use Rattle.every_schedule.specs.Persistent.{is_persistent as the_persistence, joined_if};
 ghost use Rattle.every_schedule.specs.Persistent.{is_entered as the_entered, is_inside as the_inside};
 ghost use Rattle.every_schedule.specs.Persistent.{is_member as the_member};
 ghost use Rattle.every_schedule.specs.Persistent.{members as the_members, one_if as the_count};
-ghost use Rattle.every_schedule.specs.Persistent.{pick as the_pick, set_of as the_set, spared, spread};
+ghost use Rattle.every_schedule.specs.Persistent.{grown, pick as the_pick, set_of as the_set, spread};
 ghost use Rattle.every_schedule.specs.Persistent.{stands_in, weight_at};
 ghost use Rattle.every_schedule.specs.Reduced.{leapt};
-ghost use Rattle.every_schedule.specs.Private.Persistent.{IsBest, IsJoined, IsSet, has_fewer, is_tried};
+ghost use Rattle.every_schedule.specs.Private.Persistent.{AreRows, AreWide, IsBest, IsSet, has_fewer, joined_by};
+ghost use Rattle.every_schedule.specs.Private.Persistent.{row_at, spared_by};
 ghost use Rattle.every_schedule.specs.Private.Standing.{IsOnward, IsSame, here};
 
 use crate::current::Current;
 use crate::leaping::{AtOnce, few_born, is_memory, leap};
-use crate::needs::{Needs, depends_on, is_ready_at, is_sound, needs_of};
+use crate::needs::{depends_on, is_ready_at, is_sound, needs_of};
 use std::alloc::{AllocError, Global};
 
 /// A seed, its set, and how many fibers are in the set.
@@ -28,55 +29,64 @@ pub(crate) struct Seed {
     pub(crate) many: usize,
 }
 
-// Those fibers join the set on which a move with these needs depends. Returns whether any joined.
-fn join(current: &mut Current, needs: Needs, set: &mut Vec<bool>) -> bool
-    requires many { length set.old.items ≡ length (here current.old).world.fibers }
+// Returns a row for each fiber: the flags of the fibers on which its next move depends.
+fn rows_of(alloc: Global, current: &mut Current) -> Result<Vec<Vec<bool>>, AllocError>
     requires fits { AllFit (here current.old).world }
     ensures same { IsSame current.old current.new }
-    ensures joined { set.new.items ≡ joined needs 0 (here current.old).world.fibers set.old.items }
-    ensures many { length set.new.items ≡ length set.old.items }
-    ensures stays { result ≡ false → set.new.items ≡ set.old.items }
+    ensures rows { IfOk result (λ it. AreRows (here current.old).world it.items) }
+{
+    let many = few_born(&*current);
+    let mut rows = Vec::with_capacity(alloc, many)?;
+    for place in 0..many {
+        let row = row_of(alloc, &mut *current, place as u16)?;
+        rows.push(row)?;
+    }
+    Ok(rows)
+}
+
+// Returns the flags of the fibers on which the next move of a fiber depends.
+fn row_of(alloc: Global, current: &mut Current, fiber: u16) -> Result<Vec<bool>, AllocError>
+    requires born { fiber < length (here current.old).world.fibers }
+    requires within { fiber < (here current.old).limits.fibers }
+    requires fits { AllFit (here current.old).world }
+    ensures same { IsSame current.old current.new }
+    ensures row { IfOk result (λ it. it.items ≡ row_at (here current.old).world fiber) }
+{
+    let needs = needs_of(&*current, fiber);
+    let many = current.born();
+    let mut row = Vec::with_capacity(alloc, many)?;
+    for place in 0..many {
+        let depends = depends_on(&mut *current, needs, place);
+        row.push(depends)?;
+    }
+    Ok(row)
+}
+
+// The fibers of these flags join the set. Returns whether any joined.
+fn join(row: &[bool], set: &mut [bool]) -> bool
+    requires many { length row.now ≡ length set.old }
+    ensures joined { set.new ≡ joined_by row.now set.old }
+    ensures stays { result ≡ false → set.new ≡ set.old }
 {
     let mut any = false;
-    for place in 0..current.born() {
-        let joins = join_one(&mut *current, needs, place, &mut *set);
-        any = either(any, joins);
+    for place in 0..row.len() {
+        if row[place] && !set[place] {
+            set[place] = true;
+            any = true;
+        }
     }
     any
 }
 
-// The fiber at this place joins the set if a move with these needs depends on it. Returns whether it joined.
-fn join_one(current: &mut Current, needs: Needs, place: usize, set: &mut Vec<bool>) -> bool
-    requires place { place < length (here current.old).world.fibers }
-    requires many { length set.old.items ≡ length (here current.old).world.fibers }
-    requires fits { AllFit (here current.old).world }
-    ensures same { IsSame current.old current.new }
-    ensures joins { IsJoined needs place (here current.old).world.fibers set.old.items set.new.items }
-    ensures stays { result ≡ false → set.new.items ≡ set.old.items }
-{
-    if set[place] {
-        return false;
-    }
-    if !depends_on(current, needs, place) {
-        return false;
-    }
-    set[place] = true;
-    true
-}
-
 // For each fiber of the set, those join that its next move depends on. Returns whether any joined.
-fn spread_once(current: &mut Current, set: &mut Vec<bool>) -> bool
-    requires many { length set.old.items ≡ length (here current.old).world.fibers }
-    requires fits { AllFit (here current.old).world }
-    ensures same { IsSame current.old current.new }
-    ensures spread { set.new.items ≡
-        spread (here current.old).world (length (here current.old).world.fibers) set.old.items }
-    ensures many { length set.new.items ≡ length set.old.items }
-    ensures stays { result ≡ false → set.new.items ≡ set.old.items }
+fn spread_once(rows: &[Vec<bool>], set: &mut [bool]) -> bool
+    requires wide { AreWide rows.now (length set.old) }
+    ensures spread { (w : World) → AreRows w rows.now → set.new ≡ spread w (length w.fibers) set.old }
+    ensures stays { result ≡ false → set.new ≡ set.old }
 {
     let mut any = false;
-    for place in 0..few_born(&*current) {
-        let joined = join_of(&mut *current, place as u16, &mut *set);
+    for place in 0..rows.len() {
+        let joined = join_of(rows, place, &mut *set);
         any = either(any, joined);
     }
     any
@@ -89,42 +99,43 @@ fn either(one: bool, other: bool) -> bool
     one || other
 }
 
-// If the fiber is in the set, those join that its next move depends on. Returns whether any joined.
-fn join_of(current: &mut Current, fiber: u16, set: &mut Vec<bool>) -> bool
-    requires born { fiber < length (here current.old).world.fibers }
-    requires within { fiber < (here current.old).limits.fibers }
-    requires many { length set.old.items ≡ length (here current.old).world.fibers }
-    requires fits { AllFit (here current.old).world }
-    ensures same { IsSame current.old current.new }
-    ensures joined { set.new.items ≡
-        joined_if (in_set set.old.items fiber) (here current.old).world fiber set.old.items }
-    ensures many { length set.new.items ≡ length set.old.items }
-    ensures stays { result ≡ false → set.new.items ≡ set.old.items }
+// If the fiber at this place is in the set, those join that its next move depends on. Returns whether any joined.
+fn join_of(rows: &[Vec<bool>], place: usize, set: &mut [bool]) -> bool
+    requires place { place < length rows.now }
+    requires wide { AreWide rows.now (length set.old) }
+    ensures joined { (w : World) → AreRows w rows.now →
+        set.new ≡ joined_if (in_set set.old place) w place set.old }
+    ensures stays { result ≡ false → set.new ≡ set.old }
 {
-    if !set[usize::from(fiber)] {
+    if !set[place] {
         return false;
     }
-    let needs = needs_of(&*current, fiber);
-    join(current, needs, set)
+    join(rows[place].as_slice(), set)
+}
+
+// The set grows by what the next moves of its fibers depend on, and so on.
+fn grow(rows: &[Vec<bool>], set: &mut [bool])
+    requires { AreWide rows.now (length set.old) }
+    ensures { (w : World) → AreRows w rows.now → set.new ≡ grown (length rows.now) w set.old }
+{
+    for _again in 0..rows.len() {
+        let joined = spread_once(rows, &mut *set);
+        if !joined {
+            return;
+        }
+    }
 }
 
 // Returns the set of a seed.
-fn set_of(alloc: Global, current: &mut Current, seed: usize) -> Result<Vec<bool>, AllocError>
-    requires seed { seed < length (here current.old).world.fibers }
-    requires fits { AllFit (here current.old).world }
-    ensures same { IsSame current.old current.new }
-    ensures set { IfOk result (λ it. it.items ≡ the_set (here current.old).world seed) }
-    ensures many { IfOk result (λ it. length it.items ≡ length (here current.old).world.fibers) }
+fn set_of(alloc: Global, rows: &[Vec<bool>], seed: usize) -> Result<Vec<bool>, AllocError>
+    requires seed { seed < length rows.now }
+    requires wide { AreWide rows.now (length rows.now) }
+    ensures set { IfOk result (λ it. (w : World) → AreRows w rows.now → it.items ≡ the_set w seed) }
+    ensures many { IfOk result (λ it. length it.items ≡ length rows.now) }
 {
-    let many = current.born();
-    let mut set = vec![in alloc; false; many]?;
+    let mut set = vec![in alloc; false; rows.len()]?;
     set[seed] = true;
-    for _again in 0..many {
-        let joined = spread_once(&mut *current, &mut set);
-        if !joined {
-            return Ok(set);
-        }
-    }
+    grow(rows, set.as_mut_slice());
     Ok(set)
 }
 
@@ -147,16 +158,20 @@ fn one_if(within: bool) -> usize
     if within { 1 } else { 0 }
 }
 
-// Returns the first seed that is ready and whose set is smallest, if a fiber is ready.
-fn best(alloc: Global, current: &mut Current) -> Result<Option<Seed>, AllocError>
-    requires fits { AllFit (here current.old).world }
-    ensures same { IsSame current.old current.new }
-    ensures best { IfOk result (λ it. IsBest (here current.old).world
-        (the_best (here current.old).world (length (here current.old).world.fibers)) it) }
+// Returns the first seed that is ready and whose set is smallest, if a fiber is ready. No set is smaller than one of one
+// fiber.
+fn best(alloc: Global, current: &Current, rows: &[Vec<bool>]) -> Result<Option<Seed>, AllocError>
+    requires fits { AllFit (here current.now).world }
+    requires rows { AreRows (here current.now).world rows.now }
+    ensures { IfOk result (λ it. IsBest (here current.now).world
+        (the_best (here current.now).world (length (here current.now).world.fibers)) it) }
 {
     let mut best = None;
-    for place in 0..few_born(&*current) {
-        best = better(alloc, &mut *current, place as u16, best)?;
+    for place in 0..few_born(current) {
+        if !is_fewer(1, &best) {
+            return Ok(best);
+        }
+        best = better(alloc, current, rows, place as u16, best)?;
     }
     Ok(best)
 }
@@ -164,22 +179,23 @@ fn best(alloc: Global, current: &mut Current) -> Result<Option<Seed>, AllocError
 // Returns this fiber as the seed if it is ready and its set is smaller than that of `best`, or else `best`.
 fn better(
     alloc: Global,
-    current: &mut Current,
+    current: &Current,
+    rows: &[Vec<bool>],
     fiber: u16,
     best: Option<Seed>,
 ) -> Result<Option<Seed>, AllocError>
-    requires born { fiber < length (here current.old).world.fibers }
-    requires fits { AllFit (here current.old).world }
-    requires best { IsBest (here current.old).world (the_best (here current.old).world fiber) best }
-    ensures same { IsSame current.old current.new }
-    ensures best { IfOk result (λ it. IsBest (here current.old).world
-        (the_best (here current.old).world (fiber + 1)) it) }
+    requires born { fiber < length (here current.now).world.fibers }
+    requires fits { AllFit (here current.now).world }
+    requires rows { AreRows (here current.now).world rows.now }
+    requires best { IsBest (here current.now).world (the_best (here current.now).world fiber) best }
+    ensures { IfOk result (λ it. IsBest (here current.now).world
+        (the_best (here current.now).world (fiber + 1)) it) }
 {
     let place = usize::from(fiber);
-    if !is_ready_at(&*current, place) {
+    if !is_ready_at(current, place) {
         return Ok(best);
     }
-    let set = set_of(alloc, current, place)?;
+    let set = set_of(alloc, rows, place)?;
     let many = members(set.as_slice());
     if !is_fewer(many, &best) {
         return Ok(best);
@@ -197,55 +213,37 @@ fn is_fewer(many: usize, best: &Option<Seed>) -> bool
     }
 }
 
-// Whether a move with these needs depends on no fiber outside the set.
-fn are_spared(current: &mut Current, needs: Needs, set: &[bool]) -> bool
-    requires many { length set.now ≡ length (here current.old).world.fibers }
-    requires fits { AllFit (here current.old).world }
-    ensures same { IsSame current.old current.new }
-    ensures spared { result ≡ spared needs set.now 0 (here current.old).world.fibers }
+// Whether all fibers of these flags are in the set.
+fn are_spared(row: &[bool], set: &[bool]) -> bool
+    requires many { length row.now ≡ length set.now }
+    ensures { result ≡ spared_by set.now 0 row.now }
 {
-    for place in 0..current.born() {
-        let spared = is_spared(&mut *current, needs, place, set);
-        if !spared {
+    for place in 0..row.len() {
+        if row[place] && !set[place] {
             return false;
         }
     }
     true
 }
 
-// Whether the fiber at this place is in the set, or a move with these needs doesn't depend on it.
-fn is_spared(current: &mut Current, needs: Needs, place: usize, set: &[bool]) -> bool
-    requires place { place < length (here current.old).world.fibers }
-    requires many { length set.now ≡ length (here current.old).world.fibers }
-    requires fits { AllFit (here current.old).world }
-    ensures same { IsSame current.old current.new }
-    ensures spared { (g : Fiber) → slice_get (here current.old).world.fibers place ≡ Some g →
-        result ≡ is_tried needs place g set.now }
+// Whether the next move of a fiber, which depends on the fibers of these flags, depends on no fiber outside the set.
+fn stands(current: &Current, fiber: u16, row: &[bool], set: &[bool]) -> bool
+    requires born { fiber < length (here current.now).world.fibers }
+    requires within { fiber < (here current.now).limits.fibers }
+    requires fits { AllFit (here current.now).world }
+    requires row { row.now ≡ row_at (here current.now).world fiber }
+    requires many { length set.now ≡ length (here current.now).world.fibers }
+    ensures { result ≡
+        stands_in (here current.now).world set.now fiber (slice_get (here current.now).world.fibers fiber) }
 {
-    if set[place] {
-        return true;
-    }
-    !depends_on(current, needs, place)
-}
-
-// Whether the next move of a fiber depends on no fiber outside the set.
-fn stands(current: &mut Current, fiber: u16, set: &[bool]) -> bool
-    requires born { fiber < length (here current.old).world.fibers }
-    requires within { fiber < (here current.old).limits.fibers }
-    requires many { length set.now ≡ length (here current.old).world.fibers }
-    requires fits { AllFit (here current.old).world }
-    ensures same { IsSame current.old current.new }
-    ensures stands { result ≡
-        stands_in (here current.old).world set.now fiber (slice_get (here current.old).world.fibers fiber) }
-{
-    if !is_sound(&*current, fiber) {
+    if !is_sound(current, fiber) {
         return false;
     }
-    let needs = needs_of(&*current, fiber);
+    let needs = needs_of(current, fiber);
     if !is_inside(set, needs.fiber) {
         return false;
     }
-    are_spared(current, needs, set)
+    are_spared(row, set)
 }
 
 // Whether the fiber of this number is in the set, if there is one.
@@ -262,14 +260,14 @@ fn is_inside(set: &[bool], fiber: Option<u16>) -> bool
 }
 
 // Whether the next move of each fiber of the set depends on no fiber outside the set.
-fn is_persistent(current: &mut Current, set: &[bool]) -> bool
-    requires many { length set.now ≡ length (here current.old).world.fibers }
-    requires fits { AllFit (here current.old).world }
-    ensures same { IsSame current.old current.new }
-    ensures persistent { result ≡ the_persistence (here current.old).world set.now }
+fn is_persistent(current: &Current, rows: &[Vec<bool>], set: &[bool]) -> bool
+    requires fits { AllFit (here current.now).world }
+    requires rows { AreRows (here current.now).world rows.now }
+    requires many { length set.now ≡ length (here current.now).world.fibers }
+    ensures { result ≡ the_persistence (here current.now).world set.now }
 {
-    for place in 0..few_born(&*current) {
-        let stands = stands_if_in(&mut *current, place as u16, set);
+    for place in 0..few_born(current) {
+        let stands = stands_if_in(current, rows, place as u16, set);
         if !stands {
             return false;
         }
@@ -278,19 +276,20 @@ fn is_persistent(current: &mut Current, set: &[bool]) -> bool
 }
 
 // Whether a fiber isn't in the set, or its next move depends on no fiber outside the set.
-fn stands_if_in(current: &mut Current, fiber: u16, set: &[bool]) -> bool
-    requires born { fiber < length (here current.old).world.fibers }
-    requires within { fiber < (here current.old).limits.fibers }
-    requires many { length set.now ≡ length (here current.old).world.fibers }
-    requires fits { AllFit (here current.old).world }
-    ensures same { IsSame current.old current.new }
-    ensures stands { result ≡ (not (in_set set.now fiber)
-        || stands_in (here current.old).world set.now fiber (slice_get (here current.old).world.fibers fiber)) }
+fn stands_if_in(current: &Current, rows: &[Vec<bool>], fiber: u16, set: &[bool]) -> bool
+    requires born { fiber < length (here current.now).world.fibers }
+    requires within { fiber < (here current.now).limits.fibers }
+    requires fits { AllFit (here current.now).world }
+    requires rows { AreRows (here current.now).world rows.now }
+    requires many { length set.now ≡ length (here current.now).world.fibers }
+    ensures { result ≡ (not (in_set set.now fiber)
+        || stands_in (here current.now).world set.now fiber (slice_get (here current.now).world.fibers fiber)) }
 {
-    if !set[usize::from(fiber)] {
+    let place = usize::from(fiber);
+    if !set[place] {
         return true;
     }
-    stands(current, fiber, set)
+    stands(current, fiber, rows[place].as_slice(), set)
 }
 
 // Whether the entry of a fiber, and the own moves after it, lead to a world that weighs less than `most`.
@@ -366,8 +365,17 @@ pub(crate) fn is_entered(
     if !at_once.chosen {
         return Ok(true);
     }
-    let set = pick(alloc, current, at_once)?;
-    Ok(is_member(&set, fiber))
+    let rows = rows_of(alloc, &mut *current)?;
+    let seed = match best(alloc, &*current, rows.as_slice())? {
+        None => return Ok(true),
+        Some(seed) => seed,
+    };
+    // If this set isn't chosen, the entries of all fibers are made.
+    if is_inside(seed.set.as_slice(), Some(fiber)) {
+        return Ok(true);
+    }
+    let chosen = is_chosen(alloc, current, rows.as_slice(), &seed, at_once)?;
+    Ok(!chosen)
 }
 
 /// Returns the fibers whose entries are made at this world, or `None` if those of all fibers are. The entries of all
@@ -383,16 +391,37 @@ pub(crate) fn pick(
     ensures here { OnOk result (here current.new ≡ here current.old) }
     ensures picked { IfOk result (λ it. IsSet (the_pick at_once (here current.old)) it) }
 {
-    let seed = match best(alloc, &mut *current)? {
+    let rows = rows_of(alloc, &mut *current)?;
+    let seed = match best(alloc, &*current, rows.as_slice())? {
         None => return Ok(None),
         Some(seed) => seed,
     };
-    if !is_persistent(&mut *current, seed.set.as_slice()) {
-        return Ok(None);
-    }
-    if !leads_down(alloc, current, seed.fiber, at_once)? {
+    if !is_chosen(alloc, current, rows.as_slice(), &seed, at_once)? {
         return Ok(None);
     }
     let Seed { set, .. } = seed;
     Ok(Some(set))
+}
+
+// Whether the set of a seed is chosen: the next moves of its fibers depend on no other fiber, and that of the seed leads
+// to a world that weighs less. Goes back to this world.
+fn is_chosen(
+    alloc: Global,
+    current: &mut Current,
+    rows: &[Vec<bool>],
+    seed: &Seed,
+    at_once: AtOnce,
+) -> Result<bool, AllocError>
+    requires fits { AllFit (here current.old).world }
+    requires rows { AreRows (here current.old).world rows.now }
+    requires many { length seed.now.set.items ≡ length (here current.old).world.fibers }
+    ensures onward { IsOnward current.old current.new }
+    ensures here { OnOk result (here current.new ≡ here current.old) }
+    ensures chosen { IfOk result (λ it. it ≡ (the_persistence (here current.old).world seed.now.set.items
+        && the_lightness (weight_at (here current.old)) (leapt at_once (here current.old) seed.now.fiber))) }
+{
+    if !is_persistent(&*current, rows, seed.set.as_slice()) {
+        return Ok(false);
+    }
+    leads_down(alloc, current, seed.fiber, at_once)
 }

@@ -1,27 +1,48 @@
 -- Sets of fibers and seeds, as the code keeps them.
-use Rattle.std.specs.Prelude.{◌≡◌, ◌||◌, ℕ, nat_lt, Bool, true, not, List, length, Option, Some, None}
+use Rattle.std.specs.Prelude.{◌≡◌, ◌&&◌, ◌||◌, ℕ, suc, nat_lt, Bool, true, not, List, [], ◌∷◌, length, Option, Some, None}
 use Rattle.std.specs.List.{slice_get}
+use Rattle.std.specs.declared.alloc.Global.{Global}
+use Rattle.std.specs.declared.vec.Vec.{Vec}
 use Rattle.fiber_frames.specs.Fiber.{Fiber}
+use Rattle.scheduled_core.specs.Core.{World}
 use Rattle.every_schedule.specs.declared.needs.Needs.{Needs}
 use Rattle.every_schedule.specs.declared.persistent.Seed.{Seed}
 use Rattle.every_schedule.specs.declared.leaping.AtOnce.{AtOnce}
-use Rattle.every_schedule.specs.Persistent.{depends_on, in_set, joined, members, pick, set_of}
+use Rattle.every_schedule.specs.Persistent.{depends_on, in_set, members, needs_at, pick, set_of}
 use Rattle.every_schedule.specs.Places.{Place}
-use Rattle.scheduled_core.specs.Core.{World}
-use Rattle.std.specs.declared.alloc.Global.{Global}
-use Rattle.std.specs.declared.vec.Vec.{Vec}
 
--- fiber i, in state b, is in the set, or a move with these needs doesn't depend on it
-abbrev pub is_tried : Needs → ℕ → Fiber → List Bool → Bool
-is_tried d i b s = in_set s i || not (depends_on d i b)
+-- ---- rows: for each fiber a flag, whether a move depends on it
+-- the row of a move with these needs, from fiber i on
+abbrev pub row : Needs → ℕ → List Fiber → List Bool
+row d i [] = []
+row d i (b ∷ bs) = depends_on d i b ∷ row d (suc i) bs
 
--- fiber i joined the set, if a move with these needs depends on it
-pub record IsJoined (d : Needs) (i : ℕ) (gs : List Fiber) (old new : List Bool) : Type 0 where
-  pub many : length new ≡ length old
-  pub same : joined d 0 gs new ≡ joined d 0 gs old
-  pub kept : (k : ℕ) → in_set old k ≡ true → in_set new k ≡ true
-  pub tried : (b : Fiber) → slice_get gs i ≡ Some b → is_tried d i b new ≡ true
+-- the row of the next move of fiber f
+abbrev pub row_at : World → ℕ → List Bool
+row_at w f = row (needs_at w f) 0 w.fibers
 
+-- the rows of all fibers
+pub record AreRows (w : World) (rows : List (Vec Bool Global)) : Type 0 where
+  pub many : length rows ≡ length w.fibers
+  pub each : (f : ℕ) (v : Vec Bool Global) → slice_get rows f ≡ Some v → v.items ≡ row_at w f
+
+-- as many rows as flags in each row
+pub record AreWide (rows : List (Vec Bool Global)) (n : ℕ) : Type 0 where
+  pub many : length rows ≡ n
+  pub each : (f : ℕ) (v : Vec Bool Global) → slice_get rows f ≡ Some v → length v.items ≡ n
+
+-- the fibers of a row join the set
+abbrev pub joined_by : List Bool → List Bool → List Bool
+joined_by [] s = s
+joined_by (r ∷ rs) [] = []
+joined_by (r ∷ rs) (t ∷ s) = (t || r) ∷ joined_by rs s
+
+-- the fibers of a row, which begins with fiber i, are in the set
+abbrev pub spared_by : List Bool → ℕ → List Bool → Bool
+spared_by s i [] = true
+spared_by s i (r ∷ rs) = (in_set s i || not r) && spared_by s (suc i) rs
+
+-- ---- seeds and sets
 -- the seed of this number, with its set and how many are in it
 pub record IsSeed (w : World) (f : ℕ) (s : Seed) : Type 0 where
   pub fiber : s.fiber ≡ f

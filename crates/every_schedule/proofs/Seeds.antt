@@ -1,0 +1,107 @@
+-- The set of a seed, and the choice of a seed.
+use Rattle.std.proofs.Common.{◌≡◌, ◌<◌, ◌≤◌, ◌+◌, ℕ, zero, suc, nat_lt, Bool, true, false, ◌&&◌, ◌||◌, List, [], ◌∷◌, length, replicate, set}
+use Rattle.std.proofs.Common.{Option, Some, None, refl, sym, ap, ◌∙◌, subst, arith}
+use Rattle.std.specs.List.{slice_get}
+use Rattle.std.proofs.lemmas.Bool.Decides.{nat_tests}
+use Rattle.std.proofs.lemmas.List.{get_or-set_same, length-set}
+use Rattle.fiber_frames.specs.Fiber.{Fiber}
+use Rattle.scheduled_core.specs.Core.{World}
+use Rattle.every_schedule.specs.declared.needs.Needs.{Needs}
+use Rattle.every_schedule.specs.declared.persistent.Seed.{Seed}
+use Rattle.every_schedule.specs.Persistent.{best, depends_on, grown, in_set, is_better, is_ready_in, joined, joined_if}
+use Rattle.every_schedule.specs.Persistent.{members, needs_at, one_if, seed_if, set_of, spread}
+use Rattle.every_schedule.specs.Private.Persistent.{IsBest, has_fewer}
+use Rattle.every_schedule.proofs.Sets.{and_false, best_next, better_by}
+
+-- ---- the set of a seed
+joined_many : (d : Needs) (i : ℕ) (bs : List Fiber) (s : List Bool) → length (joined d i bs s) ≡ length s
+joined_many d i [] s = refl
+joined_many d i (b ∷ bs) [] = refl
+joined_many d i (b ∷ bs) (t ∷ s) = ap suc (joined_many d (suc i) bs s)
+
+joined_keeps : (d : Needs) (i : ℕ) (bs : List Fiber) (s : List Bool) (k : ℕ) → in_set s k ≡ true → in_set (joined d i bs s) k ≡ true
+joined_keeps d i [] s k e = e
+joined_keeps d i (b ∷ bs) [] k e = e
+joined_keeps d i (b ∷ bs) (t ∷ s) zero e = ap (λ x. x || depends_on d i b) e
+joined_keeps d i (b ∷ bs) (t ∷ s) (suc k) e = joined_keeps d (suc i) bs s k e
+
+module _ (w : World) where
+  joined_if_many : (b : Bool) (f : ℕ) (s : List Bool) → length (joined_if b w f s) ≡ length s
+  joined_if_many true f s = joined_many (needs_at w f) 0 w.fibers s
+  joined_if_many false f s = refl
+
+  joined_if_keeps : (b : Bool) (f : ℕ) (s : List Bool) (k : ℕ) → in_set s k ≡ true → in_set (joined_if b w f s) k ≡ true
+  joined_if_keeps true f s k e = joined_keeps (needs_at w f) 0 w.fibers s k e
+  joined_if_keeps false f s k e = e
+
+  spread_many : (n : ℕ) (s : List Bool) → length (spread w n s) ≡ length s
+  unfolding spread
+  spread_many zero s = refl
+  spread_many (suc n) s = joined_if_many (in_set (spread w n s) n) n (spread w n s) ∙ spread_many n s
+
+  spread_keeps : (n : ℕ) (s : List Bool) (k : ℕ) → in_set s k ≡ true → in_set (spread w n s) k ≡ true
+  unfolding spread
+  spread_keeps zero s k e = e
+  spread_keeps (suc n) s k e = joined_if_keeps (in_set (spread w n s) n) n (spread w n s) k (spread_keeps n s k e)
+
+  grown_many : (n : ℕ) (s : List Bool) → length (grown n w s) ≡ length s
+  unfolding grown
+  grown_many zero s = refl
+  grown_many (suc n) s = grown_many n (spread w (length w.fibers) s) ∙ spread_many (length w.fibers) s
+
+  grown_keeps : (n : ℕ) (s : List Bool) (k : ℕ) → in_set s k ≡ true → in_set (grown n w s) k ≡ true
+  unfolding grown
+  grown_keeps zero s k e = e
+  grown_keeps (suc n) s k e = grown_keeps n (spread w (length w.fibers) s) k (spread_keeps (length w.fibers) s k e)
+
+  none_many : (n : ℕ) → length (replicate n false) ≡ n
+  none_many zero = refl
+  none_many (suc n) = ap suc (none_many n)
+
+  pub set_many : (seed : ℕ) → length (set_of w seed) ≡ length w.fibers
+  set_many seed = grown_many (length w.fibers) (set (replicate (length w.fibers) false) seed true)
+      ∙ length-set (replicate (length w.fibers) false) seed true ∙ none_many (length w.fibers)
+
+  pub seed_in : (seed : ℕ) → seed < length w.fibers → in_set (set_of w seed) seed ≡ true
+  seed_in seed low =
+      let many = none_many (length w.fibers) in
+      grown_keeps (length w.fibers) (set (replicate (length w.fibers) false) seed true) seed
+      (get_or-set_same (replicate (length w.fibers) false) seed true false (omega (arith, low, many)))
+
+  seed_low : (n seed : ℕ) (t : Bool) (before : Option ℕ) → (before ≡ Some seed → seed < n) → seed_if t n before ≡ Some seed → seed < suc n
+  seed_low n seed true before below e = let same : n ≡ seed = cc in omega (arith, same)
+  seed_low n seed false before below e = let low = below e in omega (arith, low)
+
+  pub best_low : (n seed : ℕ) → best w n ≡ Some seed → seed < n
+  unfolding best
+  best_low zero seed e = absurd (cc)
+  best_low (suc n) seed e = seed_low n seed (is_ready_in w (slice_get w.fibers n) && is_better w n (best w n)) (best w n) (best_low n seed) e
+
+-- ---- a set of one fiber is smallest
+members_some : (s : List Bool) (k : ℕ) → in_set s k ≡ true → 1 ≤ members s
+members_some [] k e = absurd (cc)
+members_some (t ∷ s) zero e = let one = ap one_if e in omega (arith, one)
+members_some (t ∷ s) (suc k) e = let rest = members_some s k e in omega (arith, rest)
+
+no_fewer : (a b : ℕ) → 1 ≤ a → nat_lt 1 b ≡ false → nat_lt a b ≡ false
+no_fewer a b some e = grind (arith, nat_tests)
+
+none_fewer : (n : ℕ) (s : Option Seed) → 1 ≤ n → has_fewer 1 s ≡ false → has_fewer n s ≡ false
+none_fewer n None some e = e
+none_fewer n (Some x) some e = no_fewer n x.many some e
+
+module _ (w : World) (s : Option Seed) (least : has_fewer 1 s ≡ false) where
+  none_better : (n : ℕ) → n < length w.fibers → IsBest w (best w n) s → is_ready_in w (slice_get w.fibers n) && is_better w n (best w n) ≡ false
+  none_better n low h =
+      ap (λ (t : Bool). is_ready_in w (slice_get w.fibers n) && t)
+      (better_by w n (best w n) (members (set_of w n)) s refl h
+      ∙ none_fewer (members (set_of w n)) s (members_some (set_of w n) n (seed_in w n low)) least)
+      ∙ and_false (is_ready_in w (slice_get w.fibers n))
+
+  -- no later seed has a smaller set
+  pub best_ends : (n m k : ℕ) → n + m ≡ k → k ≤ length w.fibers → IsBest w (best w n) s → IsBest w (best w k) s
+  best_ends n zero k is few h = let same : n ≡ k = omega arith in subst (λ (x : ℕ). IsBest w (best w x) s) same h
+  best_ends n (suc m) k is few h =
+      let next : IsBest w (best w (n + 1)) s =
+      subst (λ (o : Option ℕ). IsBest w o s) (sym (best_next w n false (none_better n (omega arith) h))) h in
+      best_ends (n + 1) m k (omega arith) few next
