@@ -10,7 +10,7 @@ use Rattle.every_schedule.specs.declared.leaping.AtOnce.{AtOnce}
 use Rattle.every_schedule.specs.Persistent.{best, chosen, chosen_if, in_set, is_entered, is_lighter, is_member, is_persistent}
 use Rattle.every_schedule.specs.Persistent.{pick, picked_by, set_if, set_of, weight_at}
 use Rattle.every_schedule.specs.Places.{Place, stepped}
-use Rattle.every_schedule.specs.Reduced.{IsMade, leapt}
+use Rattle.every_schedule.specs.Reduced.{IsMade, is_made, leapt}
 use Rattle.every_schedule.proofs.Apart.{Stands, apart, stands_now}
 use Rattle.every_schedule.proofs.EarlyMoves.{made_early}
 use Rattle.every_schedule.proofs.Leaps.{leaps, leapt_rests}
@@ -42,8 +42,9 @@ module _ (n : AtOnce) (p : Place) where
   part_of flag seed s found is by =
       let w = p.world in
       let b = is_persistent w (set_of w seed) && is_lighter (weight_at p) (leapt n p seed) in
-      let it = set_so b (set_of w seed) s by in
-      let both = both_true (is_persistent w (set_of w seed)) (is_lighter (weight_at p) (leapt n p seed)) it.0 in
+      let it = set_so (not (is_made n w seed) && b) (set_of w seed) s by in
+      let rest = both_true (not (is_made n w seed)) b it.0 in
+      let both = both_true (is_persistent w (set_of w seed)) (is_lighter (weight_at p) (leapt n p seed)) rest.1 in
       let led = lighter_so (weight_at p) (leapt n p seed) both.1 in
       let low = best_low w (length w.fibers) seed found in
       let entered = λ (f : ℕ). ap (λ c. not c || is_member (pick n p) f) flag ∙ ap (λ o. is_member o f) is in

@@ -1,16 +1,20 @@
 -- The set of a seed, and the choice of a seed.
-use Rattle.std.proofs.Common.{◌≡◌, ◌<◌, ◌≤◌, ◌+◌, ℕ, zero, suc, nat_lt, Bool, true, false, ◌&&◌, ◌||◌, List, [], ◌∷◌, length, replicate, set}
-use Rattle.std.proofs.Common.{Option, Some, None, refl, sym, ap, ◌∙◌, subst, arith}
+use Rattle.std.proofs.Common.{◌≡◌, ◌<◌, ◌≤◌, ◌+◌, ℕ, zero, suc, nat_lt, Bool, true, false, not, ◌&&◌, ◌||◌, List, [], ◌∷◌, length, replicate, set}
+use Rattle.std.proofs.Common.{Option, Some, None, refl, sym, ap, ap₂, ◌∙◌, subst, arith}
 use Rattle.std.specs.List.{slice_get}
 use Rattle.std.proofs.lemmas.Bool.Decides.{nat_tests}
 use Rattle.std.proofs.lemmas.List.{get_or-set_same, length-set}
 use Rattle.fiber_frames.specs.Fiber.{Fiber}
 use Rattle.scheduled_core.specs.Core.{World}
+use Rattle.every_schedule.specs.declared.leaping.AtOnce.{AtOnce}
 use Rattle.every_schedule.specs.declared.needs.Needs.{Needs}
 use Rattle.every_schedule.specs.declared.persistent.Seed.{Seed}
-use Rattle.every_schedule.specs.Persistent.{best, depends_on, grown, in_set, is_better, is_ready_in, joined, joined_if}
-use Rattle.every_schedule.specs.Persistent.{members, needs_at, one_if, seed_if, set_of, spread}
+use Rattle.every_schedule.specs.Persistent.{best, depends_on, grown, in_set, is_better, is_entered, is_lighter, is_member}
+use Rattle.every_schedule.specs.Persistent.{is_persistent, is_ready_in, joined, joined_if, members, needs_at, one_if, pick, picked_by}
+use Rattle.every_schedule.specs.Persistent.{seed_if, set_if, set_of, spread, weight_at}
+use Rattle.every_schedule.specs.Places.{Place}
 use Rattle.every_schedule.specs.Private.Persistent.{IsBest, has_fewer}
+use Rattle.every_schedule.specs.Reduced.{is_made, leapt}
 use Rattle.every_schedule.proofs.Sets.{and_false, best_next, better_by}
 
 -- ---- the set of a seed
@@ -105,3 +109,24 @@ module _ (w : World) (s : Option Seed) (least : has_fewer 1 s ≡ false) where
       let next : IsBest w (best w (n + 1)) s =
       subst (λ (o : Option ℕ). IsBest w o s) (sym (best_next w n false (none_better n (omega arith) h))) h in
       best_ends (n + 1) m k (omega arith) few next
+
+-- ---- the set of a seed is chosen or not
+member_if : (b : Bool) (s : List Bool) (f : ℕ) → in_set s f ≡ false → is_member (set_if b s) f ≡ not b
+member_if true s f e = e
+member_if false s f e = refl
+
+module _ (n : AtOnce) (p : Place) (x : Seed) (b : Bool) (is : b ≡ not (is_made n p.world x.fiber)
+    && (is_persistent p.world x.set.items && is_lighter (weight_at p) (leapt n p x.fiber))) where
+  by_seed : (o : Option ℕ) → IsBest p.world o (Some x) → picked_by n p o ≡ set_if b x.set.items
+  by_seed None h = absurd h
+  by_seed (Some f) h =
+      ap₂ (λ g s. set_if (not (is_made n p.world g) && (is_persistent p.world s && is_lighter (weight_at p) (leapt n p g))) s) (sym h.fiber) (sym h.set)
+      ∙ ap (λ t. set_if t x.set.items) (sym is)
+
+  pub picked_set : IsBest p.world (best p.world (length p.world.fibers)) (Some x) → pick n p ≡ set_if b x.set.items
+  picked_set = by_seed (best p.world (length p.world.fibers))
+
+  -- a fiber outside the set
+  pub entered_out : (f : ℕ) → n.chosen ≡ true → in_set x.set.items f ≡ false → IsBest p.world (best p.world (length p.world.fibers)) (Some x) →
+      not b ≡ is_entered n p f
+  entered_out f flag out h = sym (ap (λ t. not t || is_member (pick n p) f) flag ∙ ap (λ o. is_member o f) (picked_set h) ∙ member_if b x.set.items f out)

@@ -20,7 +20,7 @@ use Rattle.scheduled_core.specs.Core.{World, wish_of}
 use Rattle.every_schedule.specs.declared.leaping.AtOnce.{AtOnce}
 use Rattle.every_schedule.specs.declared.needs.Needs.{Needs}
 use Rattle.every_schedule.specs.Places.{Place}
-use Rattle.every_schedule.specs.Reduced.{has_come_to_end, is_completed, leapt, next_of}
+use Rattle.every_schedule.specs.Reduced.{has_come_to_end, is_completed, is_made, leapt, next_of}
 use Rattle.every_schedule.specs.Sizes.{capped}
 use Rattle.fiber_frames.specs.Weights.{weight_of}
 
@@ -211,10 +211,13 @@ abbrev pub set_if : Bool → List Bool → Option (List Bool)
 set_if true s = Some s
 set_if false s = None
 
+-- Where a seed still has a move that is made at once, its fiber goes round in a loop. Its set isn't chosen: schedules
+-- would only get longer.
 abbrev pub picked_by : AtOnce → Place → Option ℕ → Option (List Bool)
 picked_by n p None = None
 picked_by n p (Some seed) =
-    set_if (is_persistent p.world (set_of p.world seed) && is_lighter (weight_at p) (leapt n p seed))
+    set_if (not (is_made n p.world seed)
+    && (is_persistent p.world (set_of p.world seed) && is_lighter (weight_at p) (leapt n p seed)))
     (set_of p.world seed)
 
 -- the fibers whose entries are made at a place; `None` if those of all fibers are

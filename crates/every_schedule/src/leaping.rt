@@ -199,8 +199,8 @@ fn push_fiber(
     Ok(true)
 }
 
-// Whether a fiber is born, and its next move is an own move, or a birth, that is allowed at once.
-fn has_own_move(current: &mut Current, at_once: AtOnce, fiber: u16) -> bool
+/// Whether a fiber is born, and its next move is an own move, or a birth, that is allowed at once.
+pub(crate) fn has_own_move(current: &mut Current, at_once: AtOnce, fiber: u16) -> bool
     requires { AllFit (here current.old).world }
     ensures same { IsSame current.old current.new }
     ensures own { result ≡ is_made at_once (here current.old).world fiber }

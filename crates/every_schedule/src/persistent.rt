@@ -11,13 +11,13 @@ ghost use Rattle.every_schedule.specs.Persistent.{is_member as the_member};
 ghost use Rattle.every_schedule.specs.Persistent.{members as the_members, one_if as the_count};
 ghost use Rattle.every_schedule.specs.Persistent.{grown, pick as the_pick, set_of as the_set, spread};
 ghost use Rattle.every_schedule.specs.Persistent.{stands_in, weight_at};
-ghost use Rattle.every_schedule.specs.Reduced.{leapt};
+ghost use Rattle.every_schedule.specs.Reduced.{is_made, leapt};
 ghost use Rattle.every_schedule.specs.Private.Persistent.{AreRows, AreWide, IsBest, IsSet, has_fewer, joined_by};
 ghost use Rattle.every_schedule.specs.Private.Persistent.{row_at, spared_by};
 ghost use Rattle.every_schedule.specs.Private.Standing.{IsOnward, IsSame, here};
 
 use crate::current::Current;
-use crate::leaping::{AtOnce, few_born, is_memory, leap};
+use crate::leaping::{AtOnce, few_born, has_own_move, is_memory, leap};
 use crate::needs::{depends_on, is_ready_at, is_sound, needs_of};
 use std::alloc::{AllocError, Global};
 
@@ -403,8 +403,9 @@ pub(crate) fn pick(
     Ok(Some(set))
 }
 
-// Whether the set of a seed is chosen: the next moves of its fibers depend on no other fiber, and that of the seed leads
-// to a world that weighs less. Goes back to this world.
+// Whether the set of a seed is chosen: the seed doesn't go round in a loop of moves that are made at once, the next moves
+// of the set's fibers depend on no other fiber, and that of the seed leads to a world that weighs less. Goes back to
+// this world.
 fn is_chosen(
     alloc: Global,
     current: &mut Current,
@@ -417,9 +418,13 @@ fn is_chosen(
     requires many { length seed.now.set.items ≡ length (here current.old).world.fibers }
     ensures onward { IsOnward current.old current.new }
     ensures here { OnOk result (here current.new ≡ here current.old) }
-    ensures chosen { IfOk result (λ it. it ≡ (the_persistence (here current.old).world seed.now.set.items
-        && the_lightness (weight_at (here current.old)) (leapt at_once (here current.old) seed.now.fiber))) }
+    ensures chosen { IfOk result (λ it. it ≡ (not (is_made at_once (here current.old).world seed.now.fiber)
+        && (the_persistence (here current.old).world seed.now.set.items
+        && the_lightness (weight_at (here current.old)) (leapt at_once (here current.old) seed.now.fiber)))) }
 {
+    if has_own_move(&mut *current, at_once, seed.fiber) {
+        return Ok(false);
+    }
     if !is_persistent(&*current, rows, seed.set.as_slice()) {
         return Ok(false);
     }
