@@ -8,7 +8,9 @@ use Rattle.text_io.specs.Devices.{Devices}
 use Rattle.world_search.specs.declared.answers.Bounds.{Bounds}
 use Rattle.exploration_text.specs.declared.explore_texts.ExploreOrder.{ExploreOrder}
 use Rattle.exploration_text.specs.declared.sample_texts.SampleOrder.{SampleOrder}
+use Rattle.exploration_text.specs.declared.findings.Finding.{Finding}
 use Rattle.exploration_text.specs.declared.wants.Want.{Want}
+use Rattle.exploration_text.specs.Draws.{IsWithDraws}
 use Rattle.exploration_text.specs.ExplorationText.{has_failure}
 use Rattle.exploration_text.specs.Findings.{IsFirstAnswer}
 use Rattle.exploration_text.specs.SampleAnswers.{IsNotedSample}
@@ -33,6 +35,13 @@ pub noted_ends : (Refuses : List ℕ → List ℕ → Status → Type 0) (Notes 
     ObeysNoted Refuses Notes Tells explain before after status → status ≢ ends.Usage
 noted_ends Refuses Notes Tells explain before after status never h =
     λ u. answered_ends _ _ _ _ _ h.result (never h.note) h.answered (sym h.status_is ∙ u)
+
+-- ---- with a finding behind
+pub drawn_ends : {Tells : Finding → List ℕ → Type 0} {order : ExploreOrder} {t : Term} {Answers : List ℕ → Status → Type 0} {answer : List ℕ}
+    {status : Status} → ((answer : List ℕ) (status : Status) → Answers answer status → status ≢ ends.Usage) →
+    IsWithDraws Tells order t Answers answer status → status ≢ ends.Usage
+drawn_ends {answer = answer} {status = status} never (inl h) = never answer status h
+drawn_ends never (inr h) = λ u. let bad : ends.Errored ≡ ends.Usage = sym h.status_is ∙ u in cc
 
 -- ---- of samples
 two_ends : (some : Bool) → (if some then ends.Errored else ends.Succeeded) ≢ ends.Usage
@@ -81,14 +90,14 @@ seek_ends false order timed note text answer status =
 pub explored_ends : (form : ExploreForm) (order : ExploreOrder) (timed : Bool) (note text answer : List ℕ) (status : Status) →
     IsNotedAnswer (explore_refuses form) (explores_as form order timed) note text answer status → status ≢ ends.Usage
 explored_ends explored.Report order timed note text answer status = program_ends (λ text answer status h. refusal_ends h.0)
-    (λ t answer status h u. let e = h.explored in
-    chosen_ends (has_failure order.wants.items e.exploration.answers) e.exploration.complete (sym e.status_is ∙ u))
+    (λ t answer status. drawn_ends (λ answer status h u. let e = h.explored in
+    chosen_ends (has_failure order.wants.items e.exploration.answers) e.exploration.complete (sym e.status_is ∙ u)))
 explored_ends explored.Timeline order timed note text answer status = program_ends (λ text answer status h. refusal_ends h.0)
-    (λ t answer status h u. let e = h.told in
-    chosen_ends (has_failure order.wants.items e.exploration.answers) e.exploration.complete (sym e.status_is ∙ u))
+    (λ t answer status. drawn_ends (λ answer status h u. let e = h.told in
+    chosen_ends (has_failure order.wants.items e.exploration.answers) e.exploration.complete (sym e.status_is ∙ u)))
 explored_ends explored.Json order timed note text answer status = program_ends (λ text answer status h. json_refusal_ends h.0)
-    (λ t answer status h u. let e = h.explored in
-    chosen_ends (has_failure order.wants.items e.exploration.answers) e.exploration.complete (sym e.status_is ∙ u))
+    (λ t answer status. drawn_ends (λ answer status h u. let e = h.explored in
+    chosen_ends (has_failure order.wants.items e.exploration.answers) e.exploration.complete (sym e.status_is ∙ u)))
 
 pub beside_ends : (Refuses : List ℕ → List ℕ → Status → Type 0) (Notes : List ℕ → Term → List ℕ → Status → Type 0) (beside : Beside)
     (before after : Devices) (status : Status) →

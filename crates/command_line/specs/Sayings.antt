@@ -2,17 +2,19 @@
 use Rattle.std.specs.Prelude.{Bool, true, false, ℕ, List, is_some}
 use Rattle.effect_term.specs.declared.term.Term.{Term}
 use Rattle.exploration_text.specs.declared.explore_texts.ExploreOrder.{ExploreOrder}
+use Rattle.exploration_text.specs.Draws.{IsWithDraws}
 use Rattle.outcome_answers.specs.OutcomeAnswers.{IsSaysAnswer}
 use Rattle.outcome_trace.specs.Answers.{IsRefusalAnswer}
 use Rattle.json_answers.specs.Answers.{IsJsonRefusal}
 use Rattle.text_io.specs.declared.status.Status.{Status}
 use Rattle.text_io.specs.Devices.{Devices}
 use Rattle.command_words.specs.declared.saying.Saying.{Saying}
-use Rattle.command_line.specs.Explorings.{ObeysBeside}
+use Rattle.command_line.specs.Explorings.{ObeysBeside, behind_as}
 
 -- the answer to a program, as JSON or in words, with this note; `timed` is whether the time of the search is limited
 abbrev pub says_as : Bool → ExploreOrder → (timed : Bool) → (note : List ℕ) → Term → List ℕ → Status → Type 0
-says_as json order timed note t = IsSaysAnswer json t order.limits order.bounds timed order.wants.items note
+says_as json order timed note t = IsWithDraws (behind_as json) order t
+    (IsSaysAnswer json t order.limits order.bounds timed order.wants.items note)
 
 -- the answer to a refused text
 abbrev pub say_refuses : Bool → List ℕ → List ℕ → Status → Type 0

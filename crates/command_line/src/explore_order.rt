@@ -4,7 +4,7 @@ ghost use Rattle.std.specs.Prelude.{◌≡◌, ◌≢◌, ◌<◌, ◌^◌, fals
 ghost use Rattle.command_line.specs.Explorings.{ObeysExplore};
 ghost use Rattle.text_io.specs.Devices.{devices};
 
-use crate::watched_forms::obey_form;
+use crate::watched_forms::obey_search;
 use command_words::{ExploreForm, Exploring};
 use json_answers::ExploreJson;
 use outcome_trace::{Status, TextIn, TextOut};
@@ -38,14 +38,14 @@ pub fn obey_explore<C: Clock, I: TextIn, O: TextOut, E: TextOut>(
         beside,
     } = exploring;
     match form {
-        ExploreForm::Report => obey_form(clock, alloc, order, seconds, beside, input, out, err),
+        ExploreForm::Report => obey_search(clock, alloc, order, seconds, beside, input, out, err),
         ExploreForm::Timeline => {
             let told = ExploreTimelineOrder { order };
-            obey_form(clock, alloc, told, seconds, beside, input, out, err)
+            obey_search(clock, alloc, told, seconds, beside, input, out, err)
         }
         ExploreForm::Json => {
             let told = ExploreJson { order };
-            obey_form(clock, alloc, told, seconds, beside, input, out, err)
+            obey_search(clock, alloc, told, seconds, beside, input, out, err)
         }
     }
 }

@@ -4,7 +4,7 @@ ghost use Rattle.std.specs.Prelude.{◌≡◌, ◌≢◌, ◌<◌, ◌^◌, fals
 ghost use Rattle.command_line.specs.Sayings.{ObeysSay};
 ghost use Rattle.text_io.specs.Devices.{devices};
 
-use crate::watched_forms::obey_form;
+use crate::watched_forms::obey_search;
 use command_words::Saying;
 use outcome_answers::{SaysJson, SaysOrder};
 use outcome_trace::{Status, TextIn, TextOut};
@@ -38,9 +38,9 @@ pub fn obey_say<C: Clock, I: TextIn, O: TextOut, E: TextOut>(
     } = saying;
     if json {
         let says = SaysJson { order };
-        obey_form(clock, alloc, says, seconds, beside, input, out, err)
+        obey_search(clock, alloc, says, seconds, beside, input, out, err)
     } else {
         let says = SaysOrder { order };
-        obey_form(clock, alloc, says, seconds, beside, input, out, err)
+        obey_search(clock, alloc, says, seconds, beside, input, out, err)
     }
 }

@@ -4,7 +4,7 @@ ghost use Rattle.std.specs.Prelude.{◌≡◌, ◌≢◌, ◌<◌, ◌^◌, fals
 ghost use Rattle.command_line.specs.Unmarkings.{ObeysUnmark};
 ghost use Rattle.text_io.specs.Devices.{devices};
 
-use crate::watched_forms::obey_form;
+use crate::watched_forms::obey_search;
 use command_words::Unmarking;
 use outcome_answers::{OutcomesJson, OutcomesOrder};
 use outcome_trace::{Status, TextIn, TextOut};
@@ -39,9 +39,9 @@ pub fn obey_unmark<C: Clock, I: TextIn, O: TextOut, E: TextOut>(
     } = unmarking;
     if json {
         let outcomes = OutcomesJson { order, only_first };
-        obey_form(clock, alloc, outcomes, seconds, beside, input, out, err)
+        obey_search(clock, alloc, outcomes, seconds, beside, input, out, err)
     } else {
         let outcomes = OutcomesOrder { order, only_first };
-        obey_form(clock, alloc, outcomes, seconds, beside, input, out, err)
+        obey_search(clock, alloc, outcomes, seconds, beside, input, out, err)
     }
 }

@@ -101,6 +101,10 @@ abbrev pub IsDecided : First → Type 0
 IsDecided (Found f) = Unit {0}
 IsDecided (Explored e) = (e.complete ≡ true) ⊎ (e.halted ≡ true)
 
+-- a finding that was drawn at random
+abbrev pub IsDrawn : Tree → Limits → List Want → Finding → Type 0
+IsDrawn code limits wants f = IsFinding code limits wants f × (f.drawn ≡ true)
+
 -- these bounds, with at most this number of worlds
 abbrev pub bounds_within : Bounds → ℕ → Bounds
 bounds_within bounds worlds = record bounds { worlds = min bounds.worlds worlds }

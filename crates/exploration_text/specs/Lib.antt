@@ -6,3 +6,4 @@ pub mod SampleAnswers
 pub mod Findings
 pub mod Missing
 pub mod Noting
+pub mod Draws

@@ -56,8 +56,8 @@ impl WatchedOrder for FirstOrder {
     }
 }
 
-// The text of a finding: how it was found, whether its end is final, its schedule, and its end as a replay writes it.
-fn text_of_finding(alloc: Global, finding: &Finding) -> Result<Vec<u8>, AllocError>
+/// The text of a finding: how it was found, whether its end is final, its schedule, and its end as a replay writes it.
+pub(crate) fn text_of_finding(alloc: Global, finding: &Finding) -> Result<Vec<u8>, AllocError>
     requires { IsSpellable finding.now.answer }
     ensures { IfOk result (λ text. IsFindingText finding.now text.items) }
 {

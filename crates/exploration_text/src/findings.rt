@@ -9,7 +9,7 @@ ghost use Rattle.derived_ops.specs.Reading.{source_of};
 ghost use Rattle.scheduled_core.specs.Core.{core, reported};
 ghost use Rattle.exploration_text.specs.ExplorationText.{has_failure};
 ghost use Rattle.exploration_text.specs.declared.findings.First.TheVariants.{Explored as Searched};
-ghost use Rattle.exploration_text.specs.Findings.{IsDecided, IsFinding, IsFirst, IsOfMore, Shows, bounds_within};
+ghost use Rattle.exploration_text.specs.Findings.{IsDecided, IsDrawn, IsFirst, IsOfMore, Shows, bounds_within};
 ghost use Rattle.exploration_text.specs.Wants.{is_failure};
 
 use crate::explore_texts::ExploreOrder;
@@ -180,13 +180,13 @@ fn searched<V: Watcher>(
     }))
 }
 
-// The first finding among the ends of all random schedules.
-fn drawn_finding(
+/// The first finding among the ends of all random schedules.
+pub(crate) fn drawn_finding(
     alloc: Global,
     program: &Program,
     order: &ExploreOrder,
 ) -> Result<Option<Finding>, AllocError>
-    ensures { IfOk result (λ found. IfSome found (IsFinding (code_of (source_of program.now)) order.now.limits
+    ensures { IfOk result (λ found. IfSome found (IsDrawn (code_of (source_of program.now)) order.now.limits
         order.now.wants.items)) }
 {
     for length in LENGTHS {
@@ -204,7 +204,7 @@ fn finding_within(
     order: &ExploreOrder,
     length: u32,
 ) -> Result<Option<Finding>, AllocError>
-    ensures { IfOk result (λ found. IfSome found (IsFinding (code_of (source_of program.now)) order.now.limits
+    ensures { IfOk result (λ found. IfSome found (IsDrawn (code_of (source_of program.now)) order.now.limits
         order.now.wants.items)) }
 {
     let entries = order.bounds.entries.min(length as usize) as u32;
@@ -225,7 +225,7 @@ fn finding_of_sample(
     entries: u32,
 ) -> Result<Option<Finding>, AllocError>
     requires { entries ≤ order.now.bounds.entries }
-    ensures { IfOk result (λ found. IfSome found (IsFinding (code_of (source_of program.now)) order.now.limits
+    ensures { IfOk result (λ found. IfSome found (IsDrawn (code_of (source_of program.now)) order.now.limits
         order.now.wants.items)) }
 {
     let Ok(found) = sample(alloc, program, order.limits, seed, SCHEDULES, entries) else {

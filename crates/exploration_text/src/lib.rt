@@ -8,6 +8,7 @@
 //! to it.
 #![tactic(auto)]
 
+mod draws;
 mod explore_texts;
 mod finding_texts;
 mod findings;
@@ -21,6 +22,7 @@ mod wants;
 mod watched_orders;
 mod watched_texts;
 
+pub use draws::{FindingForm, SearchOrder, WithDraws};
 pub use every_schedule::Bounds;
 pub use explore_texts::ExploreOrder;
 pub use finding_texts::FirstOrder;

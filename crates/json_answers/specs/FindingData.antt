@@ -39,6 +39,10 @@ pub record IsFindingData (f : Finding) (d : Data) : Type 0 where
   pub spelled : SpellsEntries schedule f.answer.schedule
   pub data_is : d ≡ finding_data schedule f.drawn f.last f.answer.end
 
+-- the value of a finding, on a line of its own
+abbrev pub IsLineBehind : Finding → List ℕ → Type 0
+IsLineBehind f text = (value : Data) × IsFindingData f value × (text ≡ line_of_data value)
+
 -- the value of a finding, with the status `Errored`
 pub record IsJsonFound (t : Term) (limits : Limits) (wants : List Want) (answer : List ℕ) (status : Status) : Type 0
   where

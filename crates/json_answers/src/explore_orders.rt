@@ -9,7 +9,8 @@ use crate::values::value_answer;
 use effect_term::Program;
 use every_schedule::{Unwatched, Watcher, explore_watched};
 use exploration_text::{
-    ExploreOrder, NotedAnswer, WatchedOrder, exploration_status, missing_of_exploration,
+    ExploreOrder, NotedAnswer, SearchOrder, WatchedOrder, exploration_status,
+    missing_of_exploration,
 };
 use outcome_trace::{Answer, ProgramOrder};
 use std::alloc::{AllocError, Global};
@@ -45,6 +46,16 @@ impl WatchedOrder for ExploreJson {
             note: missing_of_exploration(alloc, &exploration, wants)?,
             answer: value_answer(alloc, &value, exploration_status(&exploration, wants))?,
         })
+    }
+}
+
+impl SearchOrder for ExploreJson {
+    type Findings = InJson;
+
+    ghost searches = { λ it. it.order };
+
+    fn search_order(&self) -> &ExploreOrder {
+        &self.order
     }
 }
 

@@ -3,7 +3,7 @@
 ghost use Rattle.std.specs.Prelude.{◌≡◌, IfOk};
 ghost use Rattle.serde_json.specs.View.{view};
 ghost use Rattle.exploration_text.specs.ExplorationText.{IsSpellable};
-ghost use Rattle.json_answers.specs.FindingData.{IsFindingData, IsJsonFirstAnswer, finding_data, source_name};
+ghost use Rattle.json_answers.specs.FindingData.{IsFindingData, IsJsonFirstAnswer, IsLineBehind, finding_data, source_name};
 
 use crate::exploration_values::exploration_json;
 use crate::refusals::InJson;
@@ -13,8 +13,8 @@ use cell_registry::RunError;
 use effect_term::Program;
 use every_schedule::Watcher;
 use exploration_text::{
-    ExploreOrder, Finding, First, NotedAnswer, WatchedOrder, exploration_status, first_finding,
-    missing_of_exploration,
+    ExploreOrder, Finding, FindingForm, First, NotedAnswer, WatchedOrder, exploration_status,
+    first_finding, missing_of_exploration,
 };
 use outcome_trace::{Report, Status, schedule_text};
 use serde_json::{Value, json};
@@ -58,6 +58,15 @@ impl WatchedOrder for FirstJson {
                 })
             }
         }
+    }
+}
+
+impl FindingForm for InJson {
+    ghost tells = { IsLineBehind };
+
+    fn finding_text(alloc: Global, finding: &Finding) -> Result<Vec<u8>, AllocError> {
+        let value = finding_json(alloc, finding)?;
+        Ok(value_answer(alloc, &value, Status::Errored)?.text)
     }
 }
 

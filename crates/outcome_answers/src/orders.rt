@@ -8,8 +8,8 @@ use crate::values::outcomes_json;
 use effect_term::Program;
 use every_schedule::Watcher;
 use exploration_text::{
-    ExploreOrder, NotedAnswer, WatchedOrder, exploration_status, missing_of_exploration,
-    text_of_exploration,
+    ExploreOrder, NotedAnswer, SearchOrder, WatchedOrder, exploration_status,
+    missing_of_exploration, text_of_exploration,
 };
 use json_answers::{InJson, value_answer};
 use outcome_trace::{Answer, InWords};
@@ -51,6 +51,16 @@ impl WatchedOrder for OutcomesOrder {
     }
 }
 
+impl SearchOrder for OutcomesOrder {
+    type Findings = InWords;
+
+    ghost searches = { λ it. it.order };
+
+    fn search_order(&self) -> &ExploreOrder {
+        &self.order
+    }
+}
+
 /// Answers in JSON as [`OutcomesOrder`] does in words, with the same status.
 #[derive(Drop)]
 pub struct OutcomesJson {
@@ -79,5 +89,15 @@ impl WatchedOrder for OutcomesJson {
         let value = outcomes_json(alloc, &shown, wants, false)?;
         let answer = value_answer(alloc, &value, exploration_status(&shown, wants))?;
         Ok(NotedAnswer { answer, note })
+    }
+}
+
+impl SearchOrder for OutcomesJson {
+    type Findings = InJson;
+
+    ghost searches = { λ it. it.order };
+
+    fn search_order(&self) -> &ExploreOrder {
+        &self.order
     }
 }

@@ -7,8 +7,8 @@ use crate::values::outcomes_json;
 use effect_term::Program;
 use every_schedule::Watcher;
 use exploration_text::{
-    ExploreOrder, NotedAnswer, WatchedOrder, exploration_status, missing_of_exploration,
-    text_of_exploration,
+    ExploreOrder, NotedAnswer, SearchOrder, WatchedOrder, exploration_status,
+    missing_of_exploration, text_of_exploration,
 };
 use json_answers::{InJson, value_answer};
 use outcome_trace::{Answer, InWords};
@@ -47,6 +47,16 @@ impl WatchedOrder for SaysOrder {
     }
 }
 
+impl SearchOrder for SaysOrder {
+    type Findings = InWords;
+
+    ghost searches = { λ it. it.order };
+
+    fn search_order(&self) -> &ExploreOrder {
+        &self.order
+    }
+}
+
 /// Answers in JSON as [`SaysOrder`] does in words, with the same status.
 #[derive(Drop)]
 pub struct SaysJson {
@@ -72,5 +82,15 @@ impl WatchedOrder for SaysJson {
         let value = outcomes_json(alloc, &found, wants, true)?;
         let answer = value_answer(alloc, &value, exploration_status(&found, wants))?;
         Ok(NotedAnswer { answer, note })
+    }
+}
+
+impl SearchOrder for SaysJson {
+    type Findings = InJson;
+
+    ghost searches = { λ it. it.order };
+
+    fn search_order(&self) -> &ExploreOrder {
+        &self.order
     }
 }

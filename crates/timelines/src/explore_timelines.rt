@@ -13,8 +13,8 @@ use cell_registry::Limits;
 use effect_term::Program;
 use every_schedule::{Answer, Exploration, Unwatched, Watcher, explore_watched};
 use exploration_text::{
-    ExploreOrder, NotedAnswer, Want, WatchedOrder, exploration_status, first_line, is_listed_so,
-    missing_of_exploration, text_of_answer,
+    ExploreOrder, NotedAnswer, SearchOrder, Want, WatchedOrder, exploration_status, first_line,
+    is_listed_so, missing_of_exploration, text_of_answer,
 };
 use fiber_events::replay_events;
 use outcome_trace::{InWords, ProgramOrder};
@@ -58,6 +58,16 @@ impl WatchedOrder for ExploreTimelineOrder {
                 status: exploration_status(&exploration, wants),
             },
         })
+    }
+}
+
+impl SearchOrder for ExploreTimelineOrder {
+    type Findings = InWords;
+
+    ghost searches = { λ it. it.order };
+
+    fn search_order(&self) -> &ExploreOrder {
+        &self.order
     }
 }
 

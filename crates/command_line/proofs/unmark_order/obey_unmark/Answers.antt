@@ -7,15 +7,15 @@ use Rattle.command_line.proofs.unmark_order.obey_unmark.Goals as goal
 pub returns-then-json-clause-ends : goal.returns-then-json-clause-ends
 returns-then-json-clause-ends g c =
     let e = c.args.unmarking in
-    beside_ends _ _ e.beside _ _ _ (unmark_ends true e.only_first e.order (is_some e.seconds)) c.obey_form.ensures
+    beside_ends _ _ e.beside _ _ _ (unmark_ends true e.only_first e.order (is_some e.seconds)) c.obey_search.ensures
 
 pub returns-else-json-clause-ends : goal.returns-else-json-clause-ends
 returns-else-json-clause-ends g c =
     let e = c.args.unmarking in
-    beside_ends _ _ e.beside _ _ _ (unmark_ends false e.only_first e.order (is_some e.seconds)) c.obey_form-else-json.ensures
+    beside_ends _ _ e.beside _ _ _ (unmark_ends false e.only_first e.order (is_some e.seconds)) c.obey_search-else-json.ensures
 
 pub returns-then-json-clause-obeyed : goal.returns-then-json-clause-obeyed
-returns-then-json-clause-obeyed g c = rw c.if-json.true c.obey_form.ensures
+returns-then-json-clause-obeyed g c = rw c.if-json.true c.obey_search.ensures
 
 pub returns-else-json-clause-obeyed : goal.returns-else-json-clause-obeyed
-returns-else-json-clause-obeyed g c = rw c.if-json.false c.obey_form-else-json.ensures
+returns-else-json-clause-obeyed g c = rw c.if-json.false c.obey_search-else-json.ensures

@@ -1,4 +1,4 @@
-use Rattle.std.{proofs.Common.{◌≡◌, ◌∙◌, ap, arith, sym, subst, Some as There}, specs.List.slice_get}
+use Rattle.std.{proofs.Common.{◌≡◌, ◌∙◌, ap, arith, refl, sym, subst, Some as There}, specs.List.slice_get}
 use Rattle.derived_ops.specs.{Expansion.code_of, Reading.source_of}
 use Rattle.scheduled_core.specs.Core.{core, reported}
 use Rattle.exploration_text.{specs.Findings.Shows, proofs.{FirstFindings.drawn_found, Sampled.spellable}}
@@ -15,5 +15,6 @@ returns c =
     let same = c.in_ok-replayed.ensures.schedule ∙ c.as_slice-schedule.ensures in
     let ends = ap (λ s. reported (core code k s)) (sym c.as_slice-schedule.ensures) ∙ c.in_ok-replayed.ensures.end in
     let spelled = spellable c.in-Ok.found.comings c.args.entries (omega (arith, c.requires, order.entries)) c.in-Ok.ensures.numbers c.in-Ok.ensures.short in
-    drawn_found code k order.wants.items c.args.entries shown.0 c.in-Ok.found.comings c.in-Some.coming.now c.in_ok-replayed.field-0 c.in-Some.last there
-    shows c.in-Ok.ensures.each c.in-Ok.ensures.stays spelled same ends
+    let found = drawn_found code k order.wants.items c.args.entries shown.0 c.in-Ok.found.comings c.in-Some.coming.now c.in_ok-replayed.field-0 c.in-Some.last there
+    shows c.in-Ok.ensures.each c.in-Ok.ensures.stays spelled same ends in
+    (found, refl)
