@@ -20,8 +20,8 @@ returns-clause-entered c =
     let same = c.rows_of.ensures.same.here in
     let b : Bool = c.in_ok-chosen.chosen in
     let is = subst (λ (q : Place). b ≡ not (is_made n q.world x.fiber) && (is_persistent q.world x.set.items && is_lighter (weight_at q) (leapt n q x.fiber)))
-        same c.in_ok-chosen.ensures.chosen in
+    same c.in_ok-chosen.ensures.chosen in
     let found = subst (λ (q : Place). IsBest q.world (best q.world (length q.world.fibers)) (Some x)) same
-        (subst (IsBest (here c.rows_of.new.current).world _) c.in-Some.is c.in_ok-best.ensures) in
-    entered_out n p x b is c.args.fiber (not_false n.chosen c.if-not-at_once.false) 
+    (subst (IsBest (here c.rows_of.new.current).world _) c.in-Some.is c.in_ok-best.ensures) in
+    entered_out n p x b is c.args.fiber (not_false n.chosen c.if-not-at_once.false)
     (ap (λ s. in_set s c.args.fiber) (sym c.as_slice-2.ensures.value) ∙ sym c.is_inside.ensures ∙ c.if-is_inside.false) found

@@ -16,9 +16,9 @@ returns-then-not-branch-clause-picked c =
     let same = c.rows_of.ensures.same.here in
     let b : Bool = c.in_ok-is_chosen.field-0 in
     let is = subst (λ (q : Place). b ≡ not (is_made n q.world x.fiber) && (is_persistent q.world x.set.items && is_lighter (weight_at q) (leapt n q x.fiber)))
-        same c.in_ok-is_chosen.ensures.chosen in
+    same c.in_ok-is_chosen.ensures.chosen in
     let found = subst (λ (q : Place). IsBest q.world (best q.world (length q.world.fibers)) (Some x)) same
-        (subst (IsBest (here c.rows_of.new.current).world _) c.in-Some.is c.in_ok-best.ensures) in
+    (subst (IsBest (here c.rows_of.new.current).world _) c.in-Some.is c.in_ok-best.ensures) in
     subst (λ o. IsSet o None) (sym (picked_set n p x b is found ∙ ap (λ t. set_if t x.set.items) c.if-not-branch.true)) tt
 
 pub returns-clause-picked : goal.returns-clause-picked
@@ -29,7 +29,7 @@ returns-clause-picked c =
     let same = c.rows_of.ensures.same.here in
     let b : Bool = c.in_ok-is_chosen.field-0 in
     let is = subst (λ (q : Place). b ≡ not (is_made n q.world x.fiber) && (is_persistent q.world x.set.items && is_lighter (weight_at q) (leapt n q x.fiber)))
-        same c.in_ok-is_chosen.ensures.chosen in
+    same c.in_ok-is_chosen.ensures.chosen in
     let found = subst (λ (q : Place). IsBest q.world (best q.world (length q.world.fibers)) (Some x)) same
-        (subst (IsBest (here c.rows_of.new.current).world _) c.in-Some.is c.in_ok-best.ensures) in
+    (subst (IsBest (here c.rows_of.new.current).world _) c.in-Some.is c.in_ok-best.ensures) in
     subst (λ o. IsSet o (Some x.set)) (sym (picked_set n p x b is found ∙ ap (λ t. set_if t x.set.items) c.if-not-branch.false)) refl
