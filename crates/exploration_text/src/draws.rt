@@ -1,6 +1,8 @@
 //! Random schedules behind a search that a bound stopped.
 
-ghost use Rattle.std.specs.Prelude.{◌≡◌, IfOk, List, ℕ, false, true};
+ghost use Rattle.std.specs.Prelude.{◌≡◌, ◌++◌, IfOk, List, ℕ, true};
+ghost use Rattle.exploration_text.specs.declared.explore_texts.ExploreOrder.{ExploreOrder as TheOrder};
+ghost use Rattle.exploration_text.specs.declared.findings.Finding.{Finding as TheFinding};
 ghost use Rattle.exploration_text.specs.Draws.{IsWithDraws, IsWordsBehind};
 ghost use Rattle.exploration_text.specs.ExplorationText.{IsSpellable};
 
@@ -17,7 +19,7 @@ use std::alloc::{AllocError, Global};
 /// A form in which a finding is written behind an answer.
 pub trait FindingForm {
     // The possible texts of a finding.
-    ghost tells: { Finding → List ℕ → Type 0 };
+    ghost tells: { TheFinding → List ℕ → Type 0 };
 
     /// The text of a finding. `AllocError` where memory is refused.
     fn finding_text(alloc: Global, finding: &Finding) -> Result<Vec<u8>, AllocError>
@@ -42,7 +44,7 @@ pub trait SearchOrder: WatchedOrder {
     type Findings: FindingForm;
 
     // The limits, the bounds and the wanted outcomes of the search.
-    ghost searches: { Self → ExploreOrder };
+    ghost searches: { Self → TheOrder };
 
     /// The limits, the bounds and the wanted outcomes of the search.
     fn search_order(&self) -> &ExploreOrder
