@@ -1,8 +1,8 @@
 //! The worlds whose reports have answers, filed by the digests of these reports.
 
-ghost use Rattle.std.specs.Prelude.{◌≡◌, ◌≢◌, ◌⊎◌, ℕ, ◌<◌, ◌%◌, length, true, false, IfOk, OnOk, Some};
+ghost use Rattle.std.specs.Prelude.{◌≡◌, ◌≢◌, ℕ, ◌<◌, ◌%◌, length, true, false, IfOk, OnOk, Some};
 ghost use Rattle.std.specs.List.{slice_get};
-ghost use Rattle.world_search.specs.Private.Told.{IsFiled};
+ghost use Rattle.world_search.specs.Private.Told.{Files, IsFiled};
 
 use crate::store::Worlds;
 use std::alloc::{AllocError, Global};
@@ -21,7 +21,7 @@ impl Told {
         ensures none { IfOk result (λ it. (b n : ℕ) → IsFiled it.buckets.items b n → ⊥) }
     {
         let mut buckets = Vec::with_capacity(alloc, many)?;
-        for _ in 0..many {
+        while buckets.len() < many {
             buckets.push(Vec::new(alloc))?;
         }
         Ok(Told { buckets })
@@ -42,12 +42,7 @@ impl Told {
     /// Adds a world to a bucket.
     pub fn file(&mut self, bucket: usize, world: usize) -> Result<(), AllocError>
         requires { bucket < length self.old.buckets.items }
-        ensures many { OnOk result (length self.new.buckets.items ≡ length self.old.buckets.items) }
-        ensures here { OnOk result (IsFiled self.new.buckets.items bucket world) }
-        ensures kept { OnOk result ((b n : ℕ) → IsFiled self.old.buckets.items b n →
-            IsFiled self.new.buckets.items b n) }
-        ensures only { OnOk result ((b n : ℕ) → IsFiled self.new.buckets.items b n →
-            (n ≡ world) ⊎ IsFiled self.old.buckets.items b n) }
+        ensures { OnOk result (Files self.old.buckets.items self.new.buckets.items bucket world) }
     {
         self.buckets[bucket].push(world)?;
         Ok(())

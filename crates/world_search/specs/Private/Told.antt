@@ -1,5 +1,5 @@
 -- The worlds that have answers, filed in buckets.
-use Rattle.std.specs.Prelude.{◌≡◌, ℕ, ◌%◌, List, length, Some}
+use Rattle.std.specs.Prelude.{◌≡◌, ◌⊎◌, ℕ, ◌%◌, List, length, Some}
 use Rattle.std.specs.List.{slice_get}
 use Rattle.std.specs.declared.alloc.Global.{Global}
 use Rattle.std.specs.declared.vec.Vec.{Vec}
@@ -11,6 +11,13 @@ use Rattle.world_search.specs.Private.Listed.{IsNamed}
 -- the bucket has this number
 abbrev pub IsFiled : List (Vec ℕ Global) → (bucket number : ℕ) → Type 0
 IsFiled buckets b n = (v : Vec ℕ Global) × (slice_get buckets b ≡ Some v) × IsIn n v.items
+
+-- a world is added to a bucket
+pub record Files (old new : List (Vec ℕ Global)) (bucket world : ℕ) : Type 0 where
+  pub many : length new ≡ length old
+  pub here : IsFiled new bucket world
+  pub kept : (b n : ℕ) → IsFiled old b n → IsFiled new b n
+  pub only : (b n : ℕ) → IsFiled new b n → (n ≡ world) ⊎ IsFiled old b n
 
 module _ {W R : Type 0} (digest : R → ℕ) (report : W → R) (ws : List W) where
   -- each answer that is a world is in the bucket of its report, and the buckets have no other worlds
