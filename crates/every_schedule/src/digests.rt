@@ -13,9 +13,7 @@ use scheduled_core::outcome;
 fn mixed(digest: u64, number: u64) -> u64
     ensures { result ≡ the_mix digest number }
 {
-    digest
-        .wrapping_mul(1_099_511_628_211)
-        .wrapping_add(number)
+    digest.wrapping_mul(1_099_511_628_211).wrapping_add(number)
 }
 
 // The digest, extended by a kind and a number.

@@ -26,9 +26,11 @@ set_files bs b x old new at is =
       here = (new, there, (length old.items, subst (λ (l : List ℕ). slice_get l (length old.items) ≡ Some x) (sym is) (get_last old.items x)));
       kept = λ c n h. dite (ℕ_discrete c b)
           (λ same.
-          let vec : h.0 ≡ old = same_Some h.0 old (sym h.1 ∙ subst (λ i. slice_get bs i ≡ Some old) (sym same) at) in
-          (new, subst (λ i. slice_get (set bs b new) i ≡ Some new) (sym same) there,
-              more_in old.items new.items n (record { more = x ∷ []; is = sym is }) (subst (λ (v : Vec ℕ Global). IsIn n v.items) vec h.2)))
+          let vec : h.0 ≡ old = same_Some h.0 old (sym h.1 ∙ subst (λ i. slice_get bs i ≡ Some old) (sym same) at) in (
+            new,
+            subst (λ i. slice_get (set bs b new) i ≡ Some new) (sym same) there,
+            more_in old.items new.items n (record { more = x ∷ []; is = sym is }) (subst (λ (v : Vec ℕ Global). IsIn n v.items) vec h.2),
+          ))
           (λ apart. (h.0, set_other bs b c new apart ∙ h.1, h.2));
       only = λ c n h. dite (ℕ_discrete c b)
           (λ same.
