@@ -21,12 +21,16 @@ with_pair d kind n = mixed (mixed d kind) n
 abbrev pub word_of : ℤ → ℕ
 word_of v = cast_unsigned w64 v
 
--- a digest, extended by how a fiber ended
+-- a digest, extended by the outcome of a fiber that has ended
+abbrev pub with_end : ℕ → Outcome → ℕ
+with_end d (ended.Succeeded v) = with_pair d 2 (word_of v)
+with_end d (ended.Errored c) = with_pair d 3 (word_of c)
+with_end d ended.Canceled = with_pair d 4 0
+
+-- a digest, extended by the outcome of a fiber, if it has ended
 abbrev pub with_outcome : ℕ → Option Outcome → ℕ
 with_outcome d None = with_pair d 1 0
-with_outcome d (Some (ended.Succeeded v)) = with_pair d 2 (word_of v)
-with_outcome d (Some (ended.Errored c)) = with_pair d 3 (word_of c)
-with_outcome d (Some ended.Canceled) = with_pair d 4 0
+with_outcome d (Some o) = with_end d o
 
 -- a digest, extended by a mark
 abbrev pub with_mark : ℕ → Mark → ℕ

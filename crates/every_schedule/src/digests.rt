@@ -2,7 +2,7 @@
 ghost use Rattle.std.specs.Prelude.{◌≡◌};
 ghost use Rattle.std.specs.List.{fold};
 ghost use Rattle.every_schedule.specs.Digests.{mixed as the_mix, with_mark as the_mark, with_outcome as the_outcome};
-ghost use Rattle.every_schedule.specs.Digests.{with_pair as the_pair, with_report};
+ghost use Rattle.every_schedule.specs.Digests.{with_end, with_pair as the_pair, with_report};
 ghost use Rattle.scheduled_core.specs.Core.{fiber_report};
 
 use effect_term::Outcome;
@@ -29,9 +29,18 @@ pub fn with_outcome(digest: u64, outcome: Option<Outcome>) -> u64
 {
     match outcome {
         None => with_pair(digest, 1, 0),
-        Some(Outcome::Succeeded(value)) => with_pair(digest, 2, value.get().cast_unsigned()),
-        Some(Outcome::Errored(code)) => with_pair(digest, 3, code.get().cast_unsigned()),
-        Some(Outcome::Canceled) => with_pair(digest, 4, 0),
+        Some(outcome) => with_end(digest, outcome),
+    }
+}
+
+// The digest, extended by the outcome of a fiber that has ended.
+fn with_end(digest: u64, outcome: Outcome) -> u64
+    ensures { result ≡ with_end digest outcome }
+{
+    match outcome {
+        Outcome::Succeeded(value) => with_pair(digest, 2, value.get().cast_unsigned()),
+        Outcome::Errored(code) => with_pair(digest, 3, code.get().cast_unsigned()),
+        Outcome::Canceled => with_pair(digest, 4, 0),
     }
 }
 
