@@ -1,5 +1,5 @@
 -- No answer on fair schedules has the status of wrong usage.
-use Rattle.std.proofs.Common.{◌≡◌, ◌≢◌, ◌∙◌, Bool, true, false, ℕ, List, sym}
+use Rattle.std.proofs.Common.{◌≢◌, ◌∙◌, Bool, true, false, ℕ, List, sym}
 use Rattle.effect_term.specs.declared.term.Term.{Term}
 use Rattle.text_io.specs.declared.status.Status.{Status}
 use Rattle.text_io.specs.declared.status.Status.TheVariants as ends

@@ -1,5 +1,5 @@
 -- Answers to texts whose programs workers run while they record their schedule.
-use Rattle.std.proofs.Common.{◌≡◌, ◌++◌, ◌∷◌, ℕ, All, Bool, true, false, ◌&&◌, List, Option, Some, None, Result, Ok, Err, IfOk, refl, subst, sym}
+use Rattle.std.proofs.Common.{◌≡◌, ◌++◌, ◌∷◌, ℕ, All, true, false, ◌&&◌, List, Option, Some, None, Result, Ok, Err, IfOk, refl, subst, sym}
 use Rattle.std.specs.Prelude.{IfErr, IfNone, IfSome, String, string_bytes}
 use Rattle.std.specs.declared.alloc.Global.{Global}
 use Rattle.std.specs.declared.vec.Vec.{Vec}

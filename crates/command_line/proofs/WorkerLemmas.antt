@@ -1,5 +1,5 @@
 -- Answers to programs that workers run.
-use Rattle.std.proofs.Common.{◌≡◌, ℕ, All, List, Result, Ok, Err, IfOk}
+use Rattle.std.proofs.Common.{◌≡◌, All, Result, Ok, Err, IfOk}
 use Rattle.cell_registry.specs.declared.limits.RunError.{RunError}
 use Rattle.derived_ops.specs.Expansion.{code_of}
 use Rattle.derived_ops.specs.Reading.{source_of}

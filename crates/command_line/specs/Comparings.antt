@@ -1,5 +1,5 @@
 -- The effect of a request to compare the programs of two files.
-use Rattle.std.specs.Prelude.{◌≡◌, ◌≢◌, ℕ, false, List, ◌++◌, codes, Result, Ok, Err, IfOk}
+use Rattle.std.specs.Prelude.{◌≡◌, ◌≢◌, ℕ, false, List, ◌++◌, codes, Result, Err, IfOk}
 use Rattle.comparison_answers.specs.declared.pairs.CompareOrder.{CompareOrder}
 use Rattle.comparison_answers.specs.PairAnswers.{IsPairAnswer}
 use Rattle.text_io.specs.declared.fault.TextFault.{TextFault}

@@ -1,12 +1,10 @@
 -- The unit at the end of a text.
-use Rattle.std.proofs.Common.{◌≡◌, ◌≢◌, ◌∙◌, ◌++◌, ◌∷◌, ◌-◌, ◌<◌, ◌≤◌, ℕ, List, [], Some, None, length, take, ap, sym, subst, refl, arith, length-append}
-use Rattle.std.proofs.Common.{inl, inr}
+use Rattle.std.proofs.Common.{◌≡◌, ◌≢◌, ◌∙◌, ◌++◌, ◌∷◌, ◌-◌, ◌<◌, ◌≤◌, ℕ, [], Some, None, length, take, ap, refl, arith, length-append}
 use Rattle.std.proofs.Math.Seq.{take-append_seam}
 use Rattle.std.proofs.lemmas.Grind.{common_steps}
 use Rattle.std.specs.List.{last_or}
 use Rattle.std.specs.Prelude.{◌*◌, Option}
 use Rattle.std.proofs.lemmas.Nat.{mul-le}
-use mathlib.Core.Logic.{◌⊎◌}
 use Rattle.clap.specs.Words.{Text}
 use Rattle.command_words.specs.Memory.{letter_unit, number_in, unit_of}
 

@@ -1,5 +1,5 @@
 -- What the comparison of two programs reports of them under every schedule.
-use Rattle.std.specs.Prelude.{◌≡◌, ◌⊎◌, ◌↔◌, ℕ, ◌<◌, ◌≤◌, true, false, List, length, max, Some, Result, Ok, Err, IfOk}
+use Rattle.std.specs.Prelude.{◌≡◌, ◌⊎◌, ◌↔◌, ℕ, ◌<◌, ◌≤◌, true, false, List, length, max, Some, Result, IfOk}
 use Rattle.std.specs.List.{All, slice_get}
 use Rattle.derived_ops.specs.Tree.{Tree}
 use Rattle.cell_registry.specs.declared.limits.Limits.{Limits}

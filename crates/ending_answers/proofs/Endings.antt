@@ -1,5 +1,5 @@
 -- Decisions on fair schedules, from the contract of a search.
-use Rattle.std.proofs.Common.{◌≡◌, ◌⊎◌, ◌≤◌, ◌<◌, ℕ, refl, sym, subst, arith, inl, inr}
+use Rattle.std.proofs.Common.{◌≡◌, ◌⊎◌, ◌≤◌, ℕ, refl, sym, subst, arith, inl, inr}
 use Rattle.cell_registry.specs.declared.limits.Limits.{Limits}
 use Rattle.derived_ops.specs.Tree.{Tree}
 use Rattle.fair_ends.specs.{declared.ending.{Cycle.Cycle, Ending.Ending}, Fair.IsFair}

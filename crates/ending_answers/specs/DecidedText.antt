@@ -5,7 +5,6 @@ use Rattle.fair_ends.specs.declared.ending.Ending.TheVariants as decided
 use Rattle.text_io.specs.declared.status.Status.{Status}
 use Rattle.text_io.specs.declared.status.Status.TheVariants as ends
 use Rattle.text_io.specs.Schedule.{SpellsEntries}
-use Rattle.every_schedule.specs.declared.exploration.Exploration.{Exploration}
 use Rattle.exploration_text.specs.declared.wants.Want.{Want}
 use Rattle.exploration_text.specs.ExplorationText.{IsExplorationText, exploration_status}
 use Rattle.ending_answers.specs.declared.decided.Decided.{Decided}

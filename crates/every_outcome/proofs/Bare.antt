@@ -1,6 +1,6 @@
 -- What holds of answers without marks holds of their outcomes.
-use Rattle.std.proofs.Common.{◌≡◌, ◌≢◌, ◌&&◌, ℕ, zero, suc, Bool, true, false, cond, List, [], ◌∷◌, ◌++◌, length, map, Option, Some, Result, Ok, Err, refl, sym, ap}
-use Rattle.std.{proofs.{Common.{ap₂, ◌∙◌, subst, ◌<◌, ◌≤◌, arith}, lemmas.Option.same_Some}, specs.List.{All, fold, slice_get}}
+use Rattle.std.proofs.Common.{◌≡◌, ◌&&◌, ℕ, zero, suc, Bool, true, false, cond, List, [], ◌∷◌, ◌++◌, length, map, Option, Some, Result, Ok, Err, refl, sym, ap}
+use Rattle.std.{proofs.{Common.{ap₂, ◌∙◌, subst, ◌<◌, arith}, lemmas.Option.same_Some}, specs.List.{All, fold, slice_get}}
 use Rattle.effect_term.specs.declared.reply.Outcome.{Outcome}
 use Rattle.derived_ops.specs.Tree.{Tree}
 use Rattle.fiber_frames.specs.{declared.mark.Mark.Mark, Fiber.{Fiber, outcome_of}}

@@ -1,14 +1,14 @@
 -- A fiber makes the same moves, and says the same, without the numbers of its masks and the marks that aren't kept.
 use Rattle.std.proofs.Common.{append_assoc, arith, get_or, take, ◌+◌, ◌<◌, zero}
-use Rattle.std.proofs.Common.{◌≡◌, ℕ, suc, Bool, true, false, cond, ◌&&◌, if◌then◌else◌, List, [], ◌∷◌, ◌++◌, length, Option, refl, sym, ap, ap₂, ◌∙◌}
+use Rattle.std.proofs.Common.{◌≡◌, ℕ, suc, Bool, true, false, cond, if◌then◌else◌, List, [], ◌∷◌, ◌++◌, length, Option, refl, sym, ap, ap₂, ◌∙◌}
 use Rattle.effect_term.specs.declared.reply.{Outcome.Outcome, Reply.Reply}
 use Rattle.derived_ops.specs.Tree.{Acquired, Act, Action, Bracket_mark, Guarded, Handled, Let, Make, Maker, Mask, Masked, New_deferred, New_ref, Note, Operand}
 use Rattle.derived_ops.specs.Tree.{Pair, Poll, Polled, Pure, Raise, Released, Releasing, Seq, Tree}
 use Rattle.fiber_frames.specs.{declared.mark.Mark.Mark, Path.{At_final, At_term, Final, In_guarded, In_handle, In_let, In_masked, In_polled, In_seq, PathStep}}
 use Rattle.fiber_frames.specs.Path.{Root, Running, Runs, focus, is_effective, masks_at_root, masks_in}
 use Rattle.fiber_frames.specs.Rows.{Row, action_row, error_under, note_mark, number_of, row_at, value_under, word_row}
-use Rattle.fiber_frames.specs.Fiber.{Cuts, Fiber, Looks, Move_case, Reduces, Rests, ask_of, child, move, move_case, move_in, outcome_of, row_of}
-use Rattle.fiber_frames.specs.{Reached.Reached, Unmarked.{all_renumbered, masks_of, own_place, placed_in, renumbered, run_renumbered, unmarked}}
+use Rattle.fiber_frames.specs.Fiber.{Cuts, Fiber, Looks, Move_case, Reduces, Rests, ask_of, child, move, move_case, move_in, row_of}
+use Rattle.fiber_frames.specs.{Reached.Reached, Unmarked.{masks_of, own_place, placed_in, renumbered, run_renumbered, unmarked}}
 use Rattle.fiber_frames.proofs.Placing.{Faithful, HasPlace, all_placed, each_map, faithful_kept, placed_faithful}
 use Rattle.fiber_frames.proofs.Renumbering.{Each, IsKept}
 use Rattle.fiber_frames.proofs.RenumberedMoves.{same_case}

@@ -1,5 +1,5 @@
 -- Two worlds have the same report where their fibers have the same outcomes and the same marks that are kept.
-use Rattle.std.proofs.Common.{◌≡◌, ◌≢◌, Bool, List, [], ◌∷◌, map, Option, refl, sym, ap, ap₂, ◌∙◌}
+use Rattle.std.proofs.Common.{◌≡◌, Bool, List, [], ◌∷◌, map, Option, refl, sym, ap, ap₂, ◌∙◌}
 use Rattle.effect_term.specs.declared.reply.Outcome.{Outcome}
 use Rattle.fiber_frames.specs.{declared.mark.Mark.Mark, Fiber.{Fiber, outcome_of}}
 use Rattle.cell_registry.specs.declared.limits.Limits.{Limits}

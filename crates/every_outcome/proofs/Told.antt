@@ -1,5 +1,5 @@
 -- What a search promises of its answers holds of the answers that are listed.
-use Rattle.std.proofs.Common.{Bool, true, ◌≡◌, ◌≢◌, inl, inr, ℕ, ◌+◌, ◌<◌, List, [], ◌∷◌, ◌++◌, length, map, refl, Option, Result, Ok, Err, sym, ap, ◌∙◌, subst}
+use Rattle.std.proofs.Common.{Bool, true, ◌≡◌, ◌≢◌, inl, inr, ℕ, ◌+◌, ◌<◌, List, [], ◌∷◌, ◌++◌, length, map, refl, Result, Ok, Err, sym, ap, ◌∙◌, subst}
 use Rattle.std.proofs.{Common.{arith, get_or}, lemmas.Option.{get_or_from_slice_get, same_Some, slice_get-get_or, slice_get_cases, slice_get_within}}
 use Rattle.std.{proofs.lemmas.List.Elements.All-get_or, specs.{Prelude.Some, List.{All, fold, slice_get}}}
 use Rattle.derived_ops.specs.Tree.{Tree}

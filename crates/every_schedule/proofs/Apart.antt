@@ -1,5 +1,5 @@
 -- The fibers of a persistent set are apart: what the other fibers do neither shows in their next moves nor is changed by them.
-use Rattle.std.proofs.Common.{◌≡◌, ◌≢◌, ◌⊎◌, inl, inr, ℕ, zero, suc, ◌+◌, ◌<◌, nat_lt, Bool, true, false, not, ◌&&◌, ◌||◌, List, [], ◌∷◌, get_or, length}
+use Rattle.std.proofs.Common.{◌≡◌, ◌≢◌, ◌⊎◌, inl, inr, ℕ, zero, suc, ◌+◌, ◌<◌, nat_lt, Bool, true, false, not, ◌&&◌, ◌||◌, List, [], ◌∷◌, length}
 use Rattle.std.proofs.Common.{Some, None, Option, Result, Ok, Err, refl, sym, ap, ◌∙◌, subst, arith}
 use Rattle.std.specs.List.{slice_get}
 use mathlib.Core.Logic.{dite}
@@ -8,28 +8,23 @@ use Rattle.fiber_frames.specs.declared.uses.Use.{Use}
 use Rattle.fiber_frames.specs.declared.uses.Use.TheVariants.{Cancels}
 use Rattle.fiber_frames.specs.Fiber.{Fiber, ask_of}
 use Rattle.fiber_frames.specs.Uses.{used_place}
-use Rattle.fiber_frames.proofs.NamedMoves.{ask_named}
-use Rattle.cell_registry.specs.declared.call.Call.{Call}
 use Rattle.cell_registry.specs.declared.call.Call.TheVariants as call
 use Rattle.cell_registry.specs.declared.cell.Cell.{Cell}
 use Rattle.cell_registry.specs.declared.limits.RunError.{RunError}
-use Rattle.cell_registry.specs.Cells.{cell_of}
 use Rattle.cell_registry.specs.Words.{has_ended}
 use Rattle.cell_registry.proofs.Forgetting.{unawaited_cell}
 use Rattle.scheduled_core.specs.declared.wish.Wish.{Wish}
 use Rattle.scheduled_core.specs.declared.wish.Wish.TheVariants.{Shared}
 use Rattle.scheduled_core.specs.Core.{World, wish_of}
-use Rattle.scheduled_core.specs.Fitting.{AllFit, given_by}
 use Rattle.world_search.specs.Chosen.{AreApart, Meet}
 use Rattle.every_schedule.specs.declared.needs.Needs.{Needs}
 use Rattle.every_schedule.specs.Persistent.{can_use, depends_on, in_set, is_given, is_making, is_number, is_persistent, is_sound}
 use Rattle.every_schedule.specs.Persistent.{is_inside, needs_of, needs_one, needs_unless, spared, stand, stands_in, stands_with}
 use Rattle.every_schedule.specs.Places.{Place, bare, bared, entering, moves_at, stepped, unnoted, wants}
-use Rattle.every_schedule.specs.Reduced.{has_come_to_end, is_completed}
 use Rattle.every_schedule.proofs.Bare.{bare_step, end_bare, enters, goes_bare, idle_stays, moves_step, next_bare}
 use Rattle.every_schedule.proofs.Bare.Enters.{Goes, Stays}
 use Rattle.every_schedule.proofs.Outside.{KeepsTo, StandsAt, apart_from, neither, not_false, quiet_moves, stands_later}
-use Rattle.every_schedule.proofs.OwnKept.{ask_for, asked_so, both_true, or_cases}
+use Rattle.every_schedule.proofs.OwnKept.{both_true, or_cases}
 use Rattle.every_schedule.proofs.Still.{other_stays}
 use Rattle.every_schedule.proofs.TwoMoves.{AreQuiet, born_wants, fault_stays, leads_to, moves_meet}
 

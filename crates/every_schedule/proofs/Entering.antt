@@ -1,5 +1,5 @@
 -- How an entry changes the kept worlds.
-use Rattle.std.proofs.Common.{◌≡◌, ◌≢◌, ℕ, zero, suc, ◌≤◌, Bool, List, [], ◌∷◌, length, map, Option, Some, None, Ok, Err, Result, refl, sym, ap, ◌∙◌, subst}
+use Rattle.std.proofs.Common.{◌≡◌, ◌≢◌, ℕ, zero, suc, ◌≤◌, List, [], ◌∷◌, length, map, Option, Some, None, Ok, Err, Result, refl, sym, ap, ◌∙◌, subst}
 use Rattle.std.{proofs.{Common.arith, lemmas.{List.length-map, Option.{same_Some, slice_get_past}}}, specs.{Prelude.{IfOk, max}, List.slice_get}}
 use Rattle.cell_registry.specs.{declared.limits.{Limits.Limits, RunError.RunError}, Plain.{IsPlain, PlainView}}
 use Rattle.fiber_frames.specs.Fiber.{Fiber}

@@ -1,11 +1,10 @@
 -- What a reduced search for claims leaves out: births, and own moves that set or change no ref, can be made early, also with the list of the refs that were
 -- set, and they change nothing that claims compare.
-use Rattle.std.proofs.Common.{◌≡◌, ◌≢◌, ◌⊎◌, inl, inr, ℕ, ◌&&◌, Bool, true, false, is_none, List, [], ◌∷◌, ◌++◌, set, append-nil, Some, None, Option, Result, Ok, Err}
+use Rattle.std.proofs.Common.{◌≡◌, ◌≢◌, ◌⊎◌, inl, inr, ℕ, Bool, true, false, is_none, List, [], ◌∷◌, set, Some, None, Option, Result, Ok, Err}
 use Rattle.std.proofs.Common.{refl, sym, ap, ap₂, ◌∙◌, subst}
 use Rattle.std.specs.Prelude.{ℤ}
 use Rattle.std.specs.List.{fold, slice_get}
-use Rattle.effect_term.specs.declared.reply.Reply.{Reply}
-use Rattle.fiber_frames.specs.Fiber.{Fiber, ask_of, move, silent_move}
+use Rattle.fiber_frames.specs.Fiber.{Fiber, ask_of, silent_move}
 use Rattle.cell_registry.specs.declared.limits.Limits.{Limits}
 use Rattle.cell_registry.specs.declared.limits.CellError.{CellError}
 use Rattle.cell_registry.specs.declared.limits.RunError.{RunError}
@@ -14,8 +13,7 @@ use Rattle.cell_registry.specs.declared.call.Call.TheVariants.{Modify, NewDeferr
 use Rattle.cell_registry.specs.Cells.{Cells, after, refusal, reply_of}
 use Rattle.scheduled_core.specs.declared.wish.Wish.{Wish}
 use Rattle.scheduled_core.specs.declared.wish.Wish.TheVariants.{Shared, Alone, Nothing}
-use Rattle.scheduled_core.specs.Core.{World, answered, born, called, turned, wish_of, wished}
-use Rattle.scheduled_core.proofs.Lists.{slice_get-set_other}
+use Rattle.scheduled_core.specs.Core.{World, answered, called, turned, wish_of, wished}
 use Rattle.world_search.specs.Free.{AreEarly, Commutes, Leads, Leaps}
 use Rattle.world_search.specs.Free.Leads.{Here, On}
 use Rattle.world_search.specs.Systems.{run}

@@ -1,6 +1,6 @@
 -- How far a world has come: what is computed of it is so, and entries at a final world keep it.
 use Rattle.std.proofs.Common.{◌≡◌, ◌≢◌, ◌⊎◌, inl, inr, ℕ, zero, suc, ◌+◌, ◌<◌, ◌≤◌, not, ◌&&◌, ◌||◌, Bool, true, false, List, [], ◌∷◌, length, map, Option, Some, None}
-use Rattle.std.proofs.Common.{Ok, refl, sym, ap, ap₂, ◌∙◌, subst, arith}
+use Rattle.std.proofs.Common.{refl, sym, ap, ap₂, ◌∙◌, subst, arith}
 use Rattle.std.specs.Prelude.{is_none, is_some, get_or}
 use Rattle.std.specs.List.{list_all, slice_get}
 use Rattle.effect_term.specs.declared.reply.{Outcome.Outcome, Reply.Reply}
@@ -8,17 +8,17 @@ use Rattle.derived_ops.specs.Tree.{Mask}
 use Rattle.fiber_frames.specs.declared.{ask.{Ask.Ask, Look.{Look, TheVariants.{Due, Clear, Seen}}}, mark.Mark.Mark}
 use Rattle.fiber_frames.specs.{Path.{Running, Runs, Final, Over, Broken}, Rows.{RowKind, Plain, Waited, Ceded, Born, Ended}}
 use Rattle.fiber_frames.specs.Fiber.{Fiber, active_of, ask_in, ask_of, case_under, is_silent, is_waited, move_case, outcome_of, row_of, unmasked_case, waits_alone}
-use Rattle.fiber_frames.specs.Leading.{Asked, IsGoing, Leads, depth_of, way_after, way_of}
+use Rattle.fiber_frames.specs.Leading.{Asked, IsGoing, Leads, depth_of, way_of}
 use Rattle.cell_registry.specs.Cells.{Cells, cell_of, deferred_of}
 use Rattle.scheduled_core.specs.declared.report.FiberReport.{FiberReport}
-use Rattle.scheduled_core.specs.{Core.{World, fiber_report, wish_of}, Finals.{HasEnded, IsAtRest, IsFinal, IsUnasked, reply_to, word_wish}}
+use Rattle.scheduled_core.specs.{Core.{World, fiber_report, wish_of}, Finals.{HasEnded, IsFinal, IsUnasked, reply_to, word_wish}}
 use Rattle.scheduled_core.specs.Fitting.{Fits, LookFits, cell_registered}
 use Rattle.scheduled_core.proofs.Settling.{waits_join, waits_read}
 use Rattle.cell_registry.specs.Words.{has_ended}
-use Rattle.scheduled_core.proofs.{Finality.{case_waits, final_stays}, Resting.{IsWait, Silently, Joins, Reads, call_waits}}
+use Rattle.scheduled_core.proofs.{Finality.{case_waits}, Resting.{IsWait, Silently, Joins, Reads, call_waits}}
 use Rattle.every_schedule.specs.declared.progress.Progress.{Progress}
 use Rattle.every_schedule.specs.declared.progress.Progress.TheVariants.{GoesOn, Deadlocked, LeftBehind, AllOver}
-use Rattle.every_schedule.specs.Standings.{HasFirstEnded, HaveAllEnded, IsStanding}
+use Rattle.every_schedule.specs.Standings.{IsStanding}
 use Rattle.every_schedule.specs.Private.Stopping.{IsStopped, IsWaiting, are_stopped, ends, first_ends, has_mask, is_at_rest, is_stopped, is_unasked, is_unseen}
 use Rattle.every_schedule.specs.Private.Stopping.{standing_by, standing_of, waits}
 use Rattle.every_schedule.proofs.{OwnKept.and_true, Still.two_true, Unrest.{GoesOn as WouldGoOn, goes_not}}

@@ -1,8 +1,7 @@
 -- How the truth of a claim leans on the words about the whole world: whether it can be true only where no fiber can go
 -- on, or false only there.
-use Rattle.std.specs.Prelude.{◌≡◌, ◌-◌, ◌++◌, ◌||◌, Bool, true, false, List, [], ◌∷◌, length, take, slice_index_or}
+use Rattle.std.specs.Prelude.{◌-◌, ◌++◌, ◌||◌, true, false, List, [], ◌∷◌, length, take, slice_index_or}
 use Rattle.std.specs.List.{fold}
-use Rattle.cell_registry.specs.Cells.{Cells}
 use Rattle.every_schedule.specs.declared.claims.ClaimWord.{ClaimWord}
 use Rattle.every_schedule.specs.declared.claims.ClaimWord.TheVariants.{Compare, Not, And, Or, Deadlock, Left, Final}
 use Rattle.every_schedule.specs.declared.leanings.Leaning.{Leaning}

@@ -1,6 +1,6 @@
 -- Persistent sets: at a world, the reduced exploration makes only the entries of a set of fibers whose next moves the
 -- other fibers can neither see nor influence, whatever they do.
-use Rattle.std.specs.Prelude.{◌+◌, ℕ, zero, suc, nat_eq, nat_lt, Bool, true, false, not, ◌&&◌, ◌||◌, if◌then◌else◌}
+use Rattle.std.specs.Prelude.{◌+◌, ℕ, zero, suc, nat_eq, nat_lt, Bool, true, false, not, ◌&&◌, ◌||◌}
 use Rattle.std.specs.Prelude.{List, [], ◌∷◌, get_or, length, replicate, Option, Some, None, Result, Ok, Err, slice_set}
 use Rattle.std.specs.List.{slice_get}
 use Rattle.cell_registry.specs.declared.call.Call.{Call}

@@ -1,5 +1,5 @@
 -- The first finding of a program, and the answer of a search for it.
-use Rattle.std.specs.Prelude.{◌≡◌, ◌⊎◌, ◌<◌, ℕ, Bool, true, false, List, [], ◌∷◌, ◌++◌, codes, length, Option, Some}
+use Rattle.std.specs.Prelude.{◌≡◌, ◌⊎◌, ◌<◌, ℕ, Bool, true, false, List, [], ◌∷◌, ◌++◌, codes, length, Some}
 use Rattle.std.specs.Prelude.{Result, Ok, Err, min}
 use Rattle.std.specs.List.{All}
 use Rattle.cell_registry.specs.declared.limits.Limits.{Limits}

@@ -12,7 +12,6 @@ use Rattle.effect_term.specs.declared.reply.Reply.TheVariants as reply
 use Rattle.fiber_frames.specs.declared.ask.Ask.TheVariants as ask
 use Rattle.fiber_frames.specs.declared.config.Moved.TheVariants as moves
 use Rattle.cell_registry.specs.declared.call.Call.TheVariants as call
-use Rattle.cell_registry.specs.declared.limits.RunError.TheVariants as run
 
 -- ---- what is told of a birth
 births : (c : Fiber) (k : RowKind) → IsBirth k → told c k ≡ moves.Born c

@@ -1,5 +1,5 @@
 -- Answers to texts in JSON.
-use Rattle.std.proofs.Common.{◌≡◌, ◌≢◌, ◌⊎◌, ℕ, List, Result, Ok, Err, IfOk, OnOk, inl, inr, subst}
+use Rattle.std.proofs.Common.{◌≡◌, ◌≢◌, ℕ, List, Result, Ok, Err, IfOk, OnOk, inl, inr, subst}
 use Rattle.cell_registry.specs.declared.limits.{Limits.Limits, RunError.RunError}
 use Rattle.effect_term.specs.declared.{term.Term.Term, refusal.TermError.TermError}
 use Rattle.term_parse.specs.declared.error.ParseError.{ParseError}

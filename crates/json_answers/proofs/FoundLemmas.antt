@@ -1,5 +1,5 @@
 -- Answers in JSON to texts whose programs are explored, or whose schedules are sampled.
-use Rattle.std.proofs.Common.{◌≡◌, ℕ, List, Result, Ok, Err, IfOk, ◌∙◌}
+use Rattle.std.proofs.Common.{◌≡◌, ℕ, List, Result, Ok, Err, IfOk}
 use Rattle.cell_registry.specs.declared.limits.Limits.{Limits}
 use Rattle.effect_term.specs.{declared.term.Term.Term, Programs.IsProgram}
 use Rattle.term_parse.specs.{Atoms.atoms_of, Reading.reading}

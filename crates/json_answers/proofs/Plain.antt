@@ -1,5 +1,5 @@
 -- No value of an answer holds a number with a point.
-use Rattle.std.proofs.Common.{◌≡◌, ℕ, ◌+◌, ℤ, pos, negsuc, Bool, false, List, [], ◌∷◌, ◌||◌, Option, Some, None, refl, ap₂, ◌∙◌}
+use Rattle.std.proofs.Common.{◌≡◌, ℕ, ◌+◌, ℤ, pos, negsuc, Bool, false, List, [], ◌∷◌, ◌||◌, Option, Some, None, refl, ap₂}
 use Rattle.cell_registry.specs.declared.limits.RunError.{RunError}
 use Rattle.effect_term.specs.declared.{refusal.TermError.TermError, reply.Outcome.{Outcome, TheVariants.{Succeeded, Errored, Canceled}}}
 use Rattle.term_parse.specs.declared.error.ParseError.{ParseError}

@@ -1,5 +1,5 @@
 -- The values of answers, one answer at a time.
-use Rattle.std.proofs.Common.{◌≡◌, ℕ, Bool, true, false, not, List, [], ◌++◌, Result, Ok, Err, IfOk, map}
+use Rattle.std.proofs.Common.{◌≡◌, ℕ, Bool, true, false, not, List, ◌++◌, Result, Ok, Err, IfOk, map}
 use Rattle.std.proofs.{Common.{ap, ◌∙◌, subst}, lemmas.List.map-append}
 use Rattle.text_io.specs.Schedule.{SpellsEntries}
 use Rattle.every_schedule.specs.declared.exploration.{Answer.Answer, Exploration.Exploration}

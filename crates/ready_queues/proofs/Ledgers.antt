@@ -1,5 +1,5 @@
 -- Each move keeps the ledger.
-use Rattle.std.proofs.Common.{◌≡◌, ◌≢◌, ◌==◌, if◌then◌else◌, ◌≤◌, ◌<◌, ℕ, zero, suc, true, false, Bool, List, [], ◌∷◌, ◌++◌, length, set, sym, refl, ap, ◌∙◌}
+use Rattle.std.proofs.Common.{◌≡◌, ◌≢◌, ◌==◌, if◌then◌else◌, ◌<◌, ℕ, zero, suc, true, false, Bool, List, [], ◌∷◌, ◌++◌, length, set, sym, refl, ap, ◌∙◌}
 use Rattle.std.proofs.{Common.{subst, ⊎_elim, append_assoc, append-nil, inl, inr, ◌⊎◌, arith}, lemmas.Bool.Decides.nat_tests, Math.ListN.length-set}
 use Rattle.std.proofs.Math.ListN.{length-append}
 use mathlib.Core.Option.{some, some-ne-none, some-injective}

@@ -1,5 +1,5 @@
 -- Lists of reports and faults that leave nothing out.
-use Rattle.std.proofs.Common.{◌≡◌, ℕ, [], ◌∷◌, Result, Ok, subst}
+use Rattle.std.proofs.Common.{Result, Ok, subst}
 use Rattle.derived_ops.specs.Tree.{Tree}
 use Rattle.cell_registry.specs.declared.limits.{Limits.Limits, RunError.RunError}
 use Rattle.scheduled_core.specs.{declared.report.Report.Report, Core.World, Covers.{End, IsAccounted, IsAmong, IsInEachCover}}

@@ -1,7 +1,7 @@
 -- If the chosen entries at a world are those of a set of fibers that is apart, one of which leads to a smaller world, they get at least as far as any schedule.
-use Rattle.std.proofs.Common.{◌≡◌, ◌⊎◌, ℕ, zero, suc, ◌<◌, ◌≤◌, Bool, true, false, List, [], ◌∷◌, ◌++◌, length, Result, Ok, Err}
+use Rattle.std.proofs.Common.{◌≡◌, ◌⊎◌, ℕ, zero, suc, ◌≤◌, Bool, true, false, List, [], ◌∷◌, ◌++◌, length, Result, Ok, Err}
 use Rattle.std.proofs.Common.{refl, sym, ap, ◌∙◌, subst, arith, inl, inr, length-append}
-use Rattle.world_search.specs.Free.{AreEarly, Leads, Leaps, Reduces}
+use Rattle.world_search.specs.Free.{AreEarly, Leaps, Reduces}
 use Rattle.world_search.specs.Chosen.{AreApart, IsChosen, IsPart, Meet}
 use Rattle.world_search.specs.Chosen.IsChosen.{Part, Whole}
 use Rattle.world_search.specs.Systems.{run}

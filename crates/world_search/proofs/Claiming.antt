@@ -1,5 +1,5 @@
 -- What the listed claims say, from the graph of the search.
-use Rattle.std.proofs.Common.{◌≡◌, ℕ, ◌+◌, ◌<◌, ◌≤◌, Bool, false, List, [], ◌∷◌, ◌++◌, length, Some, Result, Ok, Err, sym, ◌∙◌, subst, arith}
+use Rattle.std.proofs.Common.{◌≡◌, ℕ, ◌+◌, ◌<◌, ◌≤◌, Bool, false, List, [], ◌∷◌, length, Some, Result, Ok, Err, sym, ◌∙◌, subst, arith}
 use Rattle.std.{proofs.lemmas.Option.slice_get_within, specs.List.{slice_get, All}}
 use mathlib.Core.Logic.{◌⊎◌, inl, inr, dite}
 use native.Mathlib.Decide.{ℕ_discrete}

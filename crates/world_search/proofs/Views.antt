@@ -1,6 +1,6 @@
 -- What a reduced search shows of each world: if free moves keep a property of worlds, each world that a schedule leads to has the property of a world of the
 -- reduced system.
-use Rattle.std.proofs.Common.{◌≡◌, ℕ, zero, suc, ◌<◌, ◌≤◌, Bool, true, false, List, [], ◌∷◌, length, Result, Ok, Err, refl, sym, ap, ◌∙◌, subst, arith}
+use Rattle.std.proofs.Common.{◌≡◌, ℕ, zero, suc, ◌≤◌, Bool, true, false, List, [], ◌∷◌, length, Result, Ok, Err, refl, sym, ap, ◌∙◌, subst, arith}
 use mathlib.Core.Logic.{inl, inr, dite}
 use native.Mathlib.Decide.{ℕ_discrete}
 use Rattle.world_search.specs.Free.{AreEarly, Commutes, Leads, Leaps}

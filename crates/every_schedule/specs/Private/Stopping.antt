@@ -1,5 +1,5 @@
 -- How far a world has come, computed from its fibers and its registry.
-use Rattle.std.specs.Prelude.{◌≡◌, ◌⊎◌, ◌&&◌, ◌||◌, not, is_some, ℕ, zero, suc, Bool, true, false, List, [], ◌∷◌}
+use Rattle.std.specs.Prelude.{◌≡◌, ◌⊎◌, ◌&&◌, ◌||◌, not, is_some, ℕ, suc, Bool, true, false, List, [], ◌∷◌}
 use Rattle.std.specs.List.{list_all}
 use Rattle.derived_ops.specs.Tree.{Mask}
 use Rattle.effect_term.specs.declared.reply.Reply.{Reply}

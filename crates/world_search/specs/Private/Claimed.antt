@@ -5,7 +5,6 @@ use Rattle.world_search.specs.declared.claims.Met.{Met}
 use Rattle.world_search.specs.declared.graphs.Node.{Node}
 use Rattle.world_search.specs.Claims.{IsFound}
 use Rattle.world_search.specs.Private.Paths.{IsPath}
-use Rattle.world_search.specs.Private.Shapes.{Shape}
 
 module _ {W C : Type 0} (meets : W → C → Bool) (ws : List W) where
   -- none of the first `many` worlds meets the claim

@@ -1,4 +1,4 @@
-use Rattle.std.proofs.Common.{◌≡◌, ◌∙◌, ◌++◌, List, ap, append_assoc, map}
+use Rattle.std.proofs.Common.{◌∙◌, ◌++◌, List, ap, append_assoc, map}
 use Rattle.claim_answers.specs.declared.asked.Rule.TheVariants.{Always, Never, Reach}
 use Rattle.claim_answers.specs.Claims.{Question, asked_texts, question_of}
 use Rattle.command_line.proofs.judge_order.asked_of.Goals as goal

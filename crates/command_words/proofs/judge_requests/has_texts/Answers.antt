@@ -1,4 +1,4 @@
-use Rattle.std.proofs.Common.{◌≡◌, ◌∙◌, ap, map, not, sym}
+use Rattle.std.proofs.Common.{◌∙◌, ap, map, not, sym}
 use Rattle.clap.specs.Words.{found_of, rows_of}
 use Rattle.clap.proofs.WalkLemmas.{raw_values-rows}
 use Rattle.command_words.proofs.ClaimLemmas.{no_text, some_text}

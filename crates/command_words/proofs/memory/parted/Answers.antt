@@ -1,4 +1,4 @@
-use Rattle.std.proofs.Common.{◌≡◌, ◌∙◌, refl, sym}
+use Rattle.std.proofs.Common.{sym}
 use Rattle.command_words.proofs.UnitLemmas.{ends_number, ends_unit, no_unit, no_unit_number}
 use Rattle.command_words.proofs.memory.parted.Goals as goal
 

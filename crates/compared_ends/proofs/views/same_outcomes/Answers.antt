@@ -1,4 +1,4 @@
-use Rattle.std.proofs.Common.{◌≡◌, ◌≢◌, ap, arith, rules}
+use Rattle.std.proofs.Common.{◌≢◌, ap, arith, rules}
 use Rattle.scheduled_core.proofs.SameReports.{maps_apart}
 use Rattle.compared_ends.specs.Views.{View, outcome_seen}
 use Rattle.compared_ends.proofs.views.same_outcomes.Goals as goal

@@ -1,5 +1,5 @@
-use Rattle.std.proofs.Common.{◌≡◌, ℕ, Bool, suc, refl, ◌+◌, ◌-◌, Ok, sym, ap, ◌∙◌, subst, arith}
-use Rattle.every_outcome.{specs.{Places.{Place, unmarked_place}, Private.Reduced.{IsTrail, after_own, moved_on}}, proofs.Leaps.{on_mask, on_next, on_none, on_stays}}
+use Rattle.std.proofs.Common.{◌≡◌, ℕ, suc, refl, ◌+◌, ◌-◌, Ok, sym, ap, ◌∙◌, arith}
+use Rattle.every_outcome.{specs.{Places.{unmarked_place}, Private.Reduced.{after_own, moved_on}}, proofs.Leaps.{on_mask, on_next, on_none, on_stays}}
 use Rattle.every_outcome.proofs.Trails.{trail_more, trail_none}
 use Rattle.every_outcome.proofs.leaping.push_on.Goals as goal
 

@@ -1,4 +1,4 @@
-use Rattle.std.proofs.{Common.{◌≡◌, ℕ, Bool, suc, refl, ◌+◌, ◌-◌, length, Ok, sym, ap, ◌∙◌, subst, arith}, lemmas.List.length-map}
+use Rattle.std.proofs.{Common.{◌≡◌, ℕ, suc, refl, ◌+◌, ◌-◌, length, Ok, sym, ap, ◌∙◌, subst, arith}, lemmas.List.length-map}
 use Rattle.every_outcome.{specs.{Places.{Place, shown, unmarked_place}, Private.Reduced.{pushed_once, swept}}, proofs.Leaps.{swept_next, swept_none}}
 use Rattle.every_outcome.proofs.Trails.{trail_more, trail_none}
 use Rattle.every_outcome.proofs.leaping.push_once.Goals as goal

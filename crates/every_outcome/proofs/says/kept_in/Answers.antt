@@ -1,4 +1,4 @@
-use Rattle.std.proofs.Common.{List, [], ◌∷◌, ◌++◌, ap, ◌∙◌}
+use Rattle.std.proofs.Common.{[], ◌∷◌, ◌++◌, ap, ◌∙◌}
 use Rattle.fiber_frames.specs.declared.mark.Mark.{Mark}
 use Rattle.every_outcome.specs.Places.{kept_marks, with_says}
 use Rattle.every_outcome.proofs.Said.{kept_next}

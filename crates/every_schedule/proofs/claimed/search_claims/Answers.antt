@@ -1,7 +1,6 @@
 use Rattle.std.proofs.Common.{sym, subst, List}
 use Rattle.world_search.specs.declared.claims.Met.{Met}
-use Rattle.world_search.specs.Claims.{IsFew, IsFound}
-use Rattle.every_schedule.proofs.Certified.{all_kept}
+use Rattle.world_search.specs.Claims.{IsFound}
 use Rattle.every_schedule.proofs.claimed.search_claims.Goals as goal
 
 pub returns-clause-unmet : goal.returns-clause-unmet

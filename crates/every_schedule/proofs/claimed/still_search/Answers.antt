@@ -1,10 +1,10 @@
-use Rattle.std.proofs.Common.{◌≡◌, true, false, List, sym, ap, ◌∙◌, subst}
+use Rattle.std.proofs.Common.{◌≡◌, List, sym, ap, subst}
 use Rattle.std.specs.Prelude.{Some}
 use Rattle.std.specs.List.{slice_get}
 use Rattle.derived_ops.specs.Expansion.{code_of}
 use Rattle.derived_ops.specs.Reading.{source_of}
 use Rattle.world_search.specs.declared.claims.Met.{Met}
-use Rattle.world_search.specs.Claims.{IsFew, IsFound}
+use Rattle.world_search.specs.Claims.{IsFound}
 use Rattle.every_schedule.specs.Claims.{View, first_view}
 use Rattle.every_schedule.specs.Places.{first_place}
 use Rattle.every_schedule.proofs.Seeing.{core_met}

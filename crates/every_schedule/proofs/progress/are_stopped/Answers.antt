@@ -1,7 +1,7 @@
-use Rattle.std.{proofs.{Common.{◌≡◌, ℕ, ◌+◌, Some, true, false, sym, ◌∙◌, arith, subst}, lemmas.{Grind.common_steps, Option.gets}}, specs.List.slice_get}
+use Rattle.std.{proofs.{Common.{◌≡◌, ℕ, Some, true, false, sym, ◌∙◌, arith, subst}, lemmas.{Grind.common_steps, Option.gets}}, specs.List.slice_get}
 use Rattle.fiber_frames.specs.Fiber.{Fiber}
 use Rattle.scheduled_core.{specs.Fitting.{Fits, cell_registered}, proofs.Settling.{below_length, one_settled}}
-use Rattle.every_schedule.specs.Private.Stopping.{are_stopped, is_stopped}
+use Rattle.every_schedule.specs.Private.Stopping.{is_stopped}
 use Rattle.every_schedule.proofs.Stopping.{all_stopped, one_goes, past_zero}
 use Rattle.every_schedule.proofs.progress.are_stopped.Goals as goal
 

@@ -1,7 +1,7 @@
 use Rattle.std.proofs.Common.{arith}
 use Rattle.std.proofs.lemmas.Grind.{common_steps}
 use Rattle.every_schedule.proofs.Stopping.{first_at}
-use Rattle.std.proofs.Common.{◌≡◌, ◌<◌, ◌∙◌, length}
+use Rattle.std.proofs.Common.{◌<◌, ◌∙◌, length}
 use Rattle.every_schedule.proofs.progress.first_ends.Goals as goal
 
 pub returns : goal.returns

@@ -1,7 +1,7 @@
 use Rattle.std.proofs.Common.{◌∙◌, sym, arith, subst}
 use Rattle.fiber_frames.specs.{Naming.AskNamed}
 use Rattle.scheduled_core.{specs.Fitting.given_by, proofs.Settling.{word_named}}
-use Rattle.every_schedule.proofs.Stopping.{goes_told, join_told, read_told, silent_told}
+use Rattle.every_schedule.proofs.Stopping.{join_told, read_told}
 use Rattle.every_schedule.proofs.progress.waits.Goals as goal
 
 pub has_ended-requires : goal.has_ended-requires

@@ -4,7 +4,7 @@ use Rattle.std.specs.{Prelude.Some, List.slice_get}
 use Rattle.derived_ops.specs.{Expansion.code_of, Reading.source_of}
 use Rattle.world_search.specs.declared.answers.Answer.{Answer as Found}
 use Rattle.scheduled_core.specs.Fitting.{AllFit}
-use Rattle.every_schedule.specs.{Places.{Place, first_place}, Private.{Numbered.{IsWorldOf, Numbers}, Standing.here, Trails.{AreUnfolded, EndApart, EndsAlone, IsKeptIn, IsUnfolded}}}
+use Rattle.every_schedule.specs.{Places.{Place, first_place}, Private.{Numbered.{IsWorldOf}, Standing.here, Trails.{AreUnfolded, EndApart, EndsAlone, IsKeptIn, IsUnfolded}}}
 use Rattle.every_schedule.proofs.{Numbered.of_more, Trails.EndsBefore}
 use Rattle.every_schedule.proofs.Trails.{alone_here, alone_next, alone_sorted, apart_next, apart_sorted, before_more, before_next, kept_next, kept_sorted}
 use Rattle.every_schedule.proofs.{Trails.{unfolded_next, unfolded_sorted}, unfolding.unfold_all.Goals.{then-not-branch, else-not-branch}}

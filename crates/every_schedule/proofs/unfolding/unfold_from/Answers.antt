@@ -1,11 +1,9 @@
 use Rattle.std.proofs.{Common.{◌≡◌, ℕ, ◌≤◌, [], get_or, List, length, Ok, Err, refl, sym, ap, ◌∙◌, subst, arith}, lemmas.List.{take_all, Folds.fold_stuck}}
 use Rattle.std.proofs.lemmas.List.Sums.{fold_more}
-use Rattle.world_search.{specs.{Lists.IsMore, Systems.{entered, run}}, proofs.Lists.more_same}
-use Rattle.every_schedule.specs.{Places.Place, Persistent.chosen, Private.{Numbered.{IsWorld, IsWorldOf, Numbers}, Standing.{IsOnward, here}, Trails.{IsTrail, IsUnfolded}}}
+use Rattle.world_search.specs.Systems.{entered, run}
+use Rattle.every_schedule.specs.{Places.Place, Persistent.chosen, Private.{Standing.{here}, Trails.{IsTrail, IsUnfolded}}}
 use Rattle.every_schedule.proofs.{Leaps.refused_with, Numbered.{fits_so, one_world}, Standing.{onward_none, onward_on}}
 use Rattle.every_schedule.proofs.Trails.{trail_more, trail_none, trail_whole}
-use Rattle.fiber_frames.specs.Fiber.{Fiber}
-use Rattle.cell_registry.specs.Plain.{PlainView}
 use Rattle.every_schedule.proofs.unfolding.unfold_from.Goals as goal
 
 pub loop-fiber-init : goal.loop-fiber-init

@@ -1,4 +1,4 @@
-use Rattle.std.{proofs.Common.{◌≡◌, ◌∙◌, false, ap, arith, sym}, specs.List.list_any}
+use Rattle.std.{proofs.Common.{◌∙◌, false, ap, arith, sym}, specs.List.list_any}
 use Rattle.exploration_text.{specs.Missing.has_outcome, proofs.MissingLines.{named, passed_over}}
 use Rattle.exploration_text.proofs.missing.missing_of_sample.Goals.{then-not-coming_has+in_ok-push_line, else-not-coming_has}
 use Rattle.exploration_text.proofs.missing.missing_of_sample.Goals as goal

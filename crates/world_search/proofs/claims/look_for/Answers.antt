@@ -1,4 +1,4 @@
-use Rattle.std.proofs.{Common.{◌≡◌, ℕ, ◌<◌, true, inr, length, slice_index_or, refl, subst, arith}, lemmas.{Grind.common_steps, Option.gets}}
+use Rattle.std.proofs.{Common.{◌≡◌, ◌<◌, true, inr, length, slice_index_or, refl, subst, arith}, lemmas.{Grind.common_steps, Option.gets}}
 use Rattle.std.{proofs.lemmas.Option.slice_get-get_or, specs.{Prelude.{IfSome, Some}, List.slice_get}}
 use Rattle.world_search.specs.declared.{graphs.Node.Node, claims.Met.Met}
 use Rattle.world_search.proofs.claims.look_for.Goals as goal

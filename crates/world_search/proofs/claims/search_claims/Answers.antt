@@ -1,4 +1,4 @@
-use Rattle.std.proofs.Common.{◌≡◌, ℕ, List, length, sym, subst, arith}
+use Rattle.std.proofs.Common.{List, length, sym, subst, arith}
 use Rattle.world_search.specs.{declared.graphs.Node.Node, Private.{Claimed.{AreListedMet, AreLooked}, Paths.AreChained, Shapes.shape}}
 use Rattle.world_search.proofs.{Claiming.{all_brief, all_few, all_led, all_unmet}, Lists.more_get, Paths.are_chained}
 use Rattle.world_search.proofs.claims.search_claims.Goals as goal

@@ -1,5 +1,5 @@
-use Rattle.std.proofs.Common.{◌≡◌, List, map, sym, ap, ◌∙◌}
-use Rattle.fiber_frames.specs.Fiber.{Fiber, outcome_of}
+use Rattle.std.proofs.Common.{◌≡◌, map, sym, ap, ◌∙◌}
+use Rattle.fiber_frames.specs.Fiber.{outcome_of}
 use Rattle.every_outcome.specs.Places.{Place, marks_of, report_at, shown, with_says}
 use Rattle.every_outcome.proofs.SameReports.{same_marks, same_outcomes, same_reports}
 use Rattle.every_outcome.proofs.world.SeenWorld.same_report.Goals as goal

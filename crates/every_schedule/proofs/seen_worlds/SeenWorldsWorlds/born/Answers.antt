@@ -1,4 +1,4 @@
-use Rattle.std.proofs.Common.{sym, arith, refl}
+use Rattle.std.proofs.Common.{arith, refl}
 use Rattle.every_schedule.proofs.SeenRows.{view_rests}
 use Rattle.every_schedule.proofs.seen_worlds.SeenWorldsWorlds.born.Goals as goal
 

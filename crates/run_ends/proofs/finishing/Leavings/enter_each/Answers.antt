@@ -1,4 +1,4 @@
-use Rattle.std.proofs.Common.{arith, ◌⊎◌, inl, inr}
+use Rattle.std.proofs.Common.{arith, inl, inr}
 use Rattle.run_ends.proofs.Ending.{core_fault, gathered_fits, no_memory_fault, refused_there}
 use Rattle.run_ends.proofs.finishing.Leavings.enter_each.Goals as goal
 
