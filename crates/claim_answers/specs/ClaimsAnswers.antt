@@ -23,7 +23,7 @@ use Rattle.claim_answers.specs.declared.lines.ClaimForm.TheVariants as forms
 use Rattle.claim_answers.specs.Claims.{IsDecided, IsSought, Pairwise}
 use Rattle.claim_answers.specs.Verdicts.{AreLines, IsLine, claims_status, gap, worse}
 
--- the answer of `explore` to a program without claims, with this note
+-- the answer of `explore` to a program without claims, with this note, and no finding of random schedules behind it
 abbrev pub explored_as : ClaimForm → ExploreOrder → (note : List ℕ) → Term → List ℕ → Status → Type 0
 explored_as forms.Report o note t = IsNotedExplored t o.limits o.bounds false o.wants.items note
 explored_as forms.Timeline o note t = IsNotedTold t o.limits o.bounds false o.wants.items note

@@ -310,6 +310,12 @@ pub const WANT: &str = "An outcome of fiber 0 that is wanted, as a report spells
 \"succeeded V\", \"errored C\", canceled or unended. It can be given more
 than once. A report with another outcome, and a fault, is then not wanted";
 
+pub const EXPLORE_WANT: &str = "An outcome of fiber 0 that is wanted, as a report spells it:
+\"succeeded V\", \"errored C\", canceled or unended. It can be given more
+than once. A report with another outcome, and a fault, is then not
+wanted. Where a bound stops the search before one is listed, 3000
+schedules are drawn at random, as with --first";
+
 pub const WORKERS: &str = "How many workers there are, threads that move fibers and steal them from
 one another, 1 to 16 [default: 4]";
 

@@ -148,14 +148,14 @@ pub(crate) fn memory_option<'a>(alloc: Global) -> Arg<'a>
 }
 
 // The option that takes a wanted outcome of fiber 0. It can be given several times.
-fn want_option<'a>(alloc: Global) -> Arg<'a>
+fn want_option<'a>(alloc: Global, help: &'a str) -> Arg<'a>
     ensures rule { rule_of result ≡ want_option }
     ensures local { result.global ≡ false }
 {
     Arg::new(alloc, "want")
         .long("want")
         .value_name("OUTCOME")
-        .help(help::WANT)
+        .help(help)
         .action(ArgAction::Append)
 }
 
@@ -257,7 +257,7 @@ fn explore_options<'a>(alloc: Global) -> Result<Command<'a>, AllocError>
 {
     let command = explore_bounds(alloc)?;
     let command = command.arg(number_option(alloc, "seconds", help::SECONDS, SECONDS))?;
-    command.arg(want_option(alloc))
+    command.arg(want_option(alloc, help::EXPLORE_WANT))
 }
 
 fn explore_command<'a>(alloc: Global) -> Result<Command<'a>, AllocError>
@@ -307,7 +307,7 @@ fn sample_options<'a>(alloc: Global) -> Result<Command<'a>, AllocError>
     ensures local { IfOk result (λ c. (out-Command c).has_globals ≡ false) }
 {
     let command = sample_bounds(alloc)?;
-    let command = command.arg(want_option(alloc))?;
+    let command = command.arg(want_option(alloc, help::WANT))?;
     with_claims(alloc, command)
 }
 

@@ -1,6 +1,8 @@
 -- The set of a seed, and the choice of a seed.
-use Rattle.std.proofs.Common.{◌≡◌, ◌<◌, ◌≤◌, ◌+◌, ℕ, zero, suc, nat_lt, Bool, true, false, not, ◌&&◌, ◌||◌, List, [], ◌∷◌, length, replicate, set}
+use Rattle.std.proofs.Common.{◌≡◌, ◌<◌, ◌≤◌, ◌+◌, ℕ, zero, suc, nat_lt, Bool, true, false, not, ◌&&◌, ◌||◌, nat_eq, ◌⊎◌, inl, inr, List, [], ◌∷◌, length, replicate, set}
 use Rattle.std.proofs.Common.{Option, Some, None, refl, sym, ap, ap₂, ◌∙◌, subst, arith}
+use native.Mathlib.Decide.{ℕ_discrete}
+use mathlib.Core.Logic.{dite}
 use Rattle.std.specs.List.{slice_get}
 use Rattle.std.proofs.lemmas.Bool.Decides.{nat_tests}
 use Rattle.std.proofs.lemmas.List.{get_or-set_same, length-set}
@@ -13,9 +15,9 @@ use Rattle.every_schedule.specs.Persistent.{best, depends_on, grown, in_set, is_
 use Rattle.every_schedule.specs.Persistent.{is_persistent, is_ready_in, joined, joined_if, members, needs_at, one_if, pick, picked_by}
 use Rattle.every_schedule.specs.Persistent.{seed_if, set_if, set_of, spread, weight_at}
 use Rattle.every_schedule.specs.Places.{Place}
-use Rattle.every_schedule.specs.Private.Persistent.{IsBest, has_fewer}
+use Rattle.every_schedule.specs.Private.Persistent.{IsBest, has_fewer, least, row, row_at}
 use Rattle.every_schedule.specs.Reduced.{is_made, leapt}
-use Rattle.every_schedule.proofs.Sets.{and_false, best_next, better_by}
+use Rattle.every_schedule.proofs.Sets.{and_false, best_next, better_by, row_at_many}
 
 -- ---- the set of a seed
 joined_many : (d : Needs) (i : ℕ) (bs : List Fiber) (s : List Bool) → length (joined d i bs s) ≡ length s
@@ -109,6 +111,84 @@ module _ (w : World) (s : Option Seed) (least : has_fewer 1 s ≡ false) where
       let next : IsBest w (best w (n + 1)) s =
       subst (λ (o : Option ℕ). IsBest w o s) (sym (best_next w n false (none_better n (omega arith) h))) h in
       best_ends (n + 1) m k (omega arith) few next
+
+-- ---- no set has fewer fibers than the seed and those that its next move depends on
+or_last : (t u : Bool) → u ≡ true → t || u ≡ true
+or_last true u e = refl
+or_last false u e = e
+
+joined_has : (d : Needs) (i : ℕ) (bs : List Fiber) (s : List Bool) (k : ℕ) → k < length s → in_set (row d i bs) k ≡ true →
+    in_set (joined d i bs s) k ≡ true
+joined_has d i [] s k low e = absurd (cc)
+joined_has d i (b ∷ bs) [] k low e = absurd (omega (arith, low))
+joined_has d i (b ∷ bs) (t ∷ s) zero low e = or_last t (depends_on d i b) e
+joined_has d i (b ∷ bs) (t ∷ s) (suc k) low e = joined_has d (suc i) bs s k (omega (arith, low)) e
+
+module _ (w : World) where
+  spread_has : (n f : ℕ) (s : List Bool) (k : ℕ) → f < n → k < length s → in_set s f ≡ true → in_set (row_at w f) k ≡ true →
+      in_set (spread w n s) k ≡ true
+  unfolding spread
+  spread_has zero f s k low few mine e = absurd (omega (arith, low))
+  spread_has (suc n) f s k low few mine e = dite (ℕ_discrete f n)
+      (λ same.
+      let there : in_set (spread w n s) n ≡ true = spread_keeps w n s n (subst (λ (x : ℕ). in_set s x ≡ true) same mine) in
+      let many = spread_many w n s in
+      subst (λ b. in_set (joined_if b w n (spread w n s)) k ≡ true) (sym there)
+      (joined_has (needs_at w n) 0 w.fibers (spread w n s) k (omega (arith, few, many)) (subst (λ (x : ℕ). in_set (row_at w x) k ≡ true) same e)))
+      (λ other. joined_if_keeps w (in_set (spread w n s) n) n (spread w n s) k (spread_has n f s k (omega (arith, low, other)) few mine e))
+
+  grown_has : (n f : ℕ) (s : List Bool) (k : ℕ) → 1 ≤ n → f < length w.fibers → k < length s → in_set s f ≡ true → in_set (row_at w f) k ≡ true →
+      in_set (grown n w s) k ≡ true
+  unfolding grown
+  grown_has zero f s k some low few mine e = absurd (omega (arith, some))
+  grown_has (suc n) f s k some low few mine e =
+      grown_keeps w n (spread w (length w.fibers) s) k (spread_has (length w.fibers) f s k low few mine e)
+
+  set_has : (f k : ℕ) → f < length w.fibers → k < length w.fibers → in_set (row_at w f) k ≡ true → in_set (set_of w f) k ≡ true
+  set_has f k low few e =
+      let none = replicate (length w.fibers) false in
+      let many = none_many w (length w.fibers) in
+      let long = length-set none f true ∙ many in
+      grown_has (length w.fibers) f (set none f true) k (omega (arith, low)) low (omega (arith, few, long))
+      (get_or-set_same none f true false (omega (arith, low, many))) e
+
+one_more : (t u : Bool) → (t ≡ true → u ≡ true) → one_if t ≤ one_if u
+one_more true u h = let one = ap one_if (h refl) in omega (arith, one)
+one_more false u h = omega arith
+
+least_low : (f i : ℕ) (rs s : List Bool) → length rs ≡ length s →
+    ((k : ℕ) → k < length s → nat_eq (i + k) f || in_set rs k ≡ true → in_set s k ≡ true) → least f i rs ≤ members s
+least_low f i [] s long h = omega arith
+least_low f i (r ∷ rs) [] long h = absurd (cc)
+least_low f i (r ∷ rs) (t ∷ s) long h =
+    let rest = least_low f (suc i) rs s (omega (arith, long))
+    (λ k low e. h (suc k) (omega (arith, low)) (subst (λ (x : ℕ). nat_eq x f || in_set rs k ≡ true) (omega arith) e)) in
+    let one = one_more (nat_eq i f || r) t (λ e. h 0 (omega arith) (subst (λ (x : ℕ). nat_eq x f || r ≡ true) (omega arith) e)) in
+    omega (arith, rest, one)
+
+or_either : (t u : Bool) → t || u ≡ true → (t ≡ true) ⊎ (u ≡ true)
+or_either true u e = inl refl
+or_either false u e = inr e
+
+-- the seed and those that its next move depends on are in its set
+pub set_low : (w : World) (f : ℕ) → f < length w.fibers → least f 0 (row_at w f) ≤ members (set_of w f)
+set_low w f low =
+    let many = set_many w f in
+    let row_long = row_at_many w f in
+    least_low f 0 (row_at w f) (set_of w f) (row_long ∙ sym many)
+    (λ k few e. elim (or_either (nat_eq (0 + k) f) (in_set (row_at w f) k) e) [
+      | inl same ↦ (let is : k ≡ f = grind (arith, nat_tests) in subst (λ (x : ℕ). in_set (set_of w f) x ≡ true) (sym is) (seed_in w f low))
+      | inr mine ↦ set_has w f k low (omega (arith, few, many)) mine
+    ])
+
+fewer_more : (a b : ℕ) (s : Option Seed) → a ≤ b → has_fewer a s ≡ false → has_fewer b s ≡ false
+fewer_more a b None more e = e
+fewer_more a b (Some x) more e = grind (arith, nat_tests)
+
+-- a seed whose set can't be smaller doesn't replace the seed before
+pub small_stays : (w : World) (f : ℕ) (s : Option Seed) → f < length w.fibers → has_fewer (least f 0 (row_at w f)) s ≡ false →
+    has_fewer (members (set_of w f)) s ≡ false
+small_stays w f s low e = fewer_more (least f 0 (row_at w f)) (members (set_of w f)) s (set_low w f low) e
 
 -- ---- the set of a seed is chosen or not
 member_if : (b : Bool) (s : List Bool) (f : ℕ) → in_set s f ≡ false → is_member (set_if b s) f ≡ not b

@@ -13,6 +13,7 @@ ghost use Rattle.every_schedule.specs.Persistent.{grown, pick as the_pick, set_o
 ghost use Rattle.every_schedule.specs.Persistent.{stands_in, weight_at};
 ghost use Rattle.every_schedule.specs.Reduced.{is_made, leapt};
 ghost use Rattle.every_schedule.specs.Private.Persistent.{AreRows, AreWide, IsBest, IsSet, has_fewer, joined_by};
+ghost use Rattle.every_schedule.specs.Private.Persistent.{least as the_least};
 ghost use Rattle.every_schedule.specs.Private.Persistent.{row_at, spared_by};
 ghost use Rattle.every_schedule.specs.Private.Standing.{IsOnward, IsSame, here};
 
@@ -158,6 +159,26 @@ fn one_if(within: bool) -> usize
     if within { 1 } else { 0 }
 }
 
+// How many of the fibers are the seed, or have their flag. With the row of the seed's next move no fewer are in its set.
+fn least(row: &[bool], seed: usize) -> usize
+    ensures { result ≡ the_least seed 0 row.now }
+{
+    let mut many = 0;
+    for place in 0..row.len() {
+        many = many + one_if(place == seed || row[place]);
+    }
+    many
+}
+
+// Whether the set of a seed can be smaller than that of `best`, by the row of the seed's next move alone.
+fn can_be_smaller(rows: &[Vec<bool>], seed: usize, best: &Option<Seed>) -> bool
+    requires { seed < length rows.now }
+    ensures { (w : World) → AreRows w rows.now →
+        result ≡ has_fewer (the_least seed 0 (row_at w seed)) best.now }
+{
+    is_fewer(least(rows[seed].as_slice(), seed), best)
+}
+
 // Returns the first seed that is ready and whose set is smallest, if a fiber is ready. No set is smaller than one of one
 // fiber.
 fn best(alloc: Global, current: &Current, rows: &[Vec<bool>]) -> Result<Option<Seed>, AllocError>
@@ -193,6 +214,9 @@ fn better(
 {
     let place = usize::from(fiber);
     if !is_ready_at(current, place) {
+        return Ok(best);
+    }
+    if !can_be_smaller(rows, place, &best) {
         return Ok(best);
     }
     let set = set_of(alloc, rows, place)?;

@@ -1,5 +1,5 @@
 -- Sets of fibers and seeds, as the code keeps them.
-use Rattle.std.specs.Prelude.{◌≡◌, ◌&&◌, ◌||◌, ℕ, suc, nat_lt, Bool, true, not, List, [], ◌∷◌, length, Option, Some, None}
+use Rattle.std.specs.Prelude.{◌≡◌, ◌&&◌, ◌||◌, ◌+◌, ℕ, suc, nat_eq, nat_lt, Bool, true, not, List, [], ◌∷◌, length, Option, Some, None}
 use Rattle.std.specs.List.{slice_get}
 use Rattle.std.specs.declared.alloc.Global.{Global}
 use Rattle.std.specs.declared.vec.Vec.{Vec}
@@ -8,7 +8,7 @@ use Rattle.scheduled_core.specs.Core.{World}
 use Rattle.every_schedule.specs.declared.needs.Needs.{Needs}
 use Rattle.every_schedule.specs.declared.persistent.Seed.{Seed}
 use Rattle.every_schedule.specs.declared.leaping.AtOnce.{AtOnce}
-use Rattle.every_schedule.specs.Persistent.{depends_on, in_set, members, needs_at, pick, set_of}
+use Rattle.every_schedule.specs.Persistent.{depends_on, in_set, members, needs_at, one_if, pick, set_of}
 use Rattle.every_schedule.specs.Places.{Place}
 
 -- ---- rows: for each fiber a flag, whether a move depends on it
@@ -59,6 +59,11 @@ IsBest w _ _ = ⊥
 abbrev pub has_fewer : ℕ → Option Seed → Bool
 has_fewer n None = true
 has_fewer n (Some s) = nat_lt n s.many
+
+-- how many of these fibers, the first of which is fiber i, are fiber f or have their flag
+abbrev pub least : ℕ → ℕ → List Bool → ℕ
+least f i [] = 0
+least f i (r ∷ rs) = one_if (nat_eq i f || r) + least f (suc i) rs
 
 abbrev pub IsSet : Option (List Bool) → Option (Vec Bool Global) → Type 0
 IsSet None None = Unit {0}
