@@ -1,5 +1,5 @@
 //! Persistent sets: the fibers whose entries are made at a world.
-ghost use Rattle.std.specs.Prelude.{◌≡◌, ◌<◌, ◌≤◌, ◌+◌, ◌&&◌, ◌||◌, not, false, true, Bool, List, Option, length};
+ghost use Rattle.std.specs.Prelude.{◌≡◌, ◌<◌, ◌≤◌, ◌+◌, ◌&&◌, ◌||◌, nat_eq, not, false, true, Bool, List, Option, length};
 ghost use Rattle.std.specs.Prelude.{IfOk, OnOk};
 ghost use Rattle.std.specs.List.{slice_get};
 ghost use Rattle.scheduled_core.specs.Core.{World};
@@ -165,9 +165,16 @@ fn least(row: &[bool], seed: usize) -> usize
 {
     let mut many = 0;
     for place in 0..row.len() {
-        many = many + one_if(place == seed || row[place]);
+        many = many + one_if(is_counted(place, seed, row[place]));
     }
     many
+}
+
+// Whether the fiber at this place is the seed, or has its flag.
+fn is_counted(place: usize, seed: usize, flag: bool) -> bool
+    ensures { result ≡ (nat_eq place seed || flag) }
+{
+    place == seed || flag
 }
 
 // Whether the set of a seed can be smaller than that of `best`, by the row of the seed's next move alone.
