@@ -1,11 +1,14 @@
-//! Random programs: explorations with moves made at once, compared with the plain search, in which each move is an
-//! entry.
+//! Random programs: explorations with moves made at once, with all marks and for outcomes alone, compared with the
+//! plain search, in which each move is an entry.
 
 ghost use Rattle.cell_registry.specs.Cells.{AreLimits};
 
 use crate::random_texts::random_text;
 use crate::reduced::have_same_answers;
-use every_schedule::{Bounds, explore, explore_full};
+use crate::same_outcomes::have_same_outcomes;
+use effect_term::Program;
+use every_outcome::{Unwatched, explore_outcomes};
+use every_schedule::{Answer, Bounds, explore, explore_full};
 use outcome_trace::{Limits, read_program};
 use std::alloc::Global;
 use std::test::Fail;
@@ -22,46 +25,60 @@ fn limits() -> Limits
     }
 }
 
+// In a loop up to 100 moves are made behind each entry, and each of them is an entry of an answer's schedule.
+const BOUNDS: Bounds = Bounds {
+    worlds: 1000,
+    entries: 1_000_000,
+    memory: 1 << 30,
+};
+
 // The result of a comparison.
 #[derive(Clone, Copy, PartialEq, Eq)]
 enum Came {
-    // Both explorations have the same answers, more than one, and the plain search keeps more than 100 worlds.
+    // All explorations have the same answers, more than one, and the plain search keeps more than 100 worlds.
     Same,
-    // Both have the same answers, at most one, or the plain search keeps at most 100 worlds.
+    // All have the same answers, at most one, or the plain search keeps at most 100 worlds.
     SameOfFew,
     Different,
     // The text is refused, or the plain search met a bound.
     Skipped,
 }
 
-// Compares both explorations of a program.
+// Whether the exploration that keeps all marks is complete, and has these answers.
+fn has_answers(alloc: Global, program: &Program, answers: &[Answer]) -> Result<bool, Fail> {
+    let Ok(found) = explore(alloc, program, limits(), BOUNDS) else {
+        return Err(Fail::new("memory ran out"));
+    };
+    Ok(found.complete && have_same_answers(answers, found.answers.as_slice()))
+}
+
+// Whether the exploration of outcomes is complete, and has the outcomes and faults of these answers.
+fn has_outcomes(alloc: Global, program: &Program, answers: &[Answer]) -> Result<bool, Fail> {
+    let Ok(found) = explore_outcomes(alloc, program, limits(), BOUNDS, &mut Unwatched) else {
+        return Err(Fail::new("memory ran out"));
+    };
+    Ok(found.complete && have_same_outcomes(answers, found.answers.as_slice()))
+}
+
+// Compares the explorations of a program.
 fn compared(alloc: Global, text: &str) -> Result<Came, Fail> {
     let Ok(program) = read_program(alloc, text.as_bytes()) else {
         return Ok(Came::Skipped);
     };
-    // In a loop up to 100 moves are made behind each entry, and each of them is an entry of an answer's schedule.
-    let bounds = Bounds {
-        worlds: 1000,
-        entries: 1_000_000,
-        memory: 1 << 30,
-    };
-    let Ok(full) = explore_full(alloc, &program, limits(), bounds) else {
+    let Ok(full) = explore_full(alloc, &program, limits(), BOUNDS) else {
         return Err(Fail::new("memory ran out"));
     };
     // A program that met a bound isn't explored again: in an endless loop, the moves made at once behind each entry can
-    // take much memory.
+    // take much memory. In any other program no fiber uses up its count of 1000 changes, since each change leads to a
+    // new world. So the exploration of outcomes, for which the count plays no part, has the same outcomes and faults.
     if !full.complete {
         return Ok(Came::Skipped);
     }
-    let Ok(reduced) = explore(alloc, &program, limits(), bounds) else {
-        return Err(Fail::new("memory ran out"));
-    };
-    if !reduced.complete
-        || !have_same_answers(full.answers.as_slice(), reduced.answers.as_slice())
-    {
+    let answers = full.answers.as_slice();
+    if !has_answers(alloc, &program, answers)? || !has_outcomes(alloc, &program, answers)? {
         return Ok(Came::Different);
     }
-    if full.worlds > 100 && full.answers.as_slice().len() > 1 {
+    if full.worlds > 100 && answers.len() > 1 {
         Ok(Came::Same)
     } else {
         Ok(Came::SameOfFew)

@@ -86,8 +86,8 @@ fn has_alike(ones: &[Answer], other: &OutcomeAnswer) -> bool {
     false
 }
 
-// Whether each answer with marks ends like one without, and the other way round.
-fn are_alike(ones: &[Answer], others: &[OutcomeAnswer]) -> bool {
+/// Whether each answer with marks ends like one without, and the other way round.
+pub fn have_same_outcomes(ones: &[Answer], others: &[OutcomeAnswer]) -> bool {
     for one in ones {
         if !is_among(one, others) {
             return false;
@@ -122,7 +122,7 @@ fn programs_that_end_have_the_same_outcomes(rt: HostRuntime) -> Result<(), Fail>
         assert!(rt; full.complete && found.complete, "{}", text);
         assert!(rt; found.worlds <= full.worlds, "{}", text);
         assert!(rt;
-            are_alike(full.answers.as_slice(), found.answers.as_slice()),
+            have_same_outcomes(full.answers.as_slice(), found.answers.as_slice()),
             "{}",
             text
         );

@@ -1,4 +1,4 @@
-//! Loops with masks and brackets in them.
+//! Searches for outcomes in loops that have masks and brackets in them.
 
 ghost use Rattle.cell_registry.specs.Cells.{AreLimits};
 
