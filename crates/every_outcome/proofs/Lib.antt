@@ -1,3 +1,4 @@
+pub mod Digesting
 pub mod Cells
 pub mod Said
 pub mod Stepping

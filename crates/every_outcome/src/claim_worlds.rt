@@ -225,6 +225,8 @@ impl Worlds for ClaimWorlds {
 
     ghost report = { λ v. tt };
 
+    ghost report_digest = { λ r. 0 };
+
     ghost most_born = { 1000 };
 
     ghost bytes = { λ s. s.bytes };
@@ -248,6 +250,11 @@ impl Worlds for ClaimWorlds {
         let _ = &self.worlds[one];
         let _ = &self.worlds[other];
         true
+    }
+
+    fn report_digest(&self, world: usize) -> u64 {
+        let _ = &self.worlds[world];
+        0
     }
 
     fn len(&self) -> usize {

@@ -5,6 +5,7 @@ ghost use Rattle.std.specs.List.{slice_get};
 ghost use Rattle.derived_ops.specs.Expansion.{code_of};
 ghost use Rattle.derived_ops.specs.Reading.{source_of};
 ghost use Rattle.every_schedule.specs.Claims.{is_met, stored_by as the_stored_by};
+ghost use Rattle.every_schedule.specs.Digests.{report_digest};
 ghost use Rattle.fiber_frames.specs.Fiber.{begins, outcome_of};
 ghost use Rattle.fiber_frames.specs.Reached.{Reached};
 ghost use Rattle.cell_registry.specs.Cells.{AreLimits};
@@ -15,7 +16,7 @@ ghost use Rattle.every_outcome.specs.Private.Reduced.{leapt};
 use crate::core_world::CoreWorld;
 use crate::leaping::leap;
 use crate::own_moves::stored_by;
-use crate::says::reports_of;
+use crate::says::{digest_of, reports_of};
 use crate::shape::WorldShape;
 use cell_registry::{Limits, RunError};
 use effect_term::{Program, facts_of};
@@ -145,6 +146,13 @@ impl<const SAYS: u8> SeenWorld<SAYS> {
             return false;
         }
         self.shape.has_marks_of(&other.shape)
+    }
+
+    /// The digest of the world's report.
+    pub(crate) fn report_digest(&self) -> u64
+        ensures { result ≡ report_digest (report_at (with_says SAYS) self.now) }
+    {
+        digest_of(self.core.fibers(), SAYS)
     }
 
     /// The report of the world, with the marks that are kept.

@@ -155,6 +155,7 @@ impl<const SAYS: u8> Worlds for SeenWorlds<SAYS> {
     type Report = Report;
 
     ghost use Rattle.std.specs.Prelude.{true};
+    ghost use Rattle.every_schedule.specs.Digests.{report_digest as the_digest};
     ghost use Rattle.every_outcome.specs.Places.{report_at as the_report, with_says};
     ghost use Rattle.every_outcome.specs.Private.Reduced.{leapt};
 
@@ -165,6 +166,8 @@ impl<const SAYS: u8> Worlds for SeenWorlds<SAYS> {
     ghost step = { leapt (with_says SAYS) true };
 
     ghost report = { the_report (with_says SAYS) };
+
+    ghost report_digest = { the_digest };
 
     ghost most_born = { 1000 };
 
@@ -187,6 +190,10 @@ impl<const SAYS: u8> Worlds for SeenWorlds<SAYS> {
 
     fn same_report(&self, one: usize, other: usize) -> bool {
         self.worlds[one].same_report(&self.worlds[other])
+    }
+
+    fn report_digest(&self, world: usize) -> u64 {
+        self.worlds[world].report_digest()
     }
 
     fn len(&self) -> usize {

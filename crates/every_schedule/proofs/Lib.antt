@@ -10,6 +10,7 @@ pub mod Knowing
 pub mod Turning
 pub mod Standing
 pub mod Alikeness
+pub mod Digesting
 pub mod Entering
 pub mod OwnCalls
 pub mod TwoMoves

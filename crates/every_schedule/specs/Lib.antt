@@ -1,5 +1,6 @@
 pub mod Explored
 pub mod Places
+pub mod Digests
 pub mod Sizes
 pub mod Reduced
 pub mod Persistent

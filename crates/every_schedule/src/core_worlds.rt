@@ -25,7 +25,7 @@ use crate::leaping::{AtOnce, leap};
 use crate::own_moves::stored_in;
 use crate::persistent::pick;
 use crate::pool::{Pool, Pooled};
-use crate::reports::same_reports;
+use crate::reports::{digest_of, same_reports};
 use crate::rows::Rows;
 use cell_registry::{Limits, RunError};
 use effect_term::{Program, facts_of};
@@ -257,6 +257,7 @@ impl Worlds for CoreWorlds {
 
     type Report = Report;
 
+    ghost use Rattle.every_schedule.specs.Digests.{report_digest as the_digest};
     ghost use Rattle.every_schedule.specs.Places.{report_at as the_report, stepped};
 
     ghost worlds = { λ s. s.places };
@@ -266,6 +267,8 @@ impl Worlds for CoreWorlds {
     ghost step = { stepped };
 
     ghost report = { the_report };
+
+    ghost report_digest = { the_digest };
 
     ghost most_born = { 1000 };
 
@@ -286,6 +289,10 @@ impl Worlds for CoreWorlds {
             self.rows.fibers(one),
             self.rows.fibers(other),
         )
+    }
+
+    fn report_digest(&self, world: usize) -> u64 {
+        digest_of(self.current.fibers(), self.rows.fibers(world))
     }
 
     fn len(&self) -> usize {

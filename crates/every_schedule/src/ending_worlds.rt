@@ -98,6 +98,7 @@ impl Worlds for EndingWorlds {
 
     type Report = Report;
 
+    ghost use Rattle.every_schedule.specs.Digests.{report_digest as the_digest};
     ghost use Rattle.every_schedule.specs.Places.{report_at as the_report};
     ghost use Rattle.every_schedule.specs.Reduced.{hundred_own, leapt};
 
@@ -108,6 +109,8 @@ impl Worlds for EndingWorlds {
     ghost step = { leapt hundred_own };
 
     ghost report = { the_report };
+
+    ghost report_digest = { the_digest };
 
     ghost most_born = { 1000 };
 
@@ -124,6 +127,10 @@ impl Worlds for EndingWorlds {
 
     fn same_report(&self, one: usize, other: usize) -> bool {
         self.worlds.same_report(one, other)
+    }
+
+    fn report_digest(&self, world: usize) -> u64 {
+        self.worlds.report_digest(world)
     }
 
     fn len(&self) -> usize {

@@ -27,6 +27,7 @@ mod claims;
 mod core_world;
 mod core_worlds;
 mod current;
+mod digests;
 mod ending_worlds;
 mod exploration;
 mod explored;
@@ -53,6 +54,7 @@ mod unfolding;
 
 pub use claimed::{certify, search_claims};
 pub use claims::{Claim, ClaimWord, Comparison};
+pub use digests::{with_mark, with_outcome};
 pub use exploration::{Answer, Answers, Exploration, Schedule};
 pub use explored::{explore, explore_full, explore_watched};
 pub use fair_endings::explore_ends;

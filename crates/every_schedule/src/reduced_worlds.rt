@@ -112,6 +112,7 @@ impl Worlds for ReducedWorlds {
 
     type Report = Report;
 
+    ghost use Rattle.every_schedule.specs.Digests.{report_digest as the_digest};
     ghost use Rattle.every_schedule.specs.Places.{report_at as the_report};
     ghost use Rattle.every_schedule.specs.Persistent.{chosen};
     ghost use Rattle.every_schedule.specs.Reduced.{hundred};
@@ -123,6 +124,8 @@ impl Worlds for ReducedWorlds {
     ghost step = { chosen hundred };
 
     ghost report = { the_report };
+
+    ghost report_digest = { the_digest };
 
     ghost most_born = { 1000 };
 
@@ -142,6 +145,10 @@ impl Worlds for ReducedWorlds {
 
     fn same_report(&self, one: usize, other: usize) -> bool {
         self.worlds.same_report(one, other)
+    }
+
+    fn report_digest(&self, world: usize) -> u64 {
+        self.worlds.report_digest(world)
     }
 
     fn len(&self) -> usize {

@@ -1,8 +1,12 @@
-//! Compares the reports of worlds, by the numbers of their fibers' states.
-ghost use Rattle.std.specs.Prelude.{◌≡◌, ◌<◌, length, false, true};
-ghost use Rattle.std.specs.List.{All};
-ghost use Rattle.every_schedule.specs.Private.Reporting.{Alike, AreAlike, Differ, AreOther};
+//! The reports of worlds, by the numbers of their fibers' states.
+ghost use Rattle.std.specs.Prelude.{◌≡◌, ◌<◌, length, false, map, true};
+ghost use Rattle.std.specs.List.{All, fold};
+ghost use Rattle.scheduled_core.specs.Core.{fiber_report};
+ghost use Rattle.every_schedule.specs.Digests.{with_report};
+ghost use Rattle.every_schedule.specs.Private.Numbered.{picked};
+ghost use Rattle.every_schedule.specs.Private.Reporting.{Alike, AreAlike, Differ, AreOther, with_state};
 
+use crate::digests::with_fiber;
 use crate::pool::Pool;
 use fiber_frames::Config;
 use scheduled_core::same_report;
@@ -38,4 +42,24 @@ fn is_alike(pool: &Pool<Config>, one: u32, other: u32) -> bool
             slice::from_ref(&pool.items[one as usize]),
             slice::from_ref(&pool.items[other as usize]),
         )
+}
+
+/// The digest of the report that these states make.
+pub(crate) fn digest_of(pool: &Pool<Config>, numbers: &[u32]) -> u64
+    requires { All (λ n. n < length pool.now.items.items) numbers.now }
+    ensures { result ≡ fold with_report 1 (map fiber_report (picked pool.now.items.items numbers.now)) }
+{
+    let mut digest = 1;
+    for number in numbers {
+        digest = with_state(digest, pool, *number);
+    }
+    digest
+}
+
+// The digest, extended by the report of a fiber in the state of this number.
+fn with_state(digest: u64, pool: &Pool<Config>, number: u32) -> u64
+    requires { number < length pool.now.items.items }
+    ensures { result ≡ with_state pool.now.items.items digest number }
+{
+    with_fiber(digest, &pool.items[number as usize])
 }

@@ -246,6 +246,8 @@ impl Worlds for SeenWorlds {
 
     ghost report = { λ v. tt };
 
+    ghost report_digest = { λ r. 0 };
+
     ghost most_born = { 1000 };
 
     ghost bytes = { λ s. s.bytes };
@@ -262,6 +264,11 @@ impl Worlds for SeenWorlds {
         let _ = &self.rows.items[one];
         let _ = &self.rows.items[other];
         true
+    }
+
+    fn report_digest(&self, world: usize) -> u64 {
+        let _ = &self.rows.items[world];
+        0
     }
 
     fn len(&self) -> usize {
@@ -339,6 +346,8 @@ impl Worlds for StrictWorlds {
 
     ghost report = { λ v. tt };
 
+    ghost report_digest = { λ r. 0 };
+
     ghost most_born = { 1000 };
 
     ghost bytes = { λ s. s.bytes };
@@ -353,6 +362,10 @@ impl Worlds for StrictWorlds {
 
     fn same_report(&self, one: usize, other: usize) -> bool {
         self.worlds.same_report(one, other)
+    }
+
+    fn report_digest(&self, world: usize) -> u64 {
+        self.worlds.report_digest(world)
     }
 
     fn len(&self) -> usize {

@@ -149,6 +149,8 @@ impl Worlds for Places {
 
     ghost report = { λ place. slice_index_or REPORTS place 0 };
 
+    ghost report_digest = { λ report. report };
+
     ghost most_born = { 2 };
 
     ghost bytes = { λ it. length it.places.items + length it.faults.items };
@@ -172,6 +174,10 @@ impl Worlds for Places {
 
     fn same_report(&self, one: usize, other: usize) -> bool {
         read(&REPORTS, self.places[one] as usize) == read(&REPORTS, self.places[other] as usize)
+    }
+
+    fn report_digest(&self, world: usize) -> u64 {
+        u64::from(read(&REPORTS, self.places[world] as usize))
     }
 
     fn len(&self) -> usize {

@@ -7,6 +7,7 @@ pub mod Meeting
 pub mod Entries
 pub mod Snug
 pub mod Answering
+pub mod Filing
 pub mod Results
 pub mod Free
 pub mod Chosen

@@ -5,3 +5,4 @@ pub mod Paths
 pub mod Graphs
 pub mod Listed
 pub mod Claimed
+pub mod Told

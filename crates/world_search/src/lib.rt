@@ -21,6 +21,7 @@ mod searching;
 mod spread;
 mod store;
 mod time_limit;
+mod told;
 mod watching;
 
 pub use answers::{Answer, Bounds, Found};

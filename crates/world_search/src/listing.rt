@@ -1,21 +1,24 @@
 //! Lists the answers of a search from its graph.
 
-ghost use Rattle.std.specs.Prelude.{◌≡◌, ℕ, ◌<◌, ◌≤◌, length, true, false, OnOk, Some, Ok as GoesWell};
+ghost use Rattle.std.specs.Prelude.{◌≡◌, ℕ, ◌<◌, ◌≤◌, ◌%◌, List, [], length, true, false, OnOk, Some};
+ghost use Rattle.std.specs.Prelude.{Ok as GoesWell};
 ghost use Rattle.std.specs.List.{slice_get};
 ghost use Rattle.world_search.specs.declared.answers.Answer.{Answer};
 ghost use Rattle.world_search.specs.declared.graphs.Noted.{Noted};
-ghost use Rattle.world_search.specs.Answers.{AreApart, IsAnswered, TellOnce, Tells};
+ghost use Rattle.world_search.specs.Answers.{AreApart, IsAnswered, TellOnce};
 ghost use Rattle.world_search.specs.Lists.{IsMore};
 ghost use Rattle.world_search.specs.Private.Listed.{Adds, AddsFaults, AreListed, AreNotedChained, HaveNoFault};
 ghost use Rattle.world_search.specs.Private.Listed.{IsNamed};
 ghost use Rattle.world_search.specs.Private.Paths.{AreChained, IsChained};
 ghost use Rattle.world_search.specs.Private.Shapes.{AreNotedOnce, shape};
+ghost use Rattle.world_search.specs.Private.Told.{AreFiled, IsFiled};
 
 use crate::answers::Answer;
 use crate::graphs::{Graph, Node};
 use crate::landings::Landing;
 use crate::schedules::schedule_to;
 use crate::store::Worlds;
+use crate::told::{Told, have_report};
 use std::alloc::{AllocError, Global};
 
 /// Adds an answer for each report of a world that isn't unsettled.
@@ -29,6 +32,7 @@ pub fn list_worlds<W: Worlds>(
     requires known { length graph.now.nodes.items ≤ length (W.worlds worlds.now) }
     requires flags { length graph.now.unsettled.items ≡ length graph.now.nodes.items }
     requires listed { AreListed (shape graph.now) answers.old.items }
+    requires none { answers.old.items ≡ [] }
     ensures listed { OnOk result (AreListed (shape graph.now) answers.new.items) }
     ensures once { OnOk result (TellOnce W.report (W.worlds worlds.now) answers.old.items →
         TellOnce W.report (W.worlds worlds.now) answers.new.items) }
@@ -37,8 +41,9 @@ pub fn list_worlds<W: Worlds>(
         slice_get (W.worlds worlds.now) i ≡ Some w →
         IsAnswered W.step W.report (W.worlds worlds.now) (W.faults worlds.now) answers.new.items (GoesWell w)) }
 {
+    let mut told = Told::new(alloc, graph.nodes.len() / 8 + 1)?;
     for index in 0..graph.nodes.len() {
-        list_world(alloc, worlds, graph, index, &mut *answers)?;
+        list_world(alloc, worlds, graph, index, &mut told, &mut *answers)?;
     }
     Ok(())
 }
@@ -49,6 +54,7 @@ fn list_world<W: Worlds>(
     worlds: &W,
     graph: &Graph,
     index: usize,
+    told: &mut Told,
     answers: &mut Vec<Answer>,
 ) -> Result<(), AllocError>
     requires chained { AreChained graph.now.nodes.items }
@@ -56,6 +62,11 @@ fn list_world<W: Worlds>(
     requires flags { length graph.now.unsettled.items ≡ length graph.now.nodes.items }
     requires listed { AreListed (shape graph.now) answers.old.items }
     requires low { index < length graph.now.nodes.items }
+    requires some { 0 < length told.old.buckets.items }
+    requires filed { AreFiled W.report_digest W.report (W.worlds worlds.now) answers.old.items told.old.buckets.items }
+    ensures some { OnOk result (0 < length told.new.buckets.items) }
+    ensures filed { OnOk result (AreFiled W.report_digest W.report (W.worlds worlds.now) answers.new.items
+        told.new.buckets.items) }
     ensures listed { OnOk result (AreListed (shape graph.now) answers.new.items) }
     ensures more { OnOk result (IsMore answers.old.items answers.new.items) }
     ensures once { OnOk result (TellOnce W.report (W.worlds worlds.now) answers.old.items →
@@ -68,7 +79,8 @@ fn list_world<W: Worlds>(
     if graph.unsettled[index] {
         return Ok(());
     }
-    if is_told(worlds, answers.as_slice(), index) {
+    let bucket = told.bucket_of(worlds, index);
+    if is_told(worlds, &*told, bucket, index) {
         return Ok(());
     }
     tell(
@@ -78,39 +90,26 @@ fn list_world<W: Worlds>(
         Landing::World(index),
         answers,
     )?;
+    told.file(bucket, index)?;
     Ok(())
 }
 
-// Whether one of the answers has the report of this world.
-fn is_told<W: Worlds>(worlds: &W, answers: &[Answer], index: usize) -> bool
+// Whether one of the answers has the report of this world. The answers are filed, and the world is of this bucket.
+fn is_told<W: Worlds>(worlds: &W, told: &Told, bucket: usize, index: usize) -> bool
     requires low { index < length (W.worlds worlds.now) }
-    requires within { (k : ℕ) (a : Answer) (j : ℕ) → slice_get answers.now k ≡ Some a → a.end ≡ Landing.World j →
-        j < length (W.worlds worlds.now) }
-    ensures yes { result ≡ true → (w : W.World) → slice_get (W.worlds worlds.now) index ≡ Some w →
-        IsAnswered W.step W.report (W.worlds worlds.now) (W.faults worlds.now) answers.now (GoesWell w) }
-    ensures no { result ≡ false → (k : ℕ) (a : Answer) → slice_get answers.now k ≡ Some a →
-        AreApart W.report (W.worlds worlds.now) a.end (Landing.World index) }
+    requires bucket { bucket < length told.now.buckets.items }
+    requires digest { (w : W.World) → slice_get (W.worlds worlds.now) index ≡ Some w →
+        bucket ≡ W.report_digest (W.report w) % length told.now.buckets.items }
+    requires within { (b j : ℕ) → IsFiled told.now.buckets.items b j → j < length (W.worlds worlds.now) }
+    ensures yes { result ≡ true → (answers : List Answer) (w : W.World) →
+        AreFiled W.report_digest W.report (W.worlds worlds.now) answers told.now.buckets.items →
+        slice_get (W.worlds worlds.now) index ≡ Some w →
+        IsAnswered W.step W.report (W.worlds worlds.now) (W.faults worlds.now) answers (GoesWell w) }
+    ensures no { result ≡ false → (answers : List Answer) (k : ℕ) (a : Answer) →
+        AreFiled W.report_digest W.report (W.worlds worlds.now) answers told.now.buckets.items →
+        slice_get answers k ≡ Some a → AreApart W.report (W.worlds worlds.now) a.end (Landing.World index) }
 {
-    for it in answers {
-        if tells(worlds, it.end, index) {
-            return true;
-        }
-    }
-    false
-}
-
-// Whether this end is a world with the report of the world `index`.
-fn tells<W: Worlds>(worlds: &W, end: Landing, index: usize) -> bool
-    requires low { index < length (W.worlds worlds.now) }
-    requires within { (j : ℕ) → end ≡ Landing.World j → j < length (W.worlds worlds.now) }
-    ensures yes { result ≡ true → (w : W.World) → slice_get (W.worlds worlds.now) index ≡ Some w →
-        Tells W.step W.report (W.worlds worlds.now) (W.faults worlds.now) end (GoesWell w) }
-    ensures no { result ≡ false → AreApart W.report (W.worlds worlds.now) end (Landing.World index) }
-{
-    match end {
-        Landing::World(other) => worlds.same_report(other, index),
-        Landing::Fault(_) => false,
-    }
+    have_report(worlds, told.buckets[bucket].as_slice(), index)
 }
 
 // Adds an answer with this end and the schedule that leads there.

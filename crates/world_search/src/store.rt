@@ -26,6 +26,8 @@ pub trait Worlds: Drop {
     ghost step: { Self.World → ℕ → Result Self.World Self.Fault };
     // The report of a world.
     ghost report: { Self.World → Self.Report };
+    // A number by which reports are filed.
+    ghost report_digest: { Self.Report → ℕ };
     // The greatest number of fibers of a world.
     ghost most_born: { ℕ };
     // The number of bytes that the store counts.
@@ -59,6 +61,11 @@ pub trait Worlds: Drop {
             slice_get (worlds self.now) other ≡ Some w → report v ≡ report w }
         ensures no { result ≡ false → (v w : Self.World) → slice_get (worlds self.now) one ≡ Some v →
             slice_get (worlds self.now) other ≡ Some w → report v ≢ report w };
+
+    /// The digest of a world's report: worlds of the same report have the same digest.
+    fn report_digest(&self, world: usize) -> u64
+        requires { world < length (worlds self.now) }
+        ensures { (w : Self.World) → slice_get (worlds self.now) world ≡ Some w → result ≡ report_digest (report w) };
 
     /// The number of worlds.
     fn len(&self) -> usize

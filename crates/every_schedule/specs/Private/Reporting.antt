@@ -1,8 +1,10 @@
 -- The reports of fibers, by the numbers of their states.
-use Rattle.std.specs.Prelude.{◌≡◌, ◌≢◌, ◌⊎◌, ℕ, List, length, Some}
-use Rattle.std.specs.List.{slice_get}
+use Rattle.std.specs.Prelude.{◌≡◌, ◌≢◌, ◌⊎◌, ℕ, List, length, map, Some}
+use Rattle.std.specs.List.{fold, slice_get}
+use Rattle.std.specs.Option.{option_to_list}
 use Rattle.fiber_frames.specs.Fiber.{Fiber}
 use Rattle.scheduled_core.specs.Core.{fiber_report}
+use Rattle.every_schedule.specs.Digests.{with_report}
 
 module _ (fs : List Fiber) where
   -- the two states make the same report
@@ -22,3 +24,7 @@ module _ (fs : List Fiber) where
   abbrev pub AreOther : List ℕ → List ℕ → Type 0
   AreOther ms ns = (length ms ≢ length ns) ⊎
       ((i : ℕ) × (m : ℕ) × (n : ℕ) × (slice_get ms i ≡ Some m) × (slice_get ns i ≡ Some n) × Differ m n)
+
+  -- a digest, extended by the report of a fiber in the state of this number
+  abbrev pub with_state : (digest number : ℕ) → ℕ
+  with_state d n = fold with_report d (map fiber_report (option_to_list (slice_get fs n)))
