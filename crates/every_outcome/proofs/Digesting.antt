@@ -1,6 +1,6 @@
 -- Digests of the marks that are kept.
 use Rattle.std.proofs.{Common.{◌≡◌, ℕ, ◌+◌, ◌<◌, Bool, true, false, cond, List, [], ◌∷◌, get_or, length, take, refl, sym, ap, ◌∙◌}, lemmas.List.Sums.fold_more}
-use Rattle.std.specs.List.{filter, fold}
+use Rattle.std.specs.List.{fold}
 use Rattle.fiber_frames.specs.declared.mark.Mark.{Mark}
 use Rattle.every_schedule.specs.Digests.{with_mark}
 use Rattle.every_outcome.specs.{Places.{keeps_mark, kept_marks}, Private.Digests.with_kept_mark}

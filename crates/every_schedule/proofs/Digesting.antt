@@ -1,5 +1,5 @@
 -- Digests of reports, by the numbers of states.
-use Rattle.std.proofs.Common.{◌≡◌, ℕ, List, [], ◌∷◌, ◌++◌, map, refl, sym, ap, ◌∙◌}
+use Rattle.std.proofs.Common.{◌≡◌, ℕ, List, [], ◌∷◌, map, refl, sym, ap, ◌∙◌}
 use Rattle.std.{proofs.lemmas.{List.map-append, List.Sums.fold-append}, specs.{List.{fold, slice_get}, Option.option_to_list}}
 use Rattle.fiber_frames.specs.Fiber.{Fiber}
 use Rattle.scheduled_core.specs.{Core.fiber_report, declared.report.FiberReport.FiberReport}

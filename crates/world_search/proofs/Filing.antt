@@ -4,7 +4,7 @@ use Rattle.std.{proofs.lemmas.{Option.{same_Some, slice_get_within}, List.length
 use native.Mathlib.Decide.{ℕ_discrete}
 use Rattle.std.specs.declared.alloc.Global.{Global}
 use Rattle.std.specs.declared.vec.Vec.{Vec}
-use mathlib.Core.Logic.{◌⊎◌, dite}
+use mathlib.Core.Logic.{dite}
 use Rattle.world_search.specs.{declared.{answers.Answer.Answer, graphs.Node.Node, landings.Landing.Landing}, Answers.{AreApart, IsAnswered, Tells}, Lists.IsIn}
 use Rattle.world_search.specs.Private.{Listed.{Adds, IsNamed}, Told.{AreFiled, Files, IsFiled}}
 use Rattle.world_search.proofs.{Lists.{get_end, get_last, get_low, got_none, more_in, set_other, set_same}, Answering.{adds_more, adds_named, named_more}}

@@ -1,4 +1,4 @@
-use Rattle.std.{proofs.{Common.{◌≡◌, ap, ◌∙◌, arith}, lemmas.List.take_all}, specs.List.fold}
+use Rattle.std.{proofs.{Common.{ap, ◌∙◌, arith}, lemmas.List.take_all}, specs.List.fold}
 use Rattle.fiber_frames.specs.declared.mark.Mark.{Mark}
 use Rattle.every_outcome.{specs.{Places.with_says, Private.Digests.with_kept_mark}, proofs.Digesting.{fold_next, kept_fold}}
 use Rattle.every_outcome.proofs.says.with_kept_marks.Goals as goal

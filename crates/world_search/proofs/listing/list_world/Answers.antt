@@ -1,4 +1,4 @@
-use Rattle.std.{proofs.{Common.{◌≡◌, List, false, sym, subst, arith}, lemmas.{Grind.common_steps, Option.gets}}, specs.{Prelude.{Some, Ok}, List.slice_get}}
+use Rattle.std.{proofs.{Common.{◌≡◌, List, false, sym, subst, arith}, lemmas.{Grind.common_steps, Option.gets}}, specs.{Prelude.Some, List.slice_get}}
 use Rattle.world_search.specs.{declared.graphs.Node.Node, Private.{Listed.Adds, Paths.IsChained, Shapes.shape}}
 use Rattle.world_search.proofs.{Answering.{listed_within, adds_faultless, adds_more, adds_named, adds_once, adds_world, named_answered}, Filing.adds_filed}
 use Rattle.world_search.specs.declared.landings.Landing.TheVariants as to

@@ -1,4 +1,4 @@
-use Rattle.std.{proofs.Common.{◌≡◌, ◌≢◌, ℕ, sym, ◌∙◌, subst, arith, slice_index_or}, proofs.lemmas.Option.{same_Some, slice_get-get_or, slice_get_within}}
+use Rattle.std.{proofs.Common.{◌≡◌, sym, ◌∙◌, subst, arith, slice_index_or}, proofs.lemmas.Option.{same_Some, slice_get-get_or, slice_get_within}}
 use Rattle.std.specs.{Prelude.Some, List.slice_get}
 use mathlib.Core.Logic.{dite}
 use native.Mathlib.Decide.{ℕ_discrete}
