@@ -7,11 +7,11 @@ use crate::file_fault::{file_refused, twice_refused};
 use crate::named::{ItemNames, NamedItem, name_of};
 use crate::reading::{Reading, bytes_of};
 use crate::refused::Refused;
+use crate::shapes::shape_of;
 use crate::trial::try_definitions;
 use crate::wrong::Span;
 use model_text::{Item, ModelFile, read_file};
 use std::alloc::{AllocError, Global};
-use term_parse::word_of;
 
 // The definitions that every file has.
 const PRELUDE: &str = "(define (wait f:fiber) (join f _ 0 _ 0 0))
@@ -61,10 +61,7 @@ pub(crate) enum NameFault {
 
 // Whether a spelling is a word of the language of models.
 fn is_word(spelled: &[u8]) -> bool {
-    match spelled {
-        b"do" | b"starts" | b"deferreds" | b"refs" | b"if" | b"when" | b"unless" => true,
-        _ => word_of(spelled).is_some(),
-    }
+    shape_of(spelled).is_some()
 }
 
 // Whether a name is that of a model.

@@ -111,10 +111,16 @@ fn keep_probe(out: &mut Writing, probe: &Probe) {
     }
 }
 
-// Writes the term of a model.
-fn write_model(read: Reading, out: &mut Writing, model: &Model) -> Result<(), Stop> {
+// Writes the term of a model, and checks it.
+fn write_model(alloc: Global, read: Reading, out: &mut Writing, model: &Model) -> Result<(), Stop>
+    ensures short { IfOk result (λ _. vec_len out.new.text ≤ 65536) }
+    ensures term { IfOk result (λ _. IsTermText out.new.text.items) }
+    ensures binders { IfOk result (λ _. All (λ b. (b.start ≤ b.end) × (b.end ≤ vec_len out.new.text)) out.new.binders.items) }
+    ensures places { IfOk result (λ _. All (λ p. p.term < vec_len out.new.text) out.new.places.items) }
+{
     plan_model(read, out, model)?;
-    write_all(read, out)
+    write_all(read, out)?;
+    check(alloc, out)
 }
 
 /// Returns the term of a model of a source, with the additions of a probe.
@@ -136,8 +142,8 @@ pub fn translate(
     let read = reading_of(source);
     let mut out = Writing::new(alloc)?;
     keep_probe(&mut out, &probe);
-    match write_model(read, &mut out, model) {
-        Ok(()) => finished(alloc, read, out, model),
+    match write_model(alloc, read, &mut out, model) {
+        Ok(()) => Ok(term_of(out)),
         Err(stop) => {
             let name = span_of(model.name);
             Err(refused(alloc, read, &out, source.prelude, name, stop))
@@ -166,19 +172,22 @@ fn is_term(alloc: Global, text: &[u8]) -> Result<bool, AllocError>
     ensures { IfOk result (λ b. b ≡ true → IsTermText text.now) }
 {
     match parse(alloc, text) {
-        Ok(_) => Ok(true),
+        Ok(term) => {
+            drop(term);
+            Ok(true)
+        }
         Err(ParseError::NoMemory) => Err(AllocError),
         Err(_) => Ok(false),
     }
 }
 
-// Returns the written term if it has at most 65,536 bytes, its text is that of a term, and its binders and places are
-// within it.
-fn finished(alloc: Global, read: Reading, out: Writing, model: &Model) -> Result<ModelTerm, Refused>
-    ensures short { IfOk result (λ t. vec_len t.text ≤ 65536) }
-    ensures term { IfOk result (λ t. IsTermText t.text.items) }
-    ensures binders { IfOk result (λ t. All (λ b. (b.start ≤ b.end) × (b.end ≤ vec_len t.text)) t.binders.items) }
-    ensures places { IfOk result (λ t. All (λ p. p.term < vec_len t.text) t.places.items) }
+// Checks that the written term has at most 65,536 bytes, that its text is that of a term, and that its binders and
+// places are within it.
+fn check(alloc: Global, out: &Writing) -> Result<(), Stop>
+    ensures short { IfOk result (λ _. vec_len out.now.text ≤ 65536) }
+    ensures term { IfOk result (λ _. IsTermText out.now.text.items) }
+    ensures binders { IfOk result (λ _. All (λ b. (b.start ≤ b.end) × (b.end ≤ vec_len out.now.text)) out.now.binders.items) }
+    ensures places { IfOk result (λ _. All (λ p. p.term < vec_len out.now.text) out.now.places.items) }
 {
     let length = out.text.len();
     if MOST_BYTES < length
@@ -186,10 +195,9 @@ fn finished(alloc: Global, read: Reading, out: Writing, model: &Model) -> Result
         || !are_within(out.binders.as_slice(), length)
         || !are_places_within(out.places.as_slice(), length)
     {
-        let stop = Stop::Limit(Limit::TooLong);
-        return Err(refused(alloc, read, &out, 0, span_of(model.name), stop));
+        return Err(Stop::Limit(Limit::TooLong));
     }
-    Ok(term_of(out))
+    Ok(())
 }
 
 // The written term.

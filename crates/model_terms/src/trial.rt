@@ -86,12 +86,8 @@ fn try_definition(
     let mut out = Writing::new(alloc)?;
     out.limit_work(work);
     match write_definition(read, &mut out, definition) {
-        Ok(()) => Ok(out.work_left()),
-        Err(stop) => match stop {
-            Stop::Limit(_) => Ok(out.work_left()),
-            Stop::NoMemory => Err(Refused::NoMemory),
-            Stop::Wrong(_, _, _) => Err(refused(alloc, read, &out, prelude, name.name, stop)),
-        },
+        Ok(()) | Err(Stop::Limit(_)) => Ok(out.work_left()),
+        Err(stop) => Err(refused(alloc, read, &out, prelude, name.name, stop)),
     }
 }
 
