@@ -1,6 +1,6 @@
 -- The effects of comparing two texts.
 use Rattle.std.proofs.Common.{◌≡◌, ◌≢◌, ◌∙◌, ℕ, List, Result, Ok, Err, refl, ap, subst}
-use Rattle.comparison_answers.specs.declared.pairs.CompareOrder.{CompareOrder}
+use Rattle.compared_ends.specs.declared.order.CompareOrder.{CompareOrder}
 use Rattle.comparison_answers.specs.PairAnswers.{IsPairAnswer}
 use Rattle.text_io.specs.declared.fault.TextFault.{TextFault}
 use Rattle.text_io.specs.declared.fault.TextFault.TheVariants as faults

@@ -1,6 +1,6 @@
 -- The effect of a request to compare the programs of two files.
 use Rattle.std.specs.Prelude.{◌≡◌, ◌≢◌, ℕ, false, List, ◌++◌, codes, Result, Err, IfOk}
-use Rattle.comparison_answers.specs.declared.pairs.CompareOrder.{CompareOrder}
+use Rattle.compared_ends.specs.declared.order.CompareOrder.{CompareOrder}
 use Rattle.comparison_answers.specs.PairAnswers.{IsPairAnswer}
 use Rattle.text_io.specs.declared.fault.TextFault.{TextFault}
 use Rattle.text_io.specs.declared.fault.TextFault.TheVariants.{NoMemory, ReadFault, WriteFault, TurnBound}

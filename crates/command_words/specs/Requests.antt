@@ -12,7 +12,7 @@ use Rattle.steal_pool.specs.declared.options.Options.{Options}
 use Rattle.steal_pool.specs.Runs.{limits_of}
 use Rattle.compared_ends.specs.declared.basis.Basis.{Basis}
 use Rattle.compared_ends.specs.declared.basis.Basis.TheVariants.{AllFibers, FirstFiber}
-use Rattle.comparison_answers.specs.declared.pairs.CompareOrder.{CompareOrder}
+use Rattle.compared_ends.specs.declared.order.CompareOrder.{CompareOrder}
 use Rattle.command_words.specs.declared.comparing.Comparing.{Comparing}
 use Rattle.command_words.specs.declared.deciding.Deciding.{Deciding}
 use Rattle.command_words.specs.declared.exploring.Exploring.{Exploring}

@@ -3,7 +3,7 @@
 ghost use Rattle.std.specs.Prelude.{◌≡◌, codes, IfNone, IfSome};
 ghost use Rattle.clap.specs.Words.{found_of, rows_of};
 ghost use Rattle.compared_ends.specs.declared.basis.Basis.{Basis as TheBasis};
-ghost use Rattle.comparison_answers.specs.declared.pairs.CompareOrder.{CompareOrder};
+ghost use Rattle.compared_ends.specs.declared.order.CompareOrder.{CompareOrder};
 ghost use Rattle.command_words.specs.declared.comparing.Comparing.{Comparing};
 ghost use Rattle.command_words.specs.Requests.{SaysBasis, SaysCompare, SaysComparing};
 
@@ -12,7 +12,7 @@ use crate::flags::{given, text_of};
 use crate::ranges::FEW;
 use crate::requests::{bounds_of, limits_of};
 use clap::ArgMatches;
-use comparison_answers::{Basis, CompareOrder};
+use compared_ends::{Basis, CompareOrder};
 
 // The basis of the comparison, by the options of `compare`.
 fn basis_of(compare: &ArgMatches<'_>) -> Basis

@@ -1,6 +1,6 @@
 //! The request to compare two programs.
 
-use comparison_answers::CompareOrder;
+use compared_ends::CompareOrder;
 
 /// To compare the programs of two files.
 #[derive(Clone, Copy)]

@@ -22,8 +22,10 @@ mod basis;
 mod comparing;
 mod comparison;
 mod extras;
+mod order;
 mod views;
 
 pub use basis::Basis;
 pub use comparing::compare_ends;
 pub use comparison::{Comparison, Extra};
+pub use order::CompareOrder;

@@ -9,7 +9,7 @@ mod pairs;
 mod texts;
 mod values;
 
-pub use compared_ends::Basis;
-pub use pairs::{CompareOrder, answer_pair};
+pub use compared_ends::{Basis, CompareOrder};
+pub use pairs::answer_pair;
 pub use texts::{comparison_status, text_of_comparison};
 pub use values::comparison_json;

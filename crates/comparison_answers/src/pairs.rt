@@ -1,35 +1,15 @@
 //! The answer to two texts whose programs are compared.
-ghost use Rattle.std.specs.Prelude.{◌≡◌, ◌≤◌, ◌++◌, IfOk, codes};
-ghost use Rattle.cell_registry.specs.Cells.{AreLimits};
+ghost use Rattle.std.specs.Prelude.{◌≡◌, ◌++◌, IfOk, codes};
 ghost use Rattle.outcome_trace.specs.Answers.{IsRefused};
 ghost use Rattle.comparison_answers.specs.PairAnswers.{IsComparedAnswer, IsPairAnswer, IsSecondAnswer, Refuses};
 
 use crate::texts::{comparison_status, text_of_comparison};
 use crate::values::{comparison_json, first_refused, second_refused};
-use cell_registry::Limits;
-use compared_ends::{Basis, compare_ends};
+use compared_ends::{CompareOrder, compare_ends};
 use effect_term::Program;
-use every_schedule::Bounds;
 use json_answers::{refusal_json, value_answer};
 use outcome_trace::{Answer, Refused, Status, read_program, refusal};
 use std::alloc::{AllocError, Global};
-
-/// How two programs are compared.
-#[derive(Clone, Copy)]
-pub struct CompareOrder {
-    /// The numbers of fibers, refs and deferreds (each 1 to 1000), and how often a fiber can change its own cell (1 to
-    /// 1,099,511,627,775), in both programs.
-    pub limits: Limits,
-    /// For each program, the greatest numbers of kept worlds and of entries of a schedule (0 to 1,000,000), and the
-    /// number of bytes at which the search stops.
-    pub bounds: Bounds,
-    /// The basis of the comparison of ends.
-    pub basis: Basis,
-    /// Whether the answer is JSON.
-    pub json: bool,
-    pub ghost ranges: { AreLimits limits },
-    pub ghost entries: { bounds.entries ≤ 1000000 },
-}
 
 /// The answer to two texts, in words or as JSON: the text of the comparison of their programs ([`text_of_comparison`]),
 /// with the status of [`comparison_status`], or the refusal of the first refused text, with `Status::Refused`. Returns

@@ -5,13 +5,13 @@ use crate::found::{push_answers, push_found, schedule_of};
 use crate::judged::{JudgedModel, name_of};
 use crate::named_file::{bytes_of, push_place, start_of};
 use crate::one_line::joined;
-use crate::shown::push_shown;
 use crate::source_faults::push_headline;
 use crate::timeline_table::push_timeline;
 use crate::wait_lines::push_waits;
 use model_claims::{Rule, Verdict};
 use model_runs::{ClaimResult, NamedAnswer, Search, Warning};
 use std::alloc::{AllocError, Global};
+use text_io::push_shown;
 
 // The greatest number of bytes of a form in a warning.
 const SHOWN: usize = 60;

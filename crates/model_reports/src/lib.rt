@@ -21,7 +21,6 @@ mod named_file;
 mod names;
 mod one_line;
 mod rows;
-mod shown;
 mod source_faults;
 mod tap;
 mod timeline_columns;

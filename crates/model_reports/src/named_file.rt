@@ -1,11 +1,11 @@
 //! A model file with its name, and the places in a file.
 
 use crate::digits::{push_about, push_number};
-use crate::shown::push_shown;
 use model_forms::{Form, form_bytes};
 use model_terms::{Source, prelude};
 use reasons::{Position, position_at};
 use std::alloc::AllocError;
+use text_io::push_shown;
 
 /// A model file, and the name under which it was opened.
 #[derive(Clone, Copy)]

@@ -3,5 +3,4 @@ pub mod Place
 pub mod Reasons
 pub mod Refusals
 pub mod Schedules
-pub mod Shown
 pub mod Whys

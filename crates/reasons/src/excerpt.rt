@@ -1,7 +1,7 @@
 //! The line of a text that contains a place, with a mark under the place.
 
-use crate::shown::push_shown;
 use std::alloc::{AllocError, Global};
+use text_io::push_shown;
 
 // The most bytes of a line that are shown on each side of the place.
 const SIDE: usize = 48;

@@ -15,7 +15,6 @@ mod nearness;
 mod place;
 mod refusals;
 mod schedules;
-mod shown;
 mod text_reasons;
 mod unended;
 mod wanting;

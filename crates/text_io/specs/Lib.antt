@@ -7,5 +7,6 @@ pub mod FaultLines
 pub mod Status
 pub mod Telling
 pub mod Schedule
+pub mod Shown
 pub mod Reading
 pub mod Digits

@@ -1,6 +1,6 @@
 use Rattle.std.proofs.Common.{◌≡◌, ◌++◌, drop}
-use Rattle.reasons.specs.Shown.{shown}
-use Rattle.reasons.proofs.shown.push_shown.Given as goal
+use Rattle.text_io.specs.Shown.{shown}
+use Rattle.text_io.proofs.shown.push_shown.Given as goal
 
 -- the bytes so far, followed by the remaining ones as they are shown, are the whole result
 abbrev pub invariant-loop-byte : goal.invariant-loop-byte

@@ -1,13 +1,12 @@
 //! Bytes as they are shown: a byte that isn't printable ASCII is shown as its number.
 
 ghost use Rattle.std.specs.Prelude.{◌≡◌, ◌++◌, ◌<◌, OnOk};
-ghost use Rattle.reasons.specs.Shown.{digit, shown, shown_byte};
+ghost use Rattle.text_io.specs.Shown.{digit, shown, shown_byte};
 
 use std::alloc::AllocError;
 
-/// Appends a byte as it is shown: itself if it is printable ASCII, a space for a tab or a carriage return, otherwise
-/// `\x` with its two hexadecimal digits.
-pub(crate) fn push_byte(told: &mut Vec<u8>, byte: u8) -> Result<(), AllocError>
+// Appends a byte as it is shown.
+fn push_byte(told: &mut Vec<u8>, byte: u8) -> Result<(), AllocError>
     ensures { OnOk result (told.new.items ≡ told.old.items ++ shown_byte byte) }
 {
     if byte == b'\t' || byte == b'\r' {
@@ -21,8 +20,9 @@ pub(crate) fn push_byte(told: &mut Vec<u8>, byte: u8) -> Result<(), AllocError>
     }
 }
 
-/// Appends bytes as they are shown.
-pub(crate) fn push_shown(told: &mut Vec<u8>, bytes: &[u8]) -> Result<(), AllocError>
+/// Appends bytes as they are shown: a printable character of ASCII itself, a space for a tab or a carriage return, and
+/// `\x` with two hexadecimal digits for any other byte. Returns `AllocError` if memory ran out.
+pub fn push_shown(told: &mut Vec<u8>, bytes: &[u8]) -> Result<(), AllocError>
     ensures { OnOk result (told.new.items ≡ told.old.items ++ shown bytes.now) }
 {
     for byte in bytes {
