@@ -1,6 +1,7 @@
 -- The result of a claim follows from one of the searches.
 use Rattle.std.{proofs.Common.{◌≡◌, ℕ, List, Some, None, Result, Ok, Err, IfOk, true, ap, ◌∙◌}, specs.{List.slice_get, Option.is_some}}
-use Rattle.model_terms.specs.declared.{refused.Refused.Refused, source.Source.Source}
+use Rattle.model_terms.specs.declared.source.Source.{Source}
+use Rattle.term_writing.specs.declared.refused.Refused.{Refused}
 use Rattle.derived_ops.specs.Tree.{Tree}
 use Rattle.cell_registry.specs.declared.limits.Limits.{Limits}
 use Rattle.every_schedule.specs.declared.claims.ClaimWord.{ClaimWord}

@@ -3,15 +3,12 @@
 ghost use Rattle.std.specs.Prelude.{◌≡◌, IfOk, drop};
 ghost use Rattle.model_text.specs.Files.{IsFile};
 
-use crate::file_fault::{file_refused, twice_refused};
-use crate::named::{ItemNames, NamedItem, name_of};
-use crate::reading::{Reading, bytes_of};
-use crate::refused::Refused;
-use crate::shapes::shape_of;
-use crate::trial::try_definitions;
-use crate::wrong::Span;
 use model_text::{Item, ModelFile, read_file};
 use std::alloc::{AllocError, Global};
+use term_writing::{
+    ItemNames, NameFault, NamedItem, Reading, Refused, Span, bytes_of, file_refused, name_of,
+    shape_of, try_definitions, twice_refused,
+};
 
 // The definitions that every file has.
 const PRELUDE: &str = "(define (wait f:fiber) (join f _ 0 _ 0 0))
@@ -46,17 +43,6 @@ pub(crate) fn reading_of(source: &Source) -> Reading<'_> {
         forms: source.file.forms.as_slice(),
         named: &source.names,
     }
-}
-
-/// The reason why a name is refused.
-#[derive(Clone, Copy)]
-pub(crate) enum NameFault {
-    /// The name is a word of the language.
-    Word,
-    /// Another definition or constant, whose name begins here, has it.
-    Twice(usize),
-    /// Another model, whose name begins here, has it.
-    TwoModels(usize),
 }
 
 // Whether a spelling is a word of the language of models.

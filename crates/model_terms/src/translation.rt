@@ -3,20 +3,16 @@
 ghost use Rattle.std.specs.Prelude.{◌≡◌, ◌<◌, ◌≤◌, ◌↔◌, All, IfOk, IsTrue, true, vec_len};
 ghost use Rattle.model_terms.specs.Texts.{IsTermText};
 
-use crate::binder::{Binder, BinderName, NameKind, WordPlace};
-use crate::reading::{Reading, first_of, span_of};
-use crate::refused::Refused;
-use crate::scope::{FiberName, Here, Meaning, NONE, Operand, View};
 use crate::source::{Source, reading_of};
-use crate::task::Task;
-use crate::term::write_all;
-use crate::wording::refused;
-use crate::writing::{MOST_BYTES, SaidBy, Writing};
-use crate::wrong::{Limit, Stop};
 use effect_term::Value;
 use model_text::Model;
 use std::alloc::{AllocError, Global};
 use term_parse::{ParseError, Word, parse};
+use term_writing::{
+    Binder, BinderName, FiberName, Here, Limit, MOST_BYTES, NONE, NameKind, Operand, Reading,
+    Refused, SaidBy, Stop, Task, View, WordPlace, Writing, first_of, span_of, term_refused,
+    write_all,
+};
 
 /// A fiber's name in a file, and a value that it says.
 #[derive(Clone, Copy)]
@@ -34,16 +30,13 @@ pub enum Probe {
     Nothing,
     /// For each ref of this binder, a fiber that reads the ref once, at any moment, and ends with its value.
     Watch(BinderName),
-    /// A hidden ref that records whether the first `say` came before the second. If it didn't, a fiber says [`LATE`]
-    /// before the second.
+    /// A hidden ref that records whether the first `say` came before the second. If it didn't, a fiber says
+    /// [`LATE`](crate::LATE) before the second.
     Order(Said, Said),
     /// In each fiber but fiber 0, a `say` before anything else ([`is_name`](crate::is_name)). Fibers of different names
     /// say different values. Their reports then differ, unless the fibers are canceled before they begin.
     Names,
 }
-
-/// The value that a fiber says before the second of two `say`s if the first didn't come before it.
-pub const LATE: i64 = 4611686018427387901;
 
 /// The term of a model, as text.
 #[derive(Drop)]
@@ -146,7 +139,7 @@ pub fn translate(
         Ok(()) => Ok(term_of(out)),
         Err(stop) => {
             let name = span_of(model.name);
-            Err(refused(alloc, read, &out, source.prelude, name, stop))
+            Err(term_refused(alloc, read, &out, source.prelude, name, stop))
         }
     }
 }

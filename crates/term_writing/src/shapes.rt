@@ -46,7 +46,7 @@ fn language_shape(word: Word) -> &'static str {
 
 /// The form of a word, with a letter or a short name for each part; none if the word is neither one of the language nor
 /// one of models.
-pub(crate) fn shape_of(word: &[u8]) -> Option<&'static str> {
+pub fn shape_of(word: &[u8]) -> Option<&'static str> {
     let own = match word {
         b"seq" => "`(seq e ..)`",
         b"do" => "`(do e ..)`",

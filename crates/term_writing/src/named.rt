@@ -11,23 +11,27 @@ const LISTS: usize = 1024;
 
 /// The item that a name of a source names.
 #[derive(Clone, Copy)]
-pub(crate) enum NamedItem {
+pub enum NamedItem {
+    /// A constant.
     Number(i64),
+    /// A definition.
     Definition(Definition),
+    /// A model.
     Model,
 }
 
 /// A name of a source.
 #[derive(Clone, Copy)]
-pub(crate) struct ItemName {
-    pub(crate) name: Span,
+pub struct ItemName {
+    /// Its bytes.
+    pub name: Span,
     pub(crate) item: NamedItem,
     next: usize,
 }
 
 /// The names of a source, in lists by a hash of their bytes.
 #[derive(Drop)]
-pub(crate) struct ItemNames {
+pub struct ItemNames {
     names: Vec<ItemName>,
     lists: Vec<usize>,
 }
@@ -63,7 +67,7 @@ fn is_model(item: NamedItem) -> bool {
 
 impl ItemNames {
     /// Makes an empty table of names.
-    pub(crate) fn new(alloc: Global) -> Result<ItemNames, AllocError> {
+    pub fn new(alloc: Global) -> Result<ItemNames, AllocError> {
         let mut lists = Vec::with_capacity(alloc, LISTS)?;
         for _ in 0..LISTS {
             lists.push(NONE)?;
@@ -73,7 +77,7 @@ impl ItemNames {
     }
 
     /// The item with this spelling, among the models if `model` is set, else among the others.
-    pub(crate) fn find(&self, text: &[u8], spelled: &[u8], model: bool) -> Option<ItemName> {
+    pub fn find(&self, text: &[u8], spelled: &[u8], model: bool) -> Option<ItemName> {
         let mut at = self.list(spelled);
         for _ in 0..self.names.len() {
             let name = self.names.get(at).copied()?;
@@ -99,12 +103,7 @@ impl ItemNames {
     }
 
     /// Adds a name.
-    pub(crate) fn add(
-        &mut self,
-        text: &[u8],
-        name: Span,
-        item: NamedItem,
-    ) -> Result<(), AllocError> {
+    pub fn add(&mut self, text: &[u8], name: Span, item: NamedItem) -> Result<(), AllocError> {
         let spelled = bytes_of(text, name);
         let next = self.list(spelled);
         let number = self.names.len();
@@ -117,7 +116,7 @@ impl ItemNames {
 }
 
 /// The name of an item and the item that it names, if the item has a name.
-pub(crate) fn name_of(item: &Item) -> Option<(Span, NamedItem)> {
+pub fn name_of(item: &Item) -> Option<(Span, NamedItem)> {
     match item {
         Item::Constant(constant) => {
             Some((

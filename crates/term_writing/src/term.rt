@@ -20,7 +20,7 @@ use term_parse::{Word, word_of};
 const MOST_STEPS: usize = 4_000_000;
 
 /// Does the tasks of a term until none is left.
-pub(crate) fn write_all(read: Reading, out: &mut Writing) -> Result<(), Stop> {
+pub fn write_all(read: Reading, out: &mut Writing) -> Result<(), Stop> {
     for _ in 0..MOST_STEPS {
         out.settle()?;
         match out.stack.pop() {

@@ -2,11 +2,10 @@
 
 use crate::binder::{BinderName, NameKind};
 use crate::look::value;
-use crate::name_says::{WATCHER, name_value};
+use crate::name_says::{LATE, WATCHER, name_value};
 use crate::reading::Reading;
 use crate::scope::{FiberName, Here, Operand};
 use crate::task::Task;
-use crate::translation::LATE;
 use crate::writing::{SaidBy, Writing};
 use crate::wrong::Stop;
 use itoa::Buffer;

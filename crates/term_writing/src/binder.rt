@@ -24,7 +24,7 @@ pub enum BinderName {
     Row(usize, usize),
     /// No name of the file: `_`, or a name that the translation made.
     Hidden,
-    /// A fiber that reads a ref once, at any moment ([`Probe::Watch`](crate::Probe::Watch)).
+    /// A fiber that reads a ref once, at any moment (`Probe::Watch` of `model_terms`).
     Watcher,
 }
 

@@ -1,9 +1,11 @@
-//! Values that fibers say for their names.
+//! Values that fibers say for their names, and for an order that was broken.
 
 ghost use Rattle.std.specs.Prelude.{◌↔◌, ◌<ℤ◌, ◌≤ℤ◌, pos, IsTrue};
 
 use crate::scope::FiberName;
-use crate::translation::LATE;
+
+/// The value that a fiber says before the second of two `say`s if the first didn't come before it.
+pub const LATE: i64 = 4611686018427387901;
 
 // The least value that a fiber says for its name.
 const FIRST: i64 = 4611686000000000000;
@@ -11,8 +13,8 @@ const FIRST: i64 = 4611686000000000000;
 /// The value that a fiber that watches a ref says.
 pub(crate) const WATCHER: i64 = FIRST + 2;
 
-/// Whether this is a value that a fiber says for its name ([`Probe::Names`](crate::Probe::Names)), or to show that it
-/// watches a ref: 4611686000000000000 to 4611686018427387900. If a file says one itself, its claims don't see it.
+/// Whether this is a value that a fiber says for its name (`Probe::Names` of `model_terms`), or to show that it watches
+/// a ref: 4611686000000000000 to 4611686018427387900. If a file says one itself, its claims don't see it.
 pub fn is_name(value: i64) -> bool
     ensures { IsTrue result ↔ (pos 4611686000000000000 ≤ℤ value) × (value <ℤ pos 4611686018427387901) }
 {

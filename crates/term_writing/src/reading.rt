@@ -6,19 +6,22 @@ use model_forms::{Block, Form, FormKind, behind_first, first_form, form_bytes, i
 
 /// The text of a source, its forms, and its definitions and constants.
 #[derive(Clone, Copy)]
-pub(crate) struct Reading<'a> {
-    pub(crate) text: &'a [u8],
-    pub(crate) forms: &'a [Form],
-    pub(crate) named: &'a ItemNames,
+pub struct Reading<'a> {
+    /// The text.
+    pub text: &'a [u8],
+    /// Its forms.
+    pub forms: &'a [Form],
+    /// The names of its items.
+    pub named: &'a ItemNames,
 }
 
 /// The bytes of a span.
-pub(crate) fn bytes_of(text: &[u8], span: Span) -> &[u8] {
+pub fn bytes_of(text: &[u8], span: Span) -> &[u8] {
     text.get(span.start..span.end).unwrap_or(&[])
 }
 
 /// The span of a form.
-pub(crate) fn span_of(form: Form) -> Span {
+pub fn span_of(form: Form) -> Span {
     Span {
         start: form.start,
         end: form.end,
@@ -50,7 +53,7 @@ pub(crate) fn inside_at(forms: &[Form], at: usize) -> Block {
 }
 
 /// The number of a block's first form, if it has one.
-pub(crate) fn first_of(forms: &[Form], block: Block) -> Option<usize> {
+pub fn first_of(forms: &[Form], block: Block) -> Option<usize> {
     match first_form(forms, block) {
         Some(_) => Some(block.first),
         None => None,

@@ -11,7 +11,7 @@ use std::alloc::{AllocError, Global};
 use term_parse::{Word, spelling_of};
 
 /// The greatest number of bytes of a term.
-pub(crate) const MOST_BYTES: usize = 65536;
+pub const MOST_BYTES: usize = 65536;
 
 // The greatest number of open brackets of a term.
 const MOST_OPEN: usize = 100;
@@ -19,28 +19,34 @@ const MOST_OPEN: usize = 100;
 // The greatest amount of work: 1 for each step, binder, name that is compared, and part that is passed.
 const MOST_WORK: usize = 5_000_000;
 
-/// A `say` of a fiber: the number of the form that spells the fiber's name, and the value.
+/// A `say` of a fiber.
 #[derive(Clone, Copy)]
-pub(crate) struct SaidBy {
-    pub(crate) fiber: usize,
-    pub(crate) value: i64,
+pub struct SaidBy {
+    /// The number of the form that spells the fiber's name.
+    pub fiber: usize,
+    /// The value.
+    pub value: i64,
 }
 
 /// A term that is partly written.
 #[derive(Drop)]
-pub(crate) struct Writing {
-    pub(crate) text: Vec<u8>,
-    pub(crate) binders: Vec<Binder>,
-    pub(crate) places: Vec<WordPlace>,
-    pub(crate) torn: Vec<usize>,
+pub struct Writing {
+    /// The text of the term.
+    pub text: Vec<u8>,
+    /// Its binders, in the order of the text.
+    pub binders: Vec<Binder>,
+    /// The places in the file that its forms come from, in the order of the text.
+    pub places: Vec<WordPlace>,
+    /// The forms of the file that read a ref whose value then changes the ref.
+    pub torn: Vec<usize>,
     /// The binder whose refs are watched.
-    pub(crate) watched: Option<BinderName>,
+    pub watched: Option<BinderName>,
     /// The two `say`s whose order is compared.
-    pub(crate) said: Option<(SaidBy, SaidBy)>,
+    pub said: Option<(SaidBy, SaidBy)>,
     /// Whether each fiber but fiber 0 says a value for its name first.
-    pub(crate) names: bool,
+    pub names: bool,
     /// The name of the hidden ref that records whether the first of the two `say`s came.
-    pub(crate) order: usize,
+    pub order: usize,
     pub(crate) spellings: Spellings,
     pub(crate) bounds: Vec<Bound>,
     pub(crate) handed: Vec<Handed>,
@@ -61,7 +67,7 @@ pub(crate) struct Writing {
 
 impl Writing {
     /// Makes a term without bytes.
-    pub(crate) fn new(alloc: Global) -> Result<Writing, AllocError> {
+    pub fn new(alloc: Global) -> Result<Writing, AllocError> {
         let spellings = Spellings::new(alloc)?;
         Ok(Writing {
             text: Vec::new(alloc),
@@ -121,13 +127,13 @@ impl Writing {
     }
 
     /// Plans a task.
-    pub(crate) fn then(&mut self, task: Task) -> Result<(), Stop> {
+    pub fn then(&mut self, task: Task) -> Result<(), Stop> {
         self.plan.push(task)?;
         Ok(())
     }
 
     /// Makes a new name with a spelling near `name`, and returns its number.
-    pub(crate) fn fresh(&mut self, name: &[u8]) -> Result<usize, Stop> {
+    pub fn fresh(&mut self, name: &[u8]) -> Result<usize, Stop> {
         let number = self.spellings.fresh(name)?;
         Ok(number)
     }

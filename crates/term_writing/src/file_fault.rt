@@ -3,7 +3,6 @@
 use crate::nearness::{distance, least_apart};
 use crate::reading::bytes_of;
 use crate::refused::{Refused, SourceFault};
-use crate::source::NameFault;
 use crate::told::{tell, tell_count, tell_quoted};
 use crate::wording::{note_meant, note_place, tell_no_number};
 use crate::wrong::Span;
@@ -11,6 +10,17 @@ use model_forms::{FormFault, read_forms};
 use model_text::{FileFault, ItemFault};
 use std::alloc::{AllocError, Global};
 use term_parse::word_of;
+
+/// The reason why a name is refused.
+#[derive(Clone, Copy)]
+pub enum NameFault {
+    /// The name is a word of the language.
+    Word,
+    /// Another definition or constant, whose name begins here, has it.
+    Twice(usize),
+    /// Another model, whose name begins here, has it.
+    TwoModels(usize),
+}
 
 // Appends the fault of the brackets and strings of a file.
 fn tell_form(told: &mut Vec<u8>, fault: FormFault) -> Result<(), AllocError> {
@@ -201,7 +211,7 @@ fn file_fault(
 }
 
 /// The refusal of a file for a fault of its forms or items.
-pub(crate) fn file_refused(alloc: Global, text: &[u8], fault: FileFault) -> Refused {
+pub fn file_refused(alloc: Global, text: &[u8], fault: FileFault) -> Refused {
     let Some(start) = fault.place() else {
         return Refused::NoMemory;
     };
@@ -256,7 +266,7 @@ fn twice_fault(
 }
 
 /// The refusal of a file because of a name.
-pub(crate) fn twice_refused(
+pub fn twice_refused(
     alloc: Global,
     text: &[u8],
     prelude: usize,

@@ -6,21 +6,25 @@ use std::alloc::{AllocError, AllocFailed};
 
 /// Some of the bytes of a source.
 #[derive(Clone, Copy)]
-pub(crate) struct Span {
-    pub(crate) start: usize,
-    pub(crate) end: usize,
+pub struct Span {
+    /// The number of bytes before them.
+    pub start: usize,
+    /// The number of bytes up to their end.
+    pub end: usize,
 }
 
 /// The sort of a use, in a message.
 #[derive(Clone, Copy)]
-pub(crate) enum Sort {
+pub enum Sort {
+    /// A name of this kind.
     Name(NameKind),
+    /// A term.
     Term,
 }
 
 /// The fault at a place.
 #[derive(Clone, Copy)]
-pub(crate) enum Wrong {
+pub enum Wrong {
     /// A list is empty.
     EmptyList,
     /// A list has no word at its head.
@@ -75,7 +79,7 @@ pub(crate) enum Wrong {
 
 /// The limit that a term exceeds.
 #[derive(Clone, Copy)]
-pub(crate) enum Limit {
+pub enum Limit {
     /// The term has more than 65,536 bytes.
     TooLong,
     /// More than 100 of its brackets are open.
@@ -86,7 +90,7 @@ pub(crate) enum Limit {
 
 /// Why a translation ends early.
 #[derive(Clone, Copy)]
-pub(crate) enum Stop {
+pub enum Stop {
     /// Memory ran out.
     NoMemory,
     /// The term exceeds this limit.

@@ -14,7 +14,7 @@ pub(crate) enum Follow {
 
 /// A piece of a term that is still to be written.
 #[derive(Clone, Copy)]
-pub(crate) enum Task {
+pub enum Task {
     /// An opening bracket and its word, and the number of the form that they are written for.
     Open(Word, usize),
     /// This number of closing brackets.

@@ -5,22 +5,27 @@ use crate::wrong::Span;
 use model_forms::Block;
 
 /// The end of a list of binders, uses or names.
-pub(crate) const NONE: usize = usize::MAX;
+pub const NONE: usize = usize::MAX;
 
-/// What a place sees. `scope` is the innermost binder, and `uses` the innermost use of a definition around the place.
-/// The place sees the definitions and constants that begin before byte `limit` of the source.
+/// What a place sees.
 #[derive(Clone, Copy)]
-pub(crate) struct View {
-    pub(crate) scope: usize,
-    pub(crate) uses: usize,
-    pub(crate) limit: usize,
+pub struct View {
+    /// The innermost binder.
+    pub scope: usize,
+    /// The innermost use of a definition.
+    pub uses: usize,
+    /// The byte before which the definitions and constants begin that the place sees.
+    pub limit: usize,
 }
 
 /// The name of the fiber that runs a term.
 #[derive(Clone, Copy)]
-pub(crate) enum FiberName {
+pub enum FiberName {
+    /// The first fiber.
     Main,
+    /// The left fiber of a `race` or a `both`.
     Left,
+    /// The right fiber of a `race` or a `both`.
     Right,
     /// The number of the form that spells its name.
     Word(usize),
@@ -30,9 +35,11 @@ pub(crate) enum FiberName {
 
 /// The surroundings of a term: what it sees, and the fiber that runs it.
 #[derive(Clone, Copy)]
-pub(crate) struct Here {
-    pub(crate) view: View,
-    pub(crate) fiber: FiberName,
+pub struct Here {
+    /// What the term sees.
+    pub view: View,
+    /// The fiber that runs it.
+    pub fiber: FiberName,
 }
 
 /// The meaning of a name.
@@ -79,7 +86,8 @@ pub(crate) struct Use {
 
 /// A value in a term.
 #[derive(Clone, Copy)]
-pub(crate) enum Operand {
+pub enum Operand {
+    /// A number.
     Number(i64),
     /// The number of a name of the term.
     Name(usize),

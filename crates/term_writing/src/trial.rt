@@ -6,7 +6,7 @@ use crate::refused::Refused;
 use crate::scope::{FiberName, Handed, Here, Meaning, NONE, View};
 use crate::term::write_all;
 use crate::uses::{DefinedPart, PartKind, part_at, plan_body};
-use crate::wording::refused;
+use crate::wording::term_refused;
 use crate::writing::Writing;
 use crate::wrong::Stop;
 use model_forms::behind_first;
@@ -87,12 +87,12 @@ fn try_definition(
     out.limit_work(work);
     match write_definition(read, &mut out, definition) {
         Ok(()) | Err(Stop::Limit(_)) => Ok(out.work_left()),
-        Err(stop) => Err(refused(alloc, read, &out, prelude, name.name, stop)),
+        Err(stop) => Err(term_refused(alloc, read, &out, prelude, name.name, stop)),
     }
 }
 
 /// Tries the definitions of a file, one after another, until the work for all of them is used up.
-pub(crate) fn try_definitions(alloc: Global, read: Reading, prelude: usize) -> Result<(), Refused> {
+pub fn try_definitions(alloc: Global, read: Reading, prelude: usize) -> Result<(), Refused> {
     let mut work = MOST_WORK;
     for name in read.named.names() {
         match name.item {
