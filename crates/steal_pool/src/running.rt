@@ -5,6 +5,7 @@ ghost use Rattle.cell_registry.specs.Cells.{AreLimits};
 ghost use Rattle.cell_registry.specs.Passes.{first_pass};
 ghost use Rattle.derived_ops.specs.Expansion.{code_of};
 ghost use Rattle.derived_ops.specs.Reading.{source_of};
+ghost use Rattle.fiber_poll.specs.Tasks.{IsTaskOf};
 ghost use Rattle.ready_queues.specs.Faults.{IsFaultWithin};
 ghost use Rattle.run_ends.specs.Ends.{HasUnended, IsEnd, IsNoRefusal, IsRunFault, TellsUnended};
 ghost use Rattle.run_ends.specs.Gathering.{IsLawful};
@@ -24,7 +25,7 @@ use crate::workers::Workers;
 use cell_registry::{Pass, Registry, RunError};
 use derived_ops::{Code, expand};
 use effect_term::Program;
-use fiber_poll::first;
+use fiber_poll::{FiberTask, first};
 use once_cell::race::OnceBox;
 use ready_queues::{FaultCell, FirstFault, InjectorEnd, Learned, empty_injector, within};
 use run_ends::{Leavings, RunEnd};
@@ -165,17 +166,50 @@ fn of_registry<R: Threads + Wait + Sync, W: Watch>(
 {
     let task = first(alloc, registry, pass, code, options.moves)?;
     let named = Some((registry, code, options.moves));
-    let (bay, mut seat) = Bay::new(alloc, options.fibers, options.deferreds, named)?;
+    let (bay, seat) = Bay::new(alloc, options.fibers, options.deferreds, named)?;
+    of_bay(rt, alloc, registry, code, bay, seat, task, options, watch)
+}
+
+// Puts the first task into the bay of a run. Returns what the workers leave, and whether the registry refused a call of
+// one of them.
+fn of_bay<'a, R: Threads + Wait + Sync, W: Watch>(
+    rt: &R,
+    alloc: Global,
+    registry: &Registry,
+    code: &Code,
+    bay: Bay<'a>,
+    seat: BaySeat<'a>,
+    task: FiberTask<'a>,
+    options: Options,
+    watch: &W,
+) -> Result<(Leavings, bool), RunError>
+    requires here { IsSeatOf bay seat }
+    requires some { 0 < bay.fibers }
+    requires named { bay.named ≡ Somebody record { home = registry.now; code = code.now; most = options.moves } }
+    requires task { IsTaskOf registry.now code.now options.moves task }
+    requires budget { 1 < options.budget }
+    ensures left { IfOk result (λ it. Gathered registry.now code.now options.moves it.0.met it.0.configs.items
+        it.0.rests.items) }
+    ensures none { IfErr result IsNoRefusal }
+{
+    let mut seat = seat;
     if bay.put(rt, &mut seat, 0, task, true).is_err() {
         return Err(RunError::Lost(0));
     }
-    let is_refused = match drive(rt, alloc, &bay, seat, options, watch)? {
-        None => false,
-        Some(RunError::Full(_, _)) | Some(RunError::Spent(_)) => true,
-        Some(fault) => return Err(fault),
-    };
+    let is_refused = is_refused(drive(rt, alloc, &bay, seat, options, watch)?)?;
     let leavings = Leavings::of(alloc, registry, code, bay.empty()?)?;
     Ok((leavings, is_refused))
+}
+
+// Whether the first fault of the workers is a call that the registry refused. Returns another fault as an error.
+fn is_refused(first: Option<RunError>) -> Result<bool, RunError>
+    ensures { IfErr result IsNoRefusal }
+{
+    match first {
+        None => Ok(false),
+        Some(RunError::Full(_, _)) | Some(RunError::Spent(_)) => Ok(true),
+        Some(fault) => Err(fault),
+    }
 }
 
 // Has workers run the tasks of a bay from fiber 0 on, and returns the first fault, if there was one.
@@ -244,18 +278,18 @@ fn start_all<'q, 'b, 'a, C: FaultCell + Send + Sync, R: Threads + Wait + Sync, W
                 let _ = threads.push(thread);
             }
         }
-        if threads.is_empty() {
-            return None;
-        }
-        Some(join_all(rt, &shared.first_fault, threads))
+        join_all(rt, &shared.first_fault, threads)
     })
 }
 
-// Waits for the workers to end, and returns the first fault that one of them met.
+// Waits for the workers to end, and returns the first fault that one of them met. Returns `None` if there are none.
 fn join_all<C: FaultCell, R: Threads>(
     rt: &R,
     first_fault: &FirstFault<'_, C>,
     threads: Vec<JoinHandle<Learned<C>>>,
-) -> Option<RunError> {
-    first_fault.known_to_one(threads.into_iter().map(|thread| thread.join(rt)))
+) -> Option<Option<RunError>> {
+    if threads.is_empty() {
+        return None;
+    }
+    Some(first_fault.known_to_one(threads.into_iter().map(|thread| thread.join(rt))))
 }

@@ -36,9 +36,7 @@ impl<'q, 'b, 'a> Worker<'q, 'b, 'a> {
         queues: Queues<'q>,
         seat: WorkerSeat<'b, 'a>,
     ) -> Result<(Worker<'q, 'b, 'a>, Sleeper), AllocError> {
-        let parker = Parker::new(alloc)?;
-        let sleeper = Sleeper::new(parker.unparker().clone()?);
-        let room = Box::new(alloc, RunError::NoWorker).map_err(AllocError::from)?;
+        let (parker, sleeper, room) = parts(alloc)?;
         let worker = Worker {
             number,
             queues,
@@ -48,6 +46,14 @@ impl<'q, 'b, 'a> Worker<'q, 'b, 'a> {
         };
         Ok((worker, sleeper))
     }
+}
+
+// A worker's parker, its unparker, and room for a fault.
+fn parts(alloc: Global) -> Result<(Parker, Sleeper, Box<RunError>), AllocError> {
+    let parker = Parker::new(alloc)?;
+    let sleeper = Sleeper::new(parker.unparker().clone()?);
+    let room = Box::new(alloc, RunError::NoWorker).map_err(AllocError::from)?;
+    Ok((parker, sleeper, room))
 }
 
 /// What the workers share, besides the bay and the queues.

@@ -32,27 +32,42 @@ impl<'q, 'b, 'a> Workers<'q, 'b, 'a> {
         requires here { IsSeatOf bay.now seat }
         requires some { 0 < bay.now.fibers }
     {
-        let mut seat = seat;
         let deques = deques(alloc, workers)?;
         let ends = ends(alloc, deques.as_slice())?;
-        let mut all = Vec::new(alloc);
-        let mut sleepers = Vec::new(alloc);
-        let mut number = 0u8;
-        for (own, victims) in deques.into_iter().zip(ends) {
-            let queues = Queues {
-                own,
-                victims,
-                injector: InjectorEnd::of(injector),
-            };
-            let one = new_worker(alloc, bay, &mut seat, number, queues)?;
-            add(&mut all, &mut sleepers, one)?;
-            number = number.wrapping_add(1);
-        }
-        Ok(Workers {
-            workers: all,
-            idle: Idle::new(sleepers),
-        })
+        of_queues(alloc, bay, seat, injector, deques, ends)
     }
+}
+
+// A worker of this bay for each of these queues, with its ends of the others.
+fn of_queues<'q, 'b, 'a>(
+    alloc: Global,
+    bay: &'b Bay<'a>,
+    seat: BaySeat<'a>,
+    injector: &'q ReadyInjector,
+    deques: Vec<ReadyDeque>,
+    ends: Vec<Vec<Victim>>,
+) -> Result<Workers<'q, 'b, 'a>, AllocError>
+    requires here { IsSeatOf bay.now seat }
+    requires some { 0 < bay.now.fibers }
+{
+    let mut seat = seat;
+    let mut all = Vec::new(alloc);
+    let mut sleepers = Vec::new(alloc);
+    let mut number = 0u8;
+    for (own, victims) in deques.into_iter().zip(ends) {
+        let queues = Queues {
+            own,
+            victims,
+            injector: InjectorEnd::of(injector),
+        };
+        let one = new_worker(alloc, bay, &mut seat, number, queues)?;
+        add(&mut all, &mut sleepers, one)?;
+        number = number.wrapping_add(1);
+    }
+    Ok(Workers {
+        workers: all,
+        idle: Idle::new(sleepers),
+    })
 }
 
 // A worker of this bay with these queues, and its unparker.

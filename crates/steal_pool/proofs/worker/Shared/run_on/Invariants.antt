@@ -1,6 +1,6 @@
 use Rattle.std.proofs.Common.{◌≡◌}
 use Rattle.wait_bay.specs.Names.{IsNamed}
-use Rattle.steal_pool.proofs.worker.Shared.serve.Given as goal
+use Rattle.steal_pool.proofs.worker.Shared.run_on.Given as goal
 
 abbrev pub invariant-loop : goal.invariant-loop
 invariant-loop g l =
