@@ -2,13 +2,13 @@
 
 use crate::digits::{push_count, push_number, push_seconds, push_times, push_word, width_of};
 use crate::named_file::{NamedFile, push_place};
-use crate::shown::push_shown;
 use model_claims::Verdict;
 use model_forms::form_bytes;
 use model_runs::ModelResult;
 use model_terms::{ModelTerm, Source};
 use model_text::Model;
 use std::alloc::{AllocError, Global};
+use text_io::push_shown;
 
 // The least width of the names of models.
 const NAME: usize = 36;

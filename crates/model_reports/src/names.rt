@@ -2,11 +2,11 @@
 
 use crate::digits::{push_about, push_word};
 use crate::named_file::bytes_of;
-use crate::shown::push_shown;
 use model_claims::FiberName;
 use model_runs::Named;
 use model_terms::{BinderName, Source};
 use std::alloc::AllocError;
+use text_io::push_shown;
 
 /// Adds the name of a fiber in its file, or `fiber N` if there is none. `AllocError` if memory runs out.
 pub(crate) fn push_fiber_name(

@@ -2,10 +2,10 @@
 
 use crate::digits::{push_about, push_number, push_times, push_word, width_of};
 use crate::named_file::{NamedFile, place_in_file, push_place};
-use crate::shown::push_shown;
 use model_terms::SourceFault;
 use reasons::position_at;
 use std::alloc::{AllocError, Global};
+use text_io::push_shown;
 
 // The greatest number of bytes of a line that are shown before the marked bytes, of these, and behind these.
 const SIDE: usize = 72;

@@ -3,9 +3,9 @@
 use crate::claim_details::model_details;
 use crate::digits::{push_about, push_number, push_word};
 use crate::judged::{JudgedModel, name_of};
-use crate::shown::push_shown;
 use model_claims::Verdict;
 use std::alloc::{AllocError, Global};
+use text_io::push_shown;
 
 /// Returns what precedes the models: the version of the protocol, and the number of models. `AllocError` if memory runs
 /// out.
