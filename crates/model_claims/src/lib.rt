@@ -11,8 +11,8 @@
 //! if none does and there are no other answers. A claim about some answer passes only if an answer meets it, and fails
 //! only if none does and there are no other answers. Otherwise a claim is undecided. `fails` exchanges passed and
 //! failed. The shown answer is the first that decides. [`truth_of`] and [`truth_in`] are proved to run the words of a
-//! condition over the fibers of the answer, as `specs/Conditions.antt` states. For [`read_claims`], [`read_settings`]
-//! and [`has_forever`] only safety and termination are proved.
+//! condition over the fibers of the answer, as `specs/Conditions.antt` states. For [`read_claims`], [`read_settings`],
+//! [`has_forever`] and [`marks_in_loops`] only safety and termination are proved.
 #![tactic(auto)]
 
 mod answer;
@@ -37,8 +37,8 @@ mod words;
 pub use answer::{FiberName, Seen, SeenFiber};
 pub use bounds::{Settings, check_defaults, read_settings};
 pub use claim::{Claim, Want};
-pub use condition::{Comparison, Condition, Wanted, Who, Word};
-pub use endless::has_forever;
+pub use condition::{Comparison, Condition, Spoken, SpokenName, Wanted, Who, Word};
+pub use endless::{has_forever, marks_in_loops};
 pub use judging::{Judged, Rule, Truth, Verdict, judge, under};
 pub use leaf::{is_wanted, speaks_of};
 pub use moment::MomentWord;
