@@ -6,7 +6,6 @@ use crate::compile::{OUTCOME_WANTED, compile, spell};
 use crate::condition::{Condition, Spoken, Wanted, Who, Word, empty_condition};
 use crate::endless::has_forever;
 use crate::faults::{plain_fault, quoting_fault};
-use crate::judging::Rule;
 use crate::leaf::speaks_of;
 use crate::moment::{MomentWord, final_words, moment_words};
 use crate::names::{needs_names, sayer_name, who_at};
@@ -18,6 +17,7 @@ use crate::parts::{
 use crate::refs::{Subjects, no_subjects, ref_fault};
 use crate::straight::straight_part;
 use crate::words::{Head, head_of};
+use claim_verdicts::Rule;
 use model_forms::{Block, form_bytes};
 use model_terms::{BinderName, ModelTerm, Probe, Refused, Said, Source};
 use model_text::Model;
