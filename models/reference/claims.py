@@ -1,8 +1,8 @@
 """The verdicts of a model's claims over all its schedules (docs/MODEL_FILES.md, "Claims").
 
 A claim is on every answer or moment, and then refuted by one, or on some answer or moment, and then met by one. `Facts`
-are what the searches of a model found. `Claim` has the verdict of one claim, and whether a given answer or moment
-decides it."""
+are what the searches of a model found. A `Claim` has its verdict by these facts, and says which answers and moments
+settle it: those that refute it or meet it."""
 import itertools
 import operator
 
@@ -94,7 +94,7 @@ class Claim:
 
     # Verdicts
 
-    def decides(self, fact):
+    def is_settled_by(self, fact):
         """Whether an answer, or the values of the claim's refs, refute a claim on every one or meet one on some."""
         holds = self.at(fact) if self.refs else self.holds_of(fact)
         return holds == (not self.on_every or self.word == "never")
@@ -109,12 +109,12 @@ class Claim:
     def verdict(self, facts):
         """`passed` or `failed`."""
         if self.word == "before":
-            decided = facts.orders.index(self.form) in facts.plain.late
+            settled = facts.orders.index(self.form) in facts.plain.late
         else:
-            decided = any(self.decides(it) for it in self.facts(facts))
+            settled = any(self.is_settled_by(it) for it in self.facts(facts))
         if self.on_every:
-            decided = decided or bool(facts.plain.faults)
-        return "passed" if decided == (self.on_every == self.fails) else "failed"
+            settled = settled or bool(facts.plain.faults)
+        return "passed" if settled == (self.on_every == self.fails) else "failed"
 
     def wanted_in_vain(self, facts):
         """The outcomes of a `want` that holds to which no schedule comes."""

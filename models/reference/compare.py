@@ -8,7 +8,8 @@ import sys
 import tempfile
 
 from claims import Claim, Facts
-from generate import Maker
+from programs import Maker
+from random_claims import Claimer
 from reader import File, read, write
 from search import Search, TooLarge
 from shrink import smallest
@@ -118,7 +119,7 @@ class Compared:
         self.differences.append((kind, claim and write(["fails", claim.form] if claim.fails else claim.form), text))
 
     def compare(self, claim, got):
-        """Compares the verdict of a claim, and the answer or the moment that decides it."""
+        """Compares the verdict of a claim, and the answer or the moment that settles it."""
         word = claim.word + (" of refs" if claim.refs else "")
         self.counts["claims " + word] += 1
         if got["verdict"] == "undecided":
@@ -143,23 +144,23 @@ class Compared:
         if claim.word == "before":
             return plain.most(2) + 1 > plain.limits["refs"] or "Full refs" in str(plain.faults)
         if claim.refs:
-            many = sum(label[0] == claim.refs[0] for it in plain.states[-1:] for label, _ in it[2])
+            many = max(sum(label[0] == claim.refs[0] for label, _ in it) for it in plain.moments())
             return plain.most(0) + max(many, 1) > plain.limits["fibers"] or "Full fibers" in str(plain.faults)
         return False
 
     def found(self, claim, got):
-        """Compares what was found with the answers, or the moments, that decide the claim."""
+        """Compares what was found with the answers, or the moments, that settle the claim."""
         fibers = [(it["fiber"], outcome_of(it["outcome"])) for it in got["found"] if "fiber" in it]
         refs = {it["ref"]: it["value"] for it in got["found"] if "ref" in it}
         if claim.word == "before":
             return
-        deciding = [it for it in claim.facts(self.facts) if claim.decides(it)]
+        settling = [it for it in claim.facts(self.facts) if claim.is_settled_by(it)]
         if claim.refs:
-            is_there = any(all(refs.get(name) == value for name, value in it.items()) for it in deciding)
+            is_there = any(all(refs.get(name) == value for name, value in it.items()) for it in settling)
         else:
-            is_there = any(same_fibers(fibers, it) for it in deciding)
+            is_there = any(same_fibers(fibers, it) for it in settling)
         if not is_there:
-            self.differs("found", claim, "fiber_cli found what decides nothing: %s" % json.dumps(got["found"]))
+            self.differs("found", claim, "fiber_cli found what settles nothing: %s" % json.dumps(got["found"]))
 
     def warnings(self, got):
         """Compares the warnings W02 and W03."""
@@ -231,7 +232,7 @@ def random_model(maker, above, name):
         return None
     if len(search.answers()) < 2 and maker.chance(0.7):
         return None
-    return ["model", name] + bounds + maker.claims(made, search, head) + [["run"] + run]
+    return ["model", name] + bounds + Claimer(maker, made, search, head).claims() + [["run"] + run]
 
 
 def compare_seed(seed, program, plain, whole):
@@ -254,7 +255,8 @@ def compare_file(path, program, plain, _whole):
     with open(path, encoding="utf-8") as file:
         forms = [without_text(it) for it in read(file.read())]
     differences, counts = compare_forms(forms, program, plain, 200000)
-    return [("%s: %s of %s: %s" % (path, kind, model[1], claim), text) for kind, claim, text, model in differences], counts
+    shown = [("%s: %s of %s: %s" % (path, kind, model[1], claim), text) for kind, claim, text, model in differences]
+    return shown, counts
 
 
 def without_text(form):

@@ -65,9 +65,8 @@ class Terms:
         key = (term, name, value)
         found = self.replaced.get(key)
         if found is None:
-            parts = tuple(
-                self.replace(it, name, value) if isinstance(it, Term) else value if isinstance(it, Use) and it == name else it
-                for it in term.parts)
+            parts = [self.replace(it, name, value) if isinstance(it, Term) else it for it in term.parts]
+            parts = [value if isinstance(it, Use) and it == name else it for it in parts]
             found = self.replaced[key] = self.make(term.word, *parts)
         return found
 
@@ -134,7 +133,8 @@ class Terms:
         def won(winner, loser):
             (x, value), (y, code), (u, other), (v, failed) = map(self.name, "xyuv")
             lost = self.make("cancel", loser)
-            instead = self.make("join", loser, u, self.pure(other), v, self.make("raise", failed), self.cut_or_never(poll))
+            instead = self.make("join", loser, u, self.pure(other), v, self.make("raise", failed),
+                                self.cut_or_never(poll))
             return self.make("join", winner, x, self.seq(lost, self.pure(value)), y,
                              self.seq(lost, self.make("raise", code)), self.seq(self.awaits(poll, loser), instead))
 

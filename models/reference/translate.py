@@ -11,7 +11,7 @@ from terms import UNNAMED, Terms, Use
 # The parts of the language's forms: v a value, t a term, k a term in which all binders before it are bound, a small
 # letter's capital a use of that kind, and b, p, f, r, d a binder of a value, poll, fiber, ref, deferred.
 FORMS = {
-    "pure": "v", "raise": "v", "let": "tbk", "handle": "tbk", "if0": "vtt", "add": "vv", "say": "v", "cede": "",
+    "pure": "v", "raise": "v", "handle": "tbk", "if0": "vtt", "add": "vv", "say": "v", "cede": "",
     "never": "", "canceled": "", "poll": "Pt", "oncancel": "tt", "cancel": "F", "get": "R", "set": "Rv",
     "modify": "Rv", "complete": "Dv", "await": "D", "repeat": "vt", "forever": "t", "guarantee": "tt", "race": "tt",
 }
@@ -59,6 +59,10 @@ class Translation:
         self.fibers, self.refs, self.said = set(), {}, {}
         self.fiber = "main"
         self.term = self.block(model.run, {name: Bound("value", it) for name, it in file.constants.items()})
+
+    def has_loop(self):
+        """Whether the program has a loop without end."""
+        return any(it.word == "forever" for it in self.terms.known.values())
 
     # Blocks and statements
 
@@ -256,7 +260,7 @@ class Translation:
 
     def core(self, word, made):
         """The term of a word of the table with its parts."""
-        if word in ("let", "handle"):
+        if word == "handle":
             body, binder, rest = made
             return self.terms.make(word, binder, body, rest)
         if word == "if0":
