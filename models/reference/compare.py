@@ -14,7 +14,7 @@ from reader import File, read, write
 from search import Search, TooLarge
 from shrink import smallest
 from terms import CANCELER, UNNAMED
-from translate import Translation
+from translate import Refused as Untranslated, Translation
 
 sys.setrecursionlimit(20000)
 # The most states of a model, and how many models a random file has.
@@ -228,7 +228,7 @@ def random_model(maker, above, name):
     try:
         made = Translation(file, model)
         search = Search(made.terms, made.term, model.bounds, says=True, most=MOST // 4)
-    except (TooLarge, RecursionError):
+    except (TooLarge, Untranslated, RecursionError):
         return None
     if len(search.answers()) < 2 and maker.chance(0.7):
         return None

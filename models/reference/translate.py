@@ -23,6 +23,10 @@ BINDING = {"let": 2, "ref": 2, "deferred": 1, "start": 2, "starts": 3, "deferred
 INDEX = re.compile(r"(?P<base>[0-9]+|[A-Za-z_][A-Za-z0-9_]*)(?P<more>[+-][0-9]+)?\Z")
 
 
+class Refused(Exception):
+    """A row hasn't the number that a name means."""
+
+
 class Bound:
     """What a spelling is bound to: its kind (value, ref, deferred, fiber, poll), and a number or a use of a name."""
 
@@ -187,7 +191,10 @@ class Translation:
         number = self.constant(found["base"], scope)
         if isinstance(number, Use):
             return Bound(row.kind, Pick(number, row.uses))
-        return Bound(row.kind, row.uses[number + int(found["more"] or 0)])
+        number += int(found["more"] or 0)
+        if not 0 <= number < len(row.uses):
+            raise Refused("%s has no %d" % (base, number))
+        return Bound(row.kind, row.uses[number])
 
     # Terms
 
