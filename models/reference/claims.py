@@ -28,6 +28,11 @@ class Claim:
         self.says = any(names(self.form, ("said", "says")))
         self.on_every = self.word in ON_EVERY
 
+    def is_refused(self, made):
+        """Whether this is a `before` that names a fiber which says a computed value, in a translated program."""
+        fibers = [it[0] for it in self.form[1:]] if self.word == "before" else []
+        return any(is_named(name, label) for name in fibers for label in made.computed)
+
     # Answers
 
     def holds_of(self, answer):

@@ -1,5 +1,5 @@
 """Random claims on a program whose answers and moments are known: some hold, some don't, and most are near them."""
-from claims import is_named
+from claims import Claim, is_named
 from programs import NUMBERS
 from terms import CANCELER, HIDDEN, UNNAMED
 
@@ -28,7 +28,9 @@ class Claimer:
         found = []
         for _ in range(self.maker.random.randint(2, 5)):
             claim = self.claim(self.one(WORDS))
-            if claim is not None and claim not in found:
+            if claim is None or claim in found:
+                continue
+            if not Claim(claim, dict(self.maker.constants)).is_refused(self.made) or self.chance(0.1):
                 found.append(claim)
         return [["fails", it] if self.chance(0.15) else it for it in found or [["no-deadlock"]]]
 

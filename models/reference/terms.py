@@ -139,7 +139,7 @@ class Terms:
                              self.seq(lost, self.make("raise", code)), self.seq(self.awaits(poll, loser), instead))
 
         def then(which, one, two):
-            return self.make("test", which, 0, won(one, two), won(two, one))
+            return self.make("if0", which, won(one, two), won(two, one))
 
         return self.make("uncancelable", p, self.pair(poll, (left, right), then))
 
@@ -158,7 +158,7 @@ class Terms:
                              self.seq(lost, self.make("raise", code)), self.seq(lost, self.cut_or_never(poll)))
 
         def choose(which, one, two):
-            return self.make("test", which, 0, ended(one, two, True), ended(two, one, False))
+            return self.make("if0", which, ended(one, two, True), ended(two, one, False))
 
         x, y = binders
         masked = self.make("uncancelable", p, self.pair(poll, (left, right), choose))

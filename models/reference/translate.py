@@ -6,7 +6,7 @@ the scope of its use."""
 import re
 
 from reader import NUMBER
-from terms import UNNAMED, Terms, Use
+from terms import MAIN, UNNAMED, Terms, Use
 
 # The parts of the language's forms: v a value, t a term, k a term in which all binders before it are bound, a small
 # letter's capital a use of that kind, and b, p, f, r, d a binder of a value, poll, fiber, ref, deferred.
@@ -56,12 +56,13 @@ class Pick:
 
 
 class Translation:
-    """The term of a model, and the labels of its fibers and refs: for each spelling of a ref the forms that bind it."""
+    """The term of a model. `fibers` are the labels of its fibers, `computed` those of fibers that say a value other than
+    a number. `refs` has for each spelling of a ref the forms that bind it."""
 
     def __init__(self, file, model):
         self.file, self.terms = file, Terms()
-        self.fibers, self.refs, self.said = set(), {}, {}
-        self.fiber = "main"
+        self.fibers, self.refs, self.computed = set(), {}, set()
+        self.fiber = MAIN
         self.term = self.block(model.run, {name: Bound("value", it) for name, it in file.constants.items()})
 
     def has_loop(self):
@@ -223,12 +224,20 @@ class Translation:
         """The term of `if`, `when` or `unless`."""
         lifts = []
         _, value, number = parts[0]
-        tested = self.value(value, scope, lifts)
+        tested = self.less(self.value(value, scope, lifts), self.constant(number, scope), lifts)
         then = self.of(parts[1], scope)
         other = self.of(parts[2], scope) if word == "if" else self.terms.pure(0)
         if word == "unless":
             then, other = other, then
-        return self.lifted(lifts, self.terms.make("test", tested, self.constant(number, scope), then, other))
+        return self.lifted(lifts, self.terms.make("if0", tested, then, other))
+
+    def less(self, value, number, lifts):
+        """A value less a number. The difference gets a new name, which is added to `lifts`, unless the number is 0."""
+        if number == 0:
+            return value
+        binder, use = self.terms.name("t")
+        lifts.append((binder, self.terms.make("add", value, -number)))
+        return use
 
     def plain(self, word, parts, scope):
         """The term of a form that the table describes."""
@@ -244,8 +253,8 @@ class Translation:
                 made.append(used)
             else:
                 made.append(self.of(part, inner if kind == "k" else scope))
-        if word == "say":
-            self.said.setdefault(self.fiber, set()).add(made[0] if isinstance(made[0], int) else None)
+        if word == "say" and isinstance(made[0], Use):
+            self.computed.add(self.fiber)
         return self.lifted(lifts, self.with_use(word, made, used))
 
     def with_use(self, word, made, used):
@@ -262,7 +271,9 @@ class Translation:
         """The term of each use, of which the value picks one; raises 1002 if there is none."""
         term = self.terms.make("raise", 1002)
         for number, use in reversed(list(enumerate(pick.uses))):
-            term = self.terms.make("test", pick.value, number, of(use), term)
+            lifts = []
+            tested = self.less(pick.value, number, lifts)
+            term = self.lifted(lifts, self.terms.make("if0", tested, of(use), term))
         return term
 
     def core(self, word, made):
@@ -270,8 +281,6 @@ class Translation:
         if word == "handle":
             body, binder, rest = made
             return self.terms.make(word, binder, body, rest)
-        if word == "if0":
-            return self.terms.make("test", made[0], 0, *made[1:])
         if word in ("guarantee", "race"):
             return getattr(self.terms, word)(*made)
         return self.terms.make(word, *made)
