@@ -23,9 +23,9 @@ class Claim:
         self.fails = form[0] == "fails"
         self.form = form[1] if self.fails else form
         self.word, self.constants = self.form[0], constants
-        self.refs = sorted(set(names(self.form, COMPARISONS)))
-        self.fibers = sorted(set(names(self.form, ("ends", "said", "says"))))
-        self.says = any(names(self.form, ("said", "says")))
+        self.refs = sorted(set(named_behind(self.form, COMPARISONS)))
+        self.fibers = sorted(set(named_behind(self.form, ("ends", "said", "says"))))
+        self.says = any(named_behind(self.form, ("said", "says")))
         self.on_every = self.word in ON_EVERY
 
     def is_refused(self, made):
@@ -129,10 +129,12 @@ class Claim:
 
     def not_there(self, facts):
         """The names of fibers that no schedule starts, and of refs that never hold a value."""
-        fibers = self.fibers + [it[0] for it in self.form[1:] if self.word == "before"]
-        started, held = facts.plain.started(), facts.plain.held()
-        absent = [it for it in sorted(set(fibers)) if not any(is_named(it, label) for label in started)]
-        return absent + [it for it in self.refs if not any(is_named(it, label) for label in held)]
+        there = facts.plain.held() if self.refs else facts.plain.started()
+        return [it for it in self.names() if not any(is_named(it, label) for label in there)]
+
+    def names(self):
+        """The names of the fibers or the refs that this claim is about."""
+        return self.refs or sorted({*self.fibers, *(it[0] for it in self.form[1:] if self.word == "before")})
 
 
 class Facts:
@@ -164,10 +166,10 @@ def is_named(name, label):
     return spelling is not None and name in (spelling, spelling if number is None else "%s.%d" % label)
 
 
-def names(form, words):
+def named_behind(form, words):
     """The names that follow these words in a form."""
     if isinstance(form, list):
         if form and isinstance(form[0], str) and form[0] in words:
             yield form[1]
         for it in form:
-            yield from names(it, words)
+            yield from named_behind(it, words)

@@ -288,15 +288,16 @@ class Maker:
         if not self.definitions:
             return None
         name, parts = self.one(self.definitions)
-        given = [self.given(kind, scope, deep) for kind in parts]
+        given = [self.given(kind, scope, deep, parts.count("fiber") == 1) for kind in parts]
         return None if None in given else [name] + given
 
-    def given(self, kind, scope, deep):
-        """What is given for a part of a definition, or None if the scope has no such name."""
+    def given(self, kind, scope, deep, rows):
+        """What is given for a part of a definition, or None if the scope has no such name. `rows` is whether it can be
+        a whole row."""
         if kind == "value":
             return self.value(scope, deep)
         if isinstance(kind, str):
-            uses = self.uses(scope, kind, rows=kind == "fiber")
+            uses = self.uses(scope, kind, rows=rows and kind == "fiber")
             return self.one(uses) if uses else None
         names, inner = [], scope
         for it in kind:
