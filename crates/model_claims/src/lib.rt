@@ -18,6 +18,7 @@
 mod answer;
 mod bounds;
 mod claim;
+mod claim_faults;
 mod compile;
 mod condition;
 mod endless;
