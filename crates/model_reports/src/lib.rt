@@ -17,7 +17,6 @@ mod html_timeline;
 mod json_models;
 mod judged;
 mod junit;
-mod made_rows;
 mod named_file;
 mod names;
 mod one_line;

@@ -1,11 +1,11 @@
 //! The rows of a timeline: the events with a visible effect.
 
-use crate::made_rows::{Made, made_by};
 use crate::names::fiber_name;
 use cell_registry::Call;
 use effect_term::{JoinReply, Reply};
 use fiber_events::{Deed, Event};
 use fiber_frames::Mark;
+use made_rows::{Made, made_by};
 use model_claims::FiberName;
 use model_runs::Named;
 use model_terms::{BinderName, is_name};
@@ -41,17 +41,17 @@ pub(crate) struct Rows {
 }
 
 impl Rows {
-    /// What the first rows make, if they are one row.
+    /// What the first rows make, if they are shown as one.
     pub(crate) fn made(&self) -> Option<Made> {
         if self.made.rows > 0 { Some(self.made) } else { None }
     }
 
-    /// The rows behind those that are one row.
+    /// The rows behind those that are shown as one.
     pub(crate) fn rest(&self) -> &[Row] {
         self.all.as_slice().get(self.made.rows..).unwrap_or(&[])
     }
 
-    /// The first of the rows that are one row, and the last.
+    /// The first of the rows that are shown as one, and the last.
     pub(crate) fn ends(&self) -> Option<(Row, Row)> {
         let first = self.all.first().copied()?;
         let last = self.all.get(self.made.rows.checked_sub(1)?).copied()?;
@@ -62,7 +62,11 @@ impl Rows {
 /// Returns the rows of the timeline of a replay. `AllocError` if memory runs out.
 pub(crate) fn rows_of(alloc: Global, replay: &Named) -> Result<Rows, AllocError> {
     let all = seen_rows(alloc, replay)?;
-    let made = made_by(all.as_slice());
+    let mut deeds = Vec::new(alloc);
+    for row in all.iter() {
+        deeds.push(row.event.deed)?;
+    }
+    let made = made_by(deeds.as_slice());
     Ok(Rows { all, made })
 }
 

@@ -2,10 +2,10 @@
 
 use crate::digits::{push_about, push_number, push_word, width_of};
 use crate::event_words::push_event;
-use crate::made_rows::{Made, made_words};
 use crate::named_file::{NamedFile, position_in_file, push_position, start_of};
 use crate::names::{fiber_name, push_fiber};
 use crate::rows::{Row, Rows};
+use made_rows::Made;
 use model_claims::FiberName;
 use model_runs::Named;
 use model_terms::Source;
@@ -95,9 +95,17 @@ pub(crate) fn push_entries(told: &mut Vec<u8>, rows: &Rows) -> Result<(), AllocE
 
 /// Adds what the rows make that are one row: `makes 18 refs and deferreds`. `AllocError` if memory runs out.
 pub(crate) fn push_made(told: &mut Vec<u8>, made: Made) -> Result<(), AllocError> {
-    let (count, words) = made_words(made);
-    push_about(told, "makes ", count)?;
-    push_word(told, words)
+    push_about(told, "makes ", made.refs.saturating_add(made.deferreds))?;
+    push_word(told, made_words(made))
+}
+
+// The words for what is made.
+fn made_words(made: Made) -> &'static str {
+    match (made.refs, made.deferreds) {
+        (_, 0) => " refs",
+        (0, _) => " deferreds",
+        _ => " refs and deferreds",
+    }
 }
 
 // The width of the column of the entries.
