@@ -5,32 +5,32 @@ use Rattle.cell_registry.specs.declared.call.Call.TheVariants as call
 use Rattle.fiber_events.specs.declared.event.Deed.{Deed}
 use Rattle.fiber_events.specs.declared.event.Deed.TheVariants as deed
 use Rattle.made_rows.specs.declared.made.Made.{Made}
-use Rattle.made_rows.specs.declared.makes.Makes.{Makes}
-use Rattle.made_rows.specs.declared.makes.Makes.TheVariants as what
+use Rattle.made_rows.specs.declared.product.Product.{Product}
+use Rattle.made_rows.specs.declared.product.Product.TheVariants as what
 
 -- ---- what a row makes
 -- what it makes to set this ref, behind a row that makes `before`
-abbrev pub makes_value : Makes → ℕ → Makes
-makes_value (what.Ref made) number = if nat_eq made number then what.Value else what.Nothing
-makes_value _ number = what.Nothing
+abbrev pub product_of_set : Product → ℕ → Product
+product_of_set (what.Ref made) number = if nat_eq made number then what.Value else what.Nothing
+product_of_set _ number = what.Nothing
 
 -- what it makes, behind a row that makes `before`
-abbrev pub makes : Makes → Deed → Makes
-makes before (deed.Called call.NewRef (reply.Number number)) = what.Ref number
-makes before (deed.Called call.NewDeferred _) = what.Deferred
-makes before (deed.Called (call.Set number _) _) = makes_value before number
-makes before _ = what.Nothing
+abbrev pub product_of : Product → Deed → Product
+product_of before (deed.Called call.NewRef (reply.Number number)) = what.Ref number
+product_of before (deed.Called call.NewDeferred _) = what.Deferred
+product_of before (deed.Called (call.Set number _) _) = product_of_set before number
+product_of before _ = what.Nothing
 
 -- ---- the first rows
-abbrev pub makes_nothing : Makes → Bool
-makes_nothing what.Nothing = true
-makes_nothing _ = false
+abbrev pub is_nothing : Product → Bool
+is_nothing what.Nothing = true
+is_nothing _ = false
 
 -- how many rows are before the first that makes nothing, behind a row that makes `before`
-abbrev pub leading : Makes → List Deed → ℕ
+abbrev pub leading : Product → List Deed → ℕ
 leading before [] = 0
 leading before (row ∷ rows) =
-    if makes_nothing (makes before row) then 0 else leading (makes before row) rows + 1
+    if is_nothing (product_of before row) then 0 else leading (product_of before row) rows + 1
 
 abbrev pub is_ref : Deed → Bool
 is_ref (deed.Called call.NewRef _) = true

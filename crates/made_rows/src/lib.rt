@@ -6,7 +6,7 @@
 #![tactic(auto)]
 
 mod made;
-mod makes;
+mod product;
 
 pub use made::{Made, made_by};
-pub use makes::{Makes, makes};
+pub use product::{Product, product_of};

@@ -3,7 +3,7 @@
 ghost use Rattle.std.specs.Prelude.{◌≡◌, count_by, take};
 ghost use Rattle.made_rows.specs.Making.{is_deferred, is_ref, leading, made_by};
 
-use crate::makes::{Makes, makes};
+use crate::product::{Product, product_of};
 use cell_registry::Call;
 use fiber_events::Deed;
 
@@ -44,12 +44,12 @@ pub fn made_by(deeds: &[Deed]) -> Made
 
 // The number of rows before the first that makes nothing.
 fn leading(deeds: &[Deed]) -> usize
-    ensures { result ≡ leading Makes.Nothing deeds.now }
+    ensures { result ≡ leading Product.Nothing deeds.now }
 {
-    let mut before = Makes::Nothing;
+    let mut before = Product::Nothing;
     for (rows, deed) in deeds.iter().enumerate() {
-        before = makes(before, *deed);
-        if let Makes::Nothing = before {
+        before = product_of(before, *deed);
+        if let Product::Nothing = before {
             return rows;
         }
     }
