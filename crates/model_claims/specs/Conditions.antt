@@ -14,10 +14,10 @@ use Rattle.model_claims.specs.declared.answer.SeenFiber.{SeenFiber}
 use Rattle.model_claims.specs.declared.condition.Condition.{Condition}
 use Rattle.model_claims.specs.declared.condition.Word.{Word}
 use Rattle.model_claims.specs.declared.condition.Word.TheVariants as words
-use Rattle.model_claims.specs.declared.judging.Rule.{Rule}
-use Rattle.model_claims.specs.declared.judging.Rule.TheVariants as rules
-use Rattle.model_claims.specs.declared.judging.Truth.{Truth}
-use Rattle.model_claims.specs.declared.judging.Truth.TheVariants as truths
+use Rattle.claim_verdicts.specs.declared.judging.Rule.{Rule}
+use Rattle.claim_verdicts.specs.declared.judging.Rule.TheVariants as rules
+use Rattle.claim_verdicts.specs.declared.judging.Truth.{Truth}
+use Rattle.claim_verdicts.specs.declared.judging.Truth.TheVariants as truths
 use Rattle.model_claims.specs.Leaves.{all_say, compare_held, end_so, have_ended, one_said, is_late}
 
 -- ---- a stack of truths, whose top is its last

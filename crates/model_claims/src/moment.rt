@@ -1,7 +1,7 @@
 //! Claims on refs at any moment and at the end, in the form that a search checks in each world.
 
 use crate::condition::{Comparison, Word};
-use crate::judging::Rule;
+use claim_verdicts::Rule;
 use effect_term::Value;
 use std::alloc::{AllocError, Global};
 

@@ -5,7 +5,6 @@ use crate::compile::{OUTCOME_WANTED, compile};
 use crate::condition::{Condition, Wanted, Who, Word, empty_condition};
 use crate::endless::has_forever;
 use crate::faults::{plain_fault, quoting_fault};
-use crate::judging::Rule;
 use crate::moment::{MomentWord, final_words, moment_words};
 use crate::names::{needs_names, who_at};
 use crate::numbering::numbers_tell_names;
@@ -16,6 +15,7 @@ use crate::parts::{
 use crate::refs::{Subjects, no_subjects, ref_fault};
 use crate::straight::straight_part;
 use crate::words::{Head, head_of};
+use claim_verdicts::Rule;
 use effect_term::Value;
 use model_forms::{Block, form_bytes};
 use model_terms::{BinderName, ModelTerm, Probe, Refused, Said, Source};

@@ -10,7 +10,7 @@ ghost use Rattle.cell_registry.specs.Cells.{AreLimits};
 ghost use Rattle.cell_registry.specs.declared.limits.Limits.{Limits as TheLimits};
 ghost use Rattle.world_search.specs.Claims.{IsFound};
 ghost use Rattle.every_schedule.specs.declared.claims.ClaimWord.{ClaimWord};
-ghost use Rattle.model_claims.specs.declared.judging.Verdict.{Verdict as TheVerdict};
+ghost use Rattle.claim_verdicts.specs.declared.judging.Verdict.{Verdict as TheVerdict};
 ghost use Rattle.model_claims.specs.Judging.{under as under_fails};
 ghost use Rattle.model_runs.specs.Moments.{AreMet, IsJudgedAt, IsShownAt, has_fault, soughts as all_soughts};
 ghost use Rattle.model_runs.specs.Private.Looking.{IsMetAt, IsRightAt, IsRightAtSome, by_search};

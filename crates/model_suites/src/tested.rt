@@ -1,7 +1,7 @@
 //! The result of a model that is tested.
 
 ghost use Rattle.std.specs.Prelude.{◌≡◌};
-ghost use Rattle.model_claims.specs.declared.judging.Verdict.TheVariants.{Undecided};
+ghost use Rattle.claim_verdicts.specs.declared.judging.Verdict.TheVariants.{Undecided};
 ghost use Rattle.model_runs.specs.Verdicts.{worst};
 
 use model_reports::Unexplored;
