@@ -268,8 +268,8 @@ fn write_each<R: Clock + Wait, O: TextOut, E: TextOut>(
     Ok(())
 }
 
-// Writes a part of what is printed. A fault counts the bytes of the parts before it, too.
-fn write_part<O: TextOut>(text: &[u8], told: &mut Told, out: &mut O) -> Result<(), TextFault>
+/// Writes a part of what is printed. A fault counts the bytes of the parts before it, too.
+pub(crate) fn write_part<O: TextOut>(text: &[u8], told: &mut Told, out: &mut O) -> Result<(), TextFault>
     requires { (O.seen out.old).failed ≡ false }
     ensures failed { (O.seen out.new).failed ≡ is_write_fault result }
     ensures only { OnlyOutFaults result }
@@ -326,7 +326,7 @@ fn end_suite<R: Files, O: TextOut, E: TextOut>(
     };
     progress.write(missing.as_slice(), err);
     match write_part(text.as_slice(), &mut told, out) {
-        Ok(()) => match reports.write(rt, &told) {
+        Ok(()) => match reports.write(rt, &mut told, out) {
             Ok(()) => told.status(),
             Err(_) if progress.failed => Status::Fault,
             Err(fault) => tell_report(fault, err),

@@ -1,7 +1,8 @@
 //! The reports of a test, each in a file of its own.
 
-ghost use Rattle.std.specs.Prelude.{◌≡◌, ◌⊎◌, false};
+ghost use Rattle.std.specs.Prelude.{◌≡◌, ◌⊎◌, IsOk, false};
 
+use crate::test_order::write_part;
 use command_words::{TestForm, Testing, refuse_words, value_reason};
 use model_suites::{HTML_HEAD, JUNIT_HEAD, Told};
 use outcome_trace::{Status, TextFault, TextOut, tell_fault, write_text};
@@ -66,30 +67,46 @@ pub(crate) fn open_reports<'a, R: Files>(
     }
     let files = testing.files.as_slice();
     if let Some(path) = testing.junit {
-        let form = ReportForm {
-            option: "--junit <FILE>",
-            head: JUNIT_HEAD,
-        };
-        reports.junit = Some(open_report(rt, alloc, path, form, files, None)?);
+        reports.junit = Some(open_report(rt, alloc, path, Form::Junit, files, None)?);
     }
     if let Some(path) = testing.html {
-        let form = ReportForm {
-            option: "--html <FILE>",
-            head: HTML_HEAD,
-        };
         let other = reports.junit.as_ref();
-        reports.html = Some(open_report(rt, alloc, path, form, files, other)?);
+        reports.html = Some(open_report(rt, alloc, path, Form::Html, files, other)?);
     }
     Ok(reports)
 }
 
 // A form of reports.
 #[derive(Clone, Copy)]
-struct ReportForm {
-    // The option that asks for it.
-    option: &'static str,
-    // What each report of this form begins with.
-    head: &'static str,
+enum Form {
+    // That of JUnit.
+    Junit,
+    // A page of HTML.
+    Html,
+}
+
+// The option that asks for a report of this form.
+fn option_of(form: Form) -> &'static str {
+    match form {
+        Form::Junit => "--junit <FILE>",
+        Form::Html => "--html <FILE>",
+    }
+}
+
+// What each report of this form begins with.
+fn head_of(form: Form) -> &'static str {
+    match form {
+        Form::Junit => JUNIT_HEAD,
+        Form::Html => HTML_HEAD,
+    }
+}
+
+// The text of a report.
+fn text_of(told: &Told, form: Form) -> Result<Vec<u8>, AllocError> {
+    match form {
+        Form::Junit => told.junit(),
+        Form::Html => told.html(),
+    }
 }
 
 // Finds the file of a report.
@@ -97,7 +114,7 @@ fn open_report<'a, R: Files>(
     rt: &R,
     alloc: Global,
     path: &'a str,
-    form: ReportForm,
+    form: Form,
     files: &[&str],
     other: Option<&NamedReport<'_>>,
 ) -> Result<NamedReport<'a>, ReportProblem<'a>> {
@@ -105,10 +122,11 @@ fn open_report<'a, R: Files>(
         Some(report) => Some(&report.file),
         None => None,
     };
-    let fault = match ReportFile::open(rt, alloc, path, form.head.as_bytes(), files, other) {
+    let head = head_of(form).as_bytes();
+    let fault = match ReportFile::open(rt, alloc, path, head, files, other) {
         Ok(file) => return Ok(NamedReport { path, file }),
         Err(Problem::Refused(refusal)) => {
-            return Err(ReportProblem::Refused(path, form.option, refusal));
+            return Err(ReportProblem::Refused(path, option_of(form), refusal));
         }
         Err(Problem::NoMemory) => TextFault::NoMemory,
         Err(Problem::Unwritable) => TextFault::WriteFault(0),
@@ -129,31 +147,70 @@ impl<'a> Reports<'a> {
         Ok(())
     }
 
-    /// Writes the reports. If one can't be written, the other one is.
-    pub(crate) fn write<R: Files>(&self, rt: &R, told: &Told) -> Result<(), ReportFault<'a>> {
-        let junit = match &self.junit {
-            Some(report) => self.write_one(rt, report, told.junit()),
-            None => Ok(()),
-        };
-        let html = match &self.html {
-            Some(report) => self.write_one(rt, report, told.html()),
-            None => Ok(()),
-        };
-        junit?;
-        html
-    }
-
-    // Writes a report.
-    fn write_one<R: Files>(
+    /// Writes the reports behind what was printed, those in files first. A report that can't be written keeps no other one
+    /// from being written. Returns the first fault.
+    pub(crate) fn write<R: Files, O: TextOut>(
         &self,
         rt: &R,
-        report: &NamedReport<'a>,
-        text: Result<Vec<u8>, AllocError>,
-    ) -> Result<(), ReportFault<'a>> {
-        let Ok(text) = text else {
-            return Err(self.fault_of(report, TextFault::NoMemory));
+        told: &mut Told,
+        out: &mut O,
+    ) -> Result<(), ReportFault<'a>>
+        requires { (O.seen out.old).failed ≡ false }
+        ensures { IsOk result → (O.seen out.new).failed ≡ false }
+    {
+        let junit = self.file_fault(rt, told, Form::Junit);
+        let html = self.file_fault(rt, told, Form::Html);
+        self.print(told, Form::Junit, out)?;
+        self.print(told, Form::Html, out)?;
+        match junit.or(html) {
+            Some(fault) => Err(fault),
+            None => Ok(()),
+        }
+    }
+
+    // The report of this form, if the words ask for it.
+    fn report(&self, form: Form) -> Option<&NamedReport<'a>> {
+        match form {
+            Form::Junit => self.junit.as_ref(),
+            Form::Html => self.html.as_ref(),
+        }
+    }
+
+    // Writes a report to its file, if it has one. Returns its fault, if there is one.
+    fn file_fault<R: Files>(&self, rt: &R, told: &Told, form: Form) -> Option<ReportFault<'a>> {
+        let report = self.report(form)?;
+        if report.file.is_printed() {
+            return None;
+        }
+        let Ok(text) = text_of(told, form) else {
+            return Some(self.fault_of(report, TextFault::NoMemory));
         };
         match report.file.write(rt, text.as_slice()) {
+            Ok(()) => None,
+            Err(fault) => Some(self.fault_of(report, fault)),
+        }
+    }
+
+    // Prints a report, if it is to be printed.
+    fn print<O: TextOut>(
+        &self,
+        told: &mut Told,
+        form: Form,
+        out: &mut O,
+    ) -> Result<(), ReportFault<'a>>
+        requires { (O.seen out.old).failed ≡ false }
+        ensures { IsOk result → (O.seen out.new).failed ≡ false }
+    {
+        let Some(report) = self.report(form) else {
+            return Ok(());
+        };
+        if !report.file.is_printed() {
+            return Ok(());
+        }
+        let Ok(text) = text_of(told, form) else {
+            return Err(self.fault_of(report, TextFault::NoMemory));
+        };
+        match write_part(text.as_slice(), told, out) {
             Ok(()) => Ok(()),
             Err(fault) => Err(self.fault_of(report, fault)),
         }
@@ -196,6 +253,7 @@ fn refusal_words(refusal: Refusal) -> &'static str {
         Refusal::Shared => "the other report is written to this file",
         Refusal::Other => "this file has something other than such a report in it",
         Refusal::Folder => "this is a folder",
+        Refusal::Errors => "standard error is written to this file",
         Refusal::Beside => "something other than a part of such a report is at this path with '.part' behind it",
     }
 }

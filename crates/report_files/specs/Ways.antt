@@ -6,7 +6,7 @@ use Rattle.report_files.specs.declared.way.Found.{Found}
 use Rattle.report_files.specs.declared.way.Kind.{Kind}
 use Rattle.report_files.specs.declared.way.Kind.TheVariants as kind
 use Rattle.report_files.specs.declared.way.Way.{Way}
-use Rattle.report_files.specs.declared.way.Way.TheVariants.{Replace, Append}
+use Rattle.report_files.specs.declared.way.Way.TheVariants.{Replace, Append, Print}
 use Rattle.report_files.specs.declared.way.Refusal.{Refusal}
 use Rattle.report_files.specs.declared.way.Refusal.TheVariants as refusal
 
@@ -21,15 +21,19 @@ file_way content.Report shared = new_way shared
 file_way content.Part shared = Err refusal.Other
 file_way content.Other shared = Err refusal.Other
 
-abbrev pub way_at : Kind → Bool → Bool → Result Way Refusal
-way_at kind.Nothing shared output = new_way shared
-way_at (kind.File content) shared output = if output then Ok Append else file_way content shared
-way_at kind.Folder shared output = Err refusal.Folder
-way_at kind.Device shared output = Ok Append
+-- the program's own output is never replaced: the report is a part of it
+abbrev pub way_at : Kind → Bool → Bool → Bool → Result Way Refusal
+way_at kind.Nothing shared output errors = new_way shared
+way_at (kind.File content) shared output errors =
+    if output then Ok Print else (if errors then Err refusal.Errors else file_way content shared)
+way_at kind.Folder shared output errors = Err refusal.Folder
+way_at kind.Device shared output errors = Ok Append
 
 -- what the test reads is never written to
 abbrev pub way_of : Found → Result Way Refusal
-way_of found = if found.is_input then Err refusal.Input else way_at found.kind found.is_shared found.is_output
+way_of found =
+    if found.is_input then Err refusal.Input
+    else way_at found.kind found.is_shared found.is_output found.is_errors
 
 -- what a test left while it wrote a report: a file that is empty, a report, or the beginning of one
 abbrev pub IsPartOfReport : Kind → Type 0
@@ -45,5 +49,6 @@ IsPartOfReport kind.Device = ⊥
 pub record IsLeftover (found : Found) : Type 0 where
   pub unread : found.is_input ≡ false
   pub alone : found.is_shared ≡ false
-  pub unused : found.is_output ≡ false
+  pub unprinted : found.is_output ≡ false
+  pub unused : found.is_errors ≡ false
   pub part : IsPartOfReport found.kind

@@ -13,8 +13,11 @@ use text_io::TextFault;
 // What is behind a report's path in that of the file that is renamed to the report.
 const PART: &str = ".part";
 
-// The paths of the program's standard output and standard error.
-const OUTPUTS: [&str; 2] = ["/dev/stdout", "/dev/stderr"];
+// The path of the program's standard output.
+const OUTPUT: [&str; 1] = ["/dev/stdout"];
+
+// The path of the program's standard error.
+const ERRORS: [&str; 1] = ["/dev/stderr"];
 
 /// Why there is no file for a report.
 #[derive(Clone, Copy, PartialEq, Eq, Debug)]
@@ -82,7 +85,7 @@ impl ReportFile {
         let file = ReportFile { place, beside, way };
         match file.way {
             Way::Replace => file.beside_free(rt, alloc, head, inputs)?,
-            Way::Append => {}
+            Way::Append | Way::Print => {}
         }
         Ok(file)
     }
@@ -111,7 +114,7 @@ impl ReportFile {
     /// writes its own. Returns `WriteFault` if that fails, or if no file can be made there.
     pub fn clear<R: Files>(&self, rt: &R) -> Result<(), TextFault> {
         match self.way {
-            Way::Append => Ok(()),
+            Way::Append | Way::Print => Ok(()),
             Way::Replace => {
                 remove(rt, self.place.as_str())?;
                 remove(rt, self.beside.as_str())?;
@@ -133,11 +136,19 @@ impl ReportFile {
         }
     }
 
+    /// Whether the report is written to the program's standard output, and not by [`ReportFile::write`].
+    pub fn is_printed(&self) -> bool {
+        match self.way {
+            Way::Print => true,
+            Way::Append | Way::Replace => false,
+        }
+    }
+
     /// Writes a report. Returns `WriteFault` with the number of bytes that went to the report's path, which is 0 for a
     /// file: it has the whole report, or there is none.
     pub fn write<R: Files>(&self, rt: &R, report: &[u8]) -> Result<(), TextFault> {
         match self.way {
-            Way::Append => self.append(rt, report),
+            Way::Append | Way::Print => self.append(rt, report),
             Way::Replace => match self.replace(rt, report) {
                 Ok(()) => Ok(()),
                 Err(_) => {
@@ -217,7 +228,8 @@ fn found_at<R: Files>(
         kind,
         is_input: is_among(rt, file, inputs),
         is_shared,
-        is_output: is_among(rt, file, &OUTPUTS),
+        is_output: is_among(rt, file, &OUTPUT),
+        is_errors: is_among(rt, file, &ERRORS),
     }
 }
 

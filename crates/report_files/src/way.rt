@@ -27,8 +27,10 @@ pub struct Found {
     pub is_input: bool,
     /// Whether the other report is written there, too.
     pub is_shared: bool,
-    /// Whether it is the file of the program's standard output or standard error.
+    /// Whether it is the file of the program's standard output.
     pub is_output: bool,
+    /// Whether it is the file of the program's standard error.
+    pub is_errors: bool,
 }
 
 /// How a report is written.
@@ -38,6 +40,8 @@ pub enum Way {
     Replace,
     /// Behind what is there.
     Append,
+    /// To the program's standard output.
+    Print,
 }
 
 /// Why a report isn't written to a path.
@@ -51,14 +55,16 @@ pub enum Refusal {
     Other,
     /// It is a folder.
     Folder,
+    /// The program's standard error is written to this file.
+    Errors,
     /// At the path of the file that is renamed to the report is something else.
     Beside,
 }
 
 /// How a report is written to a path where this was found, or why it isn't.
 ///
-/// A file is replaced only if it is empty or has a report in it, and if neither the test nor the other report needs it.
-/// A report is written behind what is there if that is no file, or the file of the program's output.
+/// A file is replaced only if it is empty or has a report in it, and if neither the test, nor the other report, nor the
+/// program's output needs it. A report is written behind what is there if that is no file.
 pub fn way_of(found: Found) -> Result<Way, Refusal>
     ensures { result ≡ way_of found }
 {
@@ -69,7 +75,8 @@ pub fn way_of(found: Found) -> Result<Way, Refusal>
         Kind::Folder => Err(Refusal::Folder),
         Kind::Device => Ok(Way::Append),
         Kind::Nothing => new_way(found.is_shared),
-        Kind::File(_) if found.is_output => Ok(Way::Append),
+        Kind::File(_) if found.is_output => Ok(Way::Print),
+        Kind::File(_) if found.is_errors => Err(Refusal::Errors),
         Kind::File(content) => file_way(content, found.is_shared),
     }
 }
@@ -100,7 +107,7 @@ fn file_way(content: Content, is_shared: bool) -> Result<Way, Refusal>
 pub fn may_be_removed(found: Found) -> bool
     ensures { IsTrue result ↔ IsLeftover found }
 {
-    if found.is_input || found.is_shared || found.is_output {
+    if found.is_input || found.is_shared || found.is_output || found.is_errors {
         return false;
     }
     match found.kind {
