@@ -21,7 +21,7 @@ class Claimer:
         self.held = sorted((it for it in held if it[1] is not None and it[0] != HIDDEN), key=str)
         self.fibers = ["main", "*", "*"]
         for spelling, number in sorted(made.fibers, key=str):
-            self.fibers += [spelling] * 2 + ([] if number is None else ["%s.%d" % (spelling, number)])
+            self.fibers += [spelling] * 2 if number is None else [spelling] + ["%s.%d" % (spelling, number)] * 2
 
     def claims(self):
         """A few claims."""
@@ -97,6 +97,8 @@ class Claimer:
             made = [self.outcome(self.one(near)[1]) for _ in range(self.maker.random.randint(1, 2))]
             return [word, name] + [it for number, it in enumerate(made) if it not in made[:number]]
         said = [self.number(it) for it in self.one(near)[2]][:4]
+        if self.chance(0.2):
+            self.maker.random.shuffle(said)
         if word == "said":
             said = [it for it in said if self.chance(0.7)] or said or ["1"]
         return [word, name] + said
