@@ -1,6 +1,6 @@
 """Random claims on a program whose answers and moments are known: some hold, some don't, and most are near them."""
 from claims import Claim, is_named
-from programs import NUMBERS
+from random_programs import NUMBERS
 from terms import CANCELER, HIDDEN, UNNAMED
 
 WORDS = ["want", "want", "no-deadlock", "all-end", "must", "must", "can", "can", "never", "never", "before", "before",

@@ -1,7 +1,7 @@
 """Random model files: definitions, and models of which most have several answers."""
 import sys
 
-from programs import Maker
+from random_programs import Maker
 from random_claims import Claimer
 from reader import File
 from search import Search, TooLarge

@@ -56,8 +56,8 @@ class Pick:
 
 
 class Translation:
-    """The term of a model. `fibers` are the labels of its fibers, `computed` those of fibers that say a value other than
-    a number. `refs` has for each spelling of a ref the forms that bind it."""
+    """The term of a model. `fibers` are the labels of its fibers, `computed` those of fibers that say a value other
+    than a number. `refs` has for each spelling of a ref the forms that bind it."""
 
     def __init__(self, file, model):
         self.file, self.terms = file, Terms()
