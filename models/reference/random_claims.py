@@ -96,7 +96,8 @@ class Claimer:
         if word == "ends":
             made = [self.outcome(self.one(near)[1]) for _ in range(self.maker.random.randint(1, 2))]
             return [word, name] + [it for number, it in enumerate(made) if it not in made[:number]]
-        said = [self.number(it) for it in self.one(near)[2]][:4]
+        several = [it for it in near if len(set(it[2])) > 1]
+        said = [self.number(it) for it in self.one(several if several and self.chance(0.7) else near)[2]][:4]
         if self.chance(0.2):
             self.maker.random.shuffle(said)
         if word == "said":
