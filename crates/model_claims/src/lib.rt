@@ -8,8 +8,8 @@
 //! itself, so claims nest to any depth.
 //!
 //! [`truth_of`] and [`truth_in`] are proved to run the words of a condition over the fibers of the answer, as
-//! `specs/Conditions.antt` states. For [`read_claims`], [`read_settings`] and [`has_forever`] only safety and
-//! termination are proved.
+//! `specs/Conditions.antt` states. For [`read_claims`], [`read_settings`], [`has_forever`] and [`marks_in_loops`] only
+//! safety and termination are proved.
 #![tactic(auto)]
 
 mod answer;
@@ -34,8 +34,8 @@ pub use answer::{FiberName, Seen, SeenFiber};
 pub use bounds::{Settings, check_defaults, read_settings};
 pub use claim::{Claim, Want};
 pub use claim_verdicts::{Judged, Rule, Truth, Verdict, judge, under};
-pub use condition::{Comparison, Condition, Wanted, Who, Word};
-pub use endless::has_forever;
+pub use condition::{Comparison, Condition, Spoken, SpokenName, Wanted, Who, Word};
+pub use endless::{has_forever, marks_in_loops};
 pub use leaf::{is_wanted, speaks_of};
 pub use moment::MomentWord;
 pub use reader::read_claims;
