@@ -41,9 +41,9 @@ pub(crate) struct Judged {
 
 /// Answers a text about claims: a line for each claim, in their order, and then the answer of `explore` without claims,
 /// with its note. Before that note there is a line for each claim that is checked at no moment, if that is certain: no
-/// schedule sets each ref that the claim names. The status is `Status::Errored` if a claim is refuted or something unwanted was found, else
-/// `Status::Unended` if a claim is undecided or a bound was reached, else `Status::Succeeded`. A refused text is
-/// answered by its refusal alone.
+/// schedule sets each ref that the claim names. The status is `Status::Errored` if a claim is refuted or something
+/// unwanted was found, else `Status::Unended` if a claim is undecided or a bound was reached, else `Status::Succeeded`.
+/// A refused text is answered by its refusal alone.
 ///
 /// Each claim is checked in every world to which a schedule leads, within the bounds of the order. If a claim names a
 /// ref whose number isn't known ([`RefFault`]), the answer is empty, its status is `Status::Usage`, and the note gives
@@ -181,7 +181,14 @@ fn judged_of(
 {
     let all = with_moments(alloc, soughts)?;
     let verdicts = judge(alloc, program, order.limits, order.bounds, all.as_slice())?;
-    let judged = written(alloc, order.limits, form, asked, program, verdicts.as_slice())?;
+    let judged = written(
+        alloc,
+        order.limits,
+        form,
+        asked,
+        program,
+        verdicts.as_slice(),
+    )?;
     Ok(judged)
 }
 

@@ -135,7 +135,8 @@ fn unset_text(among: Among) -> &'static [u8]
 {
     match among {
         Among::All => b": no schedule sets each ref that it names, so it is checked at no moment\n",
-        Among::Drawn => b": no drawn schedule sets each ref that it names, so it is checked at no moment\n",
+        Among::Drawn =>
+            b": no drawn schedule sets each ref that it names, so it is checked at no moment\n",
     }
 }
 

@@ -75,11 +75,7 @@ const PLAIN: &str = "a number without zeros or a plus sign in front";
 ///
 /// `refs` is the greatest number of refs that a run makes. They are numbered from 0: a claim that names the ref of this
 /// number, or of a greater one, is refused.
-pub fn read_claim<'a>(
-    alloc: Global,
-    text: &'a [u8],
-    refs: u16,
-) -> Result<Spelled<'a>, ClaimFault>
+pub fn read_claim<'a>(alloc: Global, text: &'a [u8], refs: u16) -> Result<Spelled<'a>, ClaimFault>
     ensures spelled { IfOk result (λ claim. claim.text.items ≡ spaced_text text.now) }
     ensures made { IfOk result (λ claim. All (IsMade refs) claim.words.items) }
 {

@@ -36,11 +36,7 @@ use std::thread::Threads;
 use std::time::Clock;
 
 // What is written of words that `clap` refuses, or of a request for help or the version.
-fn error_text<S: AsStr>(
-    alloc: Global,
-    words: &[S],
-    error: &Error,
-) -> Result<String, AllocError> {
+fn error_text<S: AsStr>(alloc: Global, words: &[S], error: &Error) -> Result<String, AllocError> {
     if error.use_stderr() {
         if let Some(text) = shown_reason(alloc, words)? {
             return Ok(text);

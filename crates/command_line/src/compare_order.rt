@@ -15,9 +15,13 @@ use std::fs;
 use std::rt::Files;
 
 // The notes on a text that begins as a model file.
-const FIRST_NOTE: &str = "first: this looks like a model file: `fiber_cli test FILE` tests it, and `fiber_cli terms FILE` prints its terms\n";
+const FIRST_NOTE: &str =
+    "first: this looks like a model file: `fiber_cli test FILE` tests it, and `fiber_cli terms FILE` \
+     prints its terms\n";
 
-const SECOND_NOTE: &str = "second: this looks like a model file: `fiber_cli test FILE` tests it, and `fiber_cli terms FILE` prints its terms\n";
+const SECOND_NOTE: &str =
+    "second: this looks like a model file: `fiber_cli test FILE` tests it, and `fiber_cli terms FILE` \
+     prints its terms\n";
 
 /// One of two files.
 #[derive(Clone, Copy)]

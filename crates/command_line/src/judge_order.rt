@@ -175,7 +175,10 @@ fn claim_reason(alloc: Global, fault: AskFault<'_>) -> Result<String, AllocError
 fn unmade_reason(alloc: Global, number: u16, refs: u16) -> Result<String, AllocError> {
     let last = refs.saturating_sub(1);
     let more = number.saturating_add(1);
-    format!(in alloc; "it names ref {number}, but refs are numbered from 0, and with '--refs {refs}' the last is ref {last}; '--refs {more}' allows it")
+    format!(in alloc;
+        "it names ref {number}, but refs are numbered from 0, and with '--refs {refs}' the last is ref {last}; \
+         '--refs {more}' allows it"
+    )
 }
 
 // The option of a claim, as help writes it.

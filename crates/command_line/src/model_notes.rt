@@ -8,7 +8,8 @@ use file_kinds::is_model_file;
 use outcome_trace::{Status, TextOut, write_text};
 
 /// What the note says.
-pub(crate) const MODEL_NOTE: &str = "this looks like a model file: `fiber_cli test FILE` tests it, and `fiber_cli terms FILE` prints its terms\n";
+pub(crate) const MODEL_NOTE: &str =
+    "this looks like a model file: `fiber_cli test FILE` tests it, and `fiber_cli terms FILE` prints its terms\n";
 
 /// Writes a note if a text was refused that begins as a model file, and no write to this output has failed.
 pub(crate) fn note_model<I, E: TextOut>(

@@ -125,7 +125,8 @@ pub fn no_request_reason(alloc: Global, matches: &ArgMatches<'_>) -> Result<Stri
         return Ok(reason);
     }
     if subcommand == "run" && given(options, "timeline") {
-        let reason = "'--timeline' needs '--record': the timeline is that of the recorded schedule; add '--record'";
+        let reason =
+            "'--timeline' needs '--record': the timeline is that of the recorded schedule; add '--record'";
         return String::from_str(alloc, reason);
     }
     if let Some(text) = wrong_want(options) {
@@ -215,7 +216,8 @@ fn only_reason(alloc: Global, explore: &ArgMatches<'_>) -> Result<Option<String>
     if text_of(explore, "only").is_none() {
         return Ok(None);
     }
-    let reason = "'--only' needs '--marks none': reports with marks have every fiber; add '--marks none', or leave out \
+    let reason =
+        "'--only' needs '--marks none': reports with marks have every fiber; add '--marks none', or leave out \
                   '--only'";
     Ok(Some(String::from_str(alloc, reason)?))
 }
