@@ -1,5 +1,5 @@
 -- The effect of a request to compare the programs of two files.
-use Rattle.std.specs.Prelude.{◌≡◌, ◌≢◌, ◌⊎◌, ℕ, false, List, [], ◌++◌, codes, Result, Ok, Err, IfOk, IsErrOf}
+use Rattle.std.specs.Prelude.{◌≡◌, ◌≢◌, ◌⊎◌, ℕ, false, List, [], ◌++◌, codes, Result, Ok, Err, IfOk}
 use Rattle.compared_ends.specs.declared.order.CompareOrder.{CompareOrder}
 use Rattle.comparison_answers.specs.PairAnswers.{IsPairAnswer}
 use Rattle.text_io.specs.declared.fault.TextFault.{TextFault}
@@ -71,24 +71,30 @@ pub record IsUnread (r : Reader) : Type 0 where
   pub unended : r.ended ≡ false
   pub none : r.reads ≡ 0
 
--- The file was opened and read: this is its text, or the fault of the reading.
-pub record IsReadFile (result : Result (List ℕ) TextFault) : Type 0 where
+-- The file was opened, and this is its text.
+pub record IsFileText (text : List ℕ) : Type 0 where
   pub before : Reader
   pub after : Reader
   pub unread : IsUnread before
-  pub read : IfOk result (λ text. IsRead before after text)
-  pub failed : after.failed ≡ is_read_fault result
-  pub turns : IsErrOf result TurnBound → IsOutOfReads before after
-  pub nothing_written : (n : ℕ) → result ≢ Err (WriteFault n)
+  pub read : IsRead before after text
 
--- the text of a file, or why it can't be opened or read
-abbrev pub IsFileText : Result (List ℕ) TextFault → Type 0
-IsFileText result = IsReadFile result ⊎ (result ≡ Err ReadFault)
+-- The file was opened, but this fault came before its text was read.
+pub record FailsFile (fault : TextFault) : Type 0 where
+  pub before : Reader
+  pub after : Reader
+  pub unread : IsUnread before
+  pub failed : after.failed ≡ is_read_fault {A = Status} (Err fault)
+  pub turns : fault ≡ TurnBound → IsOutOfReads before after
+  pub nothing_written : (n : ℕ) → fault ≢ WriteFault n
+
+-- why a file has no text: it can't be opened, or the fault that came before its text was read
+abbrev pub IsFileFault : TextFault → Type 0
+IsFileFault fault = FailsFile fault ⊎ (fault ≡ ReadFault)
 
 -- A file has no text. The line of the fault goes to `err`, and nothing is answered.
 pub record FailsSide (side : Side) (out out' err err' : Writer) (status : Status) : Type 0 where
   pub fault : TextFault
-  pub failed : IsFileText (Err fault)
+  pub fails : IsFileFault fault
   pub unanswered : out' ≡ out
   pub told : Told (side_line side fault) err err'
   pub status_is : status ≡ Fault
@@ -96,12 +102,12 @@ pub record FailsSide (side : Side) (out out' err err' : Writer) (status : Status
 -- the effect of comparing one text with that of the second file
 pub data ComparesSecond (order : CompareOrder) (one : List ℕ) (out out' err err' : Writer) (status : Status) : Type 0
   where
-    second_read : (other : List ℕ) → IsFileText (Ok other) → WritesPair order one other out out' err err' status →
+    second_read : (other : List ℕ) → IsFileText other → WritesPair order one other out out' err err' status →
         ComparesSecond order one out out' err err' status
     second_fails : FailsSide Second out out' err err' status → ComparesSecond order one out out' err err' status
 
 -- The effect of comparing two files. The second one is opened once the first is read.
 pub data ObeysCompare (order : CompareOrder) (out out' err err' : Writer) (status : Status) : Type 0 where
-  first_read : (one : List ℕ) → IsFileText (Ok one) → ComparesSecond order one out out' err err' status →
+  first_read : (one : List ℕ) → IsFileText one → ComparesSecond order one out out' err err' status →
       ObeysCompare order out out' err err' status
   first_fails : FailsSide First out out' err err' status → ObeysCompare order out out' err err' status

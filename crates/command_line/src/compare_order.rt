@@ -1,8 +1,8 @@
 //! The comparison of the programs of two files.
 
-ghost use Rattle.std.specs.Prelude.{◌≡◌, ◌++◌, codes, false};
-ghost use Rattle.command_line.specs.Comparings.{ComparesSecond, IsFileText, IsPairNote, NotesPair, ObeysCompare};
-ghost use Rattle.command_line.specs.Comparings.{WritesPair, side_line};
+ghost use Rattle.std.specs.Prelude.{◌≡◌, ◌++◌, codes, false, IfErr, IfOk};
+ghost use Rattle.command_line.specs.Comparings.{ComparesSecond, IsFileFault, IsFileText, IsPairNote, NotesPair};
+ghost use Rattle.command_line.specs.Comparings.{ObeysCompare, WritesPair, side_line};
 ghost use Rattle.text_io.specs.Telling.{Told};
 ghost use Rattle.text_io.specs.declared.fault.TextFault.TheVariants.{ReadFault, TurnBound};
 
@@ -55,7 +55,8 @@ pub fn obey_compare<R: Files, O: TextOut, E: TextOut>(
 
 // The text of a file. The file is closed again.
 fn file_text<R: Files>(rt: &R, alloc: Global, path: &str) -> Result<Vec<u8>, TextFault>
-    ensures { IsFileText result }
+    ensures text { IfOk result (λ text. IsFileText text.items) }
+    ensures fault { IfErr result IsFileFault }
 {
     match fs::open(rt, path) {
         Ok(file) => {
