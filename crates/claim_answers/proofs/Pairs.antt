@@ -122,6 +122,11 @@ pairs_back R xs ys vs h =
     (drop-append-le (length xs) xs ys (omega arith) ∙ ap (λ l. l ++ ys) (drop_all (length xs) xs (omega arith)))
     (pairs_drop R (length xs) (xs ++ ys) vs h)
 
+-- as many as twice the elements of a list, if the list comes first and then its image
+pub twice : {A : Type 0} (f : A → A) (xs all : List A) (n : ℕ) → n ≡ length xs → all ≡ xs ++ map f xs → length all ≡ n + n
+twice f xs all n e is =
+    ap length is ∙ length-append xs (map f xs) ∙ ap (λ m. length xs + m) (length-map xs f) ∙ ap (λ m. m + m) (sym e)
+
 -- ---- the texts of claims
 pub asked_more : (rule : Rule) (old before new : List Asked) (texts : List (List ℕ)) (i : ℕ) (t : List ℕ) → i < length texts → t ≡ get_or texts i t →
     map question_of before ≡ map question_of old ++ asked_texts rule (take i texts) →

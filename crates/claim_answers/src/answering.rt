@@ -1,6 +1,6 @@
 //! The answers to a text about claims.
 
-ghost use Rattle.std.specs.Prelude.{◌≡◌, ◌⊎◌, ◌+◌, ◌++◌, ℕ, List, IfOk, drop, length, take, vec_len};
+ghost use Rattle.std.specs.Prelude.{◌≡◌, ◌⊎◌, ◌+◌, ◌++◌, ℕ, List, IfOk, drop, length, take};
 ghost use Rattle.std.specs.List.{All};
 ghost use Rattle.cell_registry.specs.Cells.{AreLimits};
 ghost use Rattle.derived_ops.specs.Expansion.{code_of};
@@ -113,13 +113,14 @@ fn sought_answer(
     program: &Program,
     soughts: Vec<Claim>,
 ) -> Result<NotedAnswer, AllocError>
-    requires { length asked.now ≡ vec_len soughts }
+    requires { length asked.now ≡ length soughts.items }
     ensures { IfOk result (λ n. (text : List ℕ) → Pairwise (IsSought (spaced_text text)) asked.now soughts.items →
         IsJudgedAnswer form order asked.now text n.note.items program.now n.answer.text.items n.answer.status) }
 {
     let judged = judged_of(alloc, &order, form, asked, program, soughts)?;
     let rest = explored_answer(alloc, order, form, program)?;
-    with_lines(form, judged, rest)
+    let answer = with_lines(form, judged, rest)?;
+    Ok(answer)
 }
 
 /// The answer if a claim names a ref whose number isn't known.
@@ -175,7 +176,7 @@ fn judged_of(
     program: &Program,
     soughts: Vec<Claim>,
 ) -> Result<Judged, AllocError>
-    requires { length asked.now ≡ vec_len soughts }
+    requires { length asked.now ≡ length soughts.items }
     ensures { IfOk result (λ it. AreJudgedBy (code_of (source_of program.now)) form order.now.limits asked.now
         soughts.items it.lines.items it.status it.notes.items) }
 {

@@ -1,6 +1,6 @@
 //! The answers to a text about claims that are looked at in schedules which are drawn at random.
 
-ghost use Rattle.std.specs.Prelude.{◌≡◌, ◌⊎◌, ◌+◌, ℕ, List, IfOk, drop, length, take, vec_len};
+ghost use Rattle.std.specs.Prelude.{◌≡◌, ◌⊎◌, ◌+◌, ℕ, List, IfOk, drop, length, take};
 ghost use Rattle.derived_ops.specs.Expansion.{code_of};
 ghost use Rattle.derived_ops.specs.Reading.{source_of};
 ghost use Rattle.cell_registry.specs.Cells.{AreLimits};
@@ -102,13 +102,14 @@ fn seen_answer(
     program: &Program,
     soughts: Vec<Claim>,
 ) -> Result<NotedAnswer, AllocError>
-    requires { length asked.now ≡ vec_len soughts }
+    requires { length asked.now ≡ length soughts.items }
     ensures { IfOk result (λ n. (text : List ℕ) → Pairwise (IsSought (spaced_text text)) asked.now soughts.items →
         IsSeenAnswer json order asked.now text n.note.items program.now n.answer.text.items n.answer.status) }
 {
     let seen = seen_of(alloc, &order, json, asked, program, soughts)?;
     let rest = sampled_answer(alloc, order, json, program)?;
-    with_lines(form_of(json), seen, rest)
+    let answer = with_lines(form_of(json), seen, rest)?;
+    Ok(answer)
 }
 
 // What the drawn schedules show of the claims, and of when they are checked, and what is written of it.
@@ -120,7 +121,7 @@ fn seen_of(
     program: &Program,
     soughts: Vec<Claim>,
 ) -> Result<Judged, AllocError>
-    requires { length asked.now ≡ vec_len soughts }
+    requires { length asked.now ≡ length soughts.items }
     ensures { IfOk result (λ it. AreSeenIn (code_of (source_of program.now)) json order.now asked.now soughts.items
         it.lines.items it.status it.notes.items) }
 {
