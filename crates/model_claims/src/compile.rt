@@ -1,6 +1,6 @@
 //! Compiles forms to conditions.
 
-use crate::condition::{Comparison, Condition, Wanted, Who, Word};
+use crate::condition::{Comparison, Condition, Spoken, SpokenName, Wanted, Who, Word};
 use crate::faults::plain_fault;
 use crate::names::{needs_names, who_at};
 use crate::parts::{
@@ -195,16 +195,17 @@ fn ended(
     if first_at(place.source, parts_at(place.source, at)).is_some() {
         return Err(no_condition(alloc, place, at));
     }
-    speak_of(place, who, subjects);
+    speak_of(who, subjects);
     condition.words.push(Word::Ended(who))?;
     Ok(())
 }
 
-// The fibers that a leaf is about: those that its first part names.
+// The fibers that a leaf is about: those that its first part names. Adds this name to those of the condition.
 fn who_of(
     alloc: Global,
     place: &Place,
     at: usize,
+    condition: &mut Condition,
     subjects: &mut Subjects,
 ) -> Result<Who, Refused> {
     let Some(first) = first_at(place.source, parts_at(place.source, at)) else {
@@ -214,14 +215,25 @@ fn who_of(
         return Err(no_condition(alloc, place, at));
     }
     let who = who_at(alloc, place, first)?;
-    speak_of(place, who, subjects);
+    speak_of(who, subjects);
+    spell(condition, first, Spoken::Fibers(who))?;
     Ok(who)
 }
 
+/// Adds the name that the form with this number spells.
+pub(crate) fn spell(
+    condition: &mut Condition,
+    form: usize,
+    what: Spoken,
+) -> Result<(), AllocError> {
+    condition.names.push(SpokenName { form, what })?;
+    Ok(())
+}
+
 // Records that a condition is about these fibers.
-fn speak_of(place: &Place, who: Who, subjects: &mut Subjects) {
+fn speak_of(who: Who, subjects: &mut Subjects) {
     subjects.fibers = true;
-    if needs_names(place, who) {
+    if needs_names(who) {
         subjects.names = true;
     }
 }
@@ -235,7 +247,7 @@ fn ends(
     condition: &mut Condition,
     subjects: &mut Subjects,
 ) -> Result<(), Refused> {
-    let who = who_of(alloc, place, at, subjects)?;
+    let who = who_of(alloc, place, at, condition, subjects)?;
     let rest = behind(place.source, parts_at(place.source, at));
     if first_at(place.source, rest).is_none() {
         return Err(no_condition(alloc, place, at));
@@ -300,7 +312,7 @@ fn said(
     condition: &mut Condition,
     subjects: &mut Subjects,
 ) -> Result<(), Refused> {
-    let who = who_of(alloc, place, at, subjects)?;
+    let who = who_of(alloc, place, at, condition, subjects)?;
     let rest = behind(place.source, parts_at(place.source, at));
     if first_at(place.source, rest).is_none() {
         return Err(no_condition(alloc, place, at));
@@ -321,7 +333,7 @@ fn says(
     condition: &mut Condition,
     subjects: &mut Subjects,
 ) -> Result<(), Refused> {
-    let who = who_of(alloc, place, at, subjects)?;
+    let who = who_of(alloc, place, at, condition, subjects)?;
     let rest = behind(place.source, parts_at(place.source, at));
     let from = condition.values.len();
     push_values(alloc, place, at, rest, condition)?;
@@ -374,6 +386,7 @@ fn compares(
         return Err(no_condition(alloc, place, at));
     }
     let cell = add_ref(alloc, place, subjects, name)?;
+    spell(condition, name, Spoken::Ref(cell))?;
     condition
         .words
         .push(Word::Compares(cell, comparison, value))?;

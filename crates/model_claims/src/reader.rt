@@ -1,13 +1,14 @@
 //! Reads the claims of a model from their forms.
 
+use crate::answer::FiberName;
 use crate::claim::{Claim, Want};
-use crate::compile::{OUTCOME_WANTED, compile};
-use crate::condition::{Condition, Wanted, Who, Word, empty_condition};
+use crate::compile::{OUTCOME_WANTED, compile, spell};
+use crate::condition::{Condition, Spoken, Wanted, Who, Word, empty_condition};
 use crate::endless::has_forever;
 use crate::faults::{plain_fault, quoting_fault};
-use crate::judging::Rule;
+use crate::leaf::speaks_of;
 use crate::moment::{MomentWord, final_words, moment_words};
-use crate::names::{needs_names, who_at};
+use crate::names::{needs_names, sayer_name, who_at};
 use crate::numbering::numbers_tell_names;
 use crate::parts::{
     Place, behind, both_at, first_at, head_at, inside_at, number_at, only_at, outcome_at, parts_at,
@@ -16,13 +17,16 @@ use crate::parts::{
 use crate::refs::{Subjects, no_subjects, ref_fault};
 use crate::straight::straight_part;
 use crate::words::{Head, head_of};
-use effect_term::Value;
+use claim_verdicts::Rule;
 use model_forms::{Block, form_bytes};
 use model_terms::{BinderName, ModelTerm, Probe, Refused, Said, Source};
 use model_text::Model;
 use std::alloc::Global;
 
 const BEFORE_WANTED: &str = "`(before (f v) (g w))` was wanted: f says v before g says w";
+
+const COMPUTED_SAY: &str =
+    "a fiber that `before` names says a computed value here: say a number or a constant";
 
 const SEVERAL_REFS: &str =
     "a claim on several refs at one moment speaks of refs that main makes first, each under a name of its own";
@@ -261,7 +265,7 @@ fn ended(
         return Err(parts_fault(alloc, place, at, " has no parts"));
     }
     condition.words.push(Word::Ended(who))?;
-    let probe = names_probe(place, needs_names(place, who));
+    let probe = names_probe(place, needs_names(who));
     Ok((Rule::Every, Look::Ends(probe)))
 }
 
@@ -398,7 +402,7 @@ fn look_at_moments(
     match moment_words(alloc, condition.words.as_slice())? {
         Some(words) => Ok(Look::Worlds(words)),
         None if subjects.several => Err(ref_fault(alloc, place, at, SEVERAL_REFS)),
-        None => Ok(Look::Ends(Probe::Watch(cell))),
+        None => Ok(Look::Ends(Probe::Watch(cell, place.term.says_names))),
     }
 }
 
@@ -420,7 +424,7 @@ fn never(
     }
 }
 
-// `(before (f v) (g w))`.
+// `(before (f v) (g w))`. The search sees the order of `say`s of numbers alone.
 fn before(
     alloc: Global,
     place: &Place,
@@ -430,17 +434,36 @@ fn before(
     let Some((one, other)) = both_at(place.source, parts_at(place.source, at)) else {
         return Err(no_order(alloc, place, at));
     };
-    let first = saying(alloc, place, at, one)?;
-    let second = saying(alloc, place, at, other)?;
-    push_late(condition, second.value)?;
-    Ok((Rule::Every, Look::Ends(Probe::Order(first, second))))
+    let first = saying(alloc, place, at, one, condition)?;
+    let second = saying(alloc, place, at, other, condition)?;
+    check_says(alloc, place, condition)?;
+    condition.words.push(Word::Late)?;
+    condition.words.push(Word::Not)?;
+    let probe = Probe::Order(first, second, !place.numbered);
+    Ok((Rule::Every, Look::Ends(probe)))
 }
 
-// Adds the words for: no fiber said this value directly after `LATE`.
-fn push_late(condition: &mut Condition, value: Value) -> Result<(), Refused> {
-    condition.words.push(Word::Late(value))?;
-    condition.words.push(Word::Not)?;
+// Checks that each fiber that a condition names says numbers alone.
+fn check_says(alloc: Global, place: &Place, condition: &Condition) -> Result<(), Refused> {
+    for say in place.term.computed.as_slice() {
+        let sayer = sayer_name(say.fiber);
+        if names_fiber(place.source, condition, sayer) {
+            return Err(plain_fault(alloc, place.source, "E22", say.form, COMPUTED_SAY));
+        }
+    }
     Ok(())
+}
+
+// Whether a condition names the fibers of this name.
+fn names_fiber(source: &Source, condition: &Condition, fiber: FiberName) -> bool {
+    for name in condition.names.as_slice() {
+        if let Spoken::Fibers(who) = name.what
+            && speaks_of(source, who, fiber)
+        {
+            return true;
+        }
+    }
+    false
 }
 
 // The fault of a `before` that is malformed.
@@ -448,8 +471,14 @@ fn no_order(alloc: Global, place: &Place, at: usize) -> Refused {
     plain_fault(alloc, place.source, "E20", at, BEFORE_WANTED)
 }
 
-// Reads `(f v)`, a part of the `before` with this number.
-fn saying(alloc: Global, place: &Place, at: usize, part: usize) -> Result<Said, Refused> {
+// Reads `(f v)`, a part of the `before` with this number. Adds the name to those of the condition.
+fn saying(
+    alloc: Global,
+    place: &Place,
+    at: usize,
+    part: usize,
+    condition: &mut Condition,
+) -> Result<Said, Refused> {
     let Some((fiber, number)) = both_at(place.source, inside_at(place.source, part)) else {
         return Err(no_order(alloc, place, at));
     };
@@ -459,6 +488,7 @@ fn saying(alloc: Global, place: &Place, at: usize, part: usize) -> Result<Said, 
     if word_at(place.source, fiber).is_empty() {
         return Err(no_order(alloc, place, at));
     }
-    let _who = who_at(alloc, place, fiber)?;
+    let who = who_at(alloc, place, fiber)?;
+    spell(condition, fiber, Spoken::Fibers(who))?;
     Ok(Said { fiber, value })
 }

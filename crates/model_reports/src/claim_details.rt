@@ -66,6 +66,7 @@ fn warning_words(warning: Warning) -> &'static str {
         }
         Warning::Unmet(_) => "` is wanted, and no schedule comes to it\n",
         Warning::Unstarted(_) => "`: no schedule starts a fiber of this name\n",
+        Warning::Unset(_) => "`: no schedule sets a ref of this name\n",
     }
 }
 

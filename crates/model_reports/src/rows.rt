@@ -7,7 +7,7 @@ use fiber_events::{Deed, Event};
 use fiber_frames::Mark;
 use model_claims::FiberName;
 use model_runs::Named;
-use model_terms::{BinderName, is_name};
+use model_terms::{BinderName, LATE};
 use std::alloc::{AllocError, Global};
 
 /// A row of a timeline.
@@ -42,7 +42,7 @@ pub(crate) fn rows_of(alloc: Global, replay: &Named) -> Result<Vec<Row>, AllocEr
         let is_new = is_new(waits.as_mut_slice(), event);
         let is_unseen = is_of_watcher(replay, event)
             || is_of_hidden_ref(replay, event)
-            || is_of_name(event);
+            || is_of_name(replay, event);
         if is_new && !is_unseen {
             let form = form_of(replay, number);
             let row = Row {
@@ -73,9 +73,9 @@ fn is_of_watcher(replay: &Named, event: &Event) -> bool {
 }
 
 // Whether an event is the `say` of a fiber's name, which a probe adds.
-fn is_of_name(event: &Event) -> bool {
+fn is_of_name(replay: &Named, event: &Event) -> bool {
     match event.mark {
-        Some(Mark::Say(value)) => is_name(value.get()),
+        Some(Mark::Say(value)) => value.get() != LATE && replay.is_added(event),
         _ => false,
     }
 }

@@ -7,10 +7,11 @@ use Rattle.derived_ops.specs.Tree.{Tree}
 use Rattle.cell_registry.specs.declared.limits.Limits.{Limits}
 use Rattle.world_search.specs.{declared.claims.Met.Met, Claims.IsFound}
 use Rattle.every_schedule.specs.{declared.claims.ClaimWord.ClaimWord, Claims.{IsMetIn, Meets}}
-use Rattle.model_claims.specs.declared.{claim.Claim.Claim, judging.Rule.Rule}
+use Rattle.model_claims.specs.declared.claim.Claim.{Claim}
+use Rattle.claim_verdicts.specs.declared.judging.Rule.{Rule}
 use Rattle.model_runs.specs.{declared.{moments.Moments.Moments, result.NamedAnswer.NamedAnswer}, Moments.{IsJudgedAt, IsShownAt, NoneMeets, SomeMeets}}
 use Rattle.model_runs.specs.{Moments.{sought_in, soughts}, Private.Looking.{IsMetAt, IsRightAt, IsRightOf, IsRightAtSome, moment_verdict}}
-use Rattle.model_claims.specs.declared.judging.Rule.TheVariants as rules
+use Rattle.claim_verdicts.specs.declared.judging.Rule.TheVariants as rules
 
 all_at : {A : Type 0} (P : A → Type 0) (xs : List A) (i : ℕ) (x : A) → slice_get xs i ≡ Some x → All P xs → P x
 all_at P xs i x e h = subst P (get_or_from_slice_get xs i x x e) (All-get_or P xs i x (slice_get_within xs i x e) h)

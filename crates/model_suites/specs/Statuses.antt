@@ -1,8 +1,8 @@
 -- The statuses of a suite whose models were tested.
 use Rattle.std.specs.Prelude.{◌==◌, ◌∷◌, ℕ, List, [], if◌then◌else◌}
-use Rattle.model_claims.specs.declared.judging.Verdict.{Verdict}
-use Rattle.model_claims.specs.declared.judging.Verdict.TheVariants.{Failed}
-use Rattle.model_suites.specs.Verdicts.{status_of}
+use Rattle.claim_verdicts.specs.declared.judging.Verdict.{Verdict}
+use Rattle.claim_verdicts.specs.declared.judging.Verdict.TheVariants.{Failed}
+use Rattle.suite_statuses.specs.Verdicts.{status_of}
 use Rattle.model_suites.specs.declared.tested.Became.{Became}
 use Rattle.model_suites.specs.declared.tested.Became.TheVariants as ways
 use Rattle.text_io.specs.declared.status.Status.{Status}

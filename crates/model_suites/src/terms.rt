@@ -63,7 +63,7 @@ fn push_with_probe(
 ) -> Result<(), AllocError> {
     match claim.probe {
         Probe::Nothing => Ok(()),
-        Probe::Watch(_) | Probe::Order(_, _) | Probe::Names => {
+        Probe::Watch(_, _) | Probe::Order(_, _, _) | Probe::Names => {
             match translate(alloc, source, model, claim.probe) {
                 Ok(term) => push_claimed(source, model, claim, &term, text),
                 Err(refused) => passed_over(refused),

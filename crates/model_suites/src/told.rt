@@ -3,7 +3,6 @@
 ghost use Rattle.std.specs.Prelude.{◌≡◌, ◌++◌, ◌∷◌, [], OnOk};
 ghost use Rattle.model_suites.specs.Statuses.{IsSuiteStatus, suite_status, verdict_in};
 
-use crate::statuses::status_of;
 use crate::suite::{Models, SuiteFile, SuiteForm, SuiteOrder, named};
 use crate::tested::{Became, Explored, Tested};
 use model_claims::Verdict;
@@ -16,6 +15,7 @@ use model_terms::SourceFault;
 use model_text::Model;
 use serde_json::Value;
 use std::alloc::{AllocError, Global};
+use suite_statuses::status_of;
 use text_io::Status;
 
 /// The reports of the models that were tested so far, without what is printed at once.
