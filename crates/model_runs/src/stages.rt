@@ -1,5 +1,5 @@
-//! The search of a model's term in stages, each with more worlds than the one before, until it is complete or its answers
-//! decide all its claims.
+//! The search of a model's term in stages, each with more worlds than the one before, until it is complete or its
+//! answers decide all its claims.
 //!
 //! An exploration finds short schedules first, but few ends before it has most of its worlds. Schedules that are drawn
 //! at random come to their ends at once. So some are drawn before each stage that takes long.
