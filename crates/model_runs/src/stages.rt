@@ -80,8 +80,25 @@ pub(crate) fn search_in_stages<V: Watcher>(
         if is_last(&stage.search, worlds) {
             return last(alloc, prepared, plan, goal, stage, before, watcher);
         }
-        if draw_between(alloc, prepared, plan, goal, &stage, worlds, &mut before, &mut *watcher)? {
-            return last(alloc, prepared, plan, goal, halted_with(stage, &before), before, watcher);
+        if draw_between(
+            alloc,
+            prepared,
+            plan,
+            goal,
+            &stage,
+            worlds,
+            &mut before,
+            &mut *watcher,
+        )? {
+            return last(
+                alloc,
+                prepared,
+                plan,
+                goal,
+                halted_with(stage, &before),
+                before,
+                watcher,
+            );
         }
         keep(&mut before, stage.search)?;
         worlds = worlds.saturating_mul(10);
