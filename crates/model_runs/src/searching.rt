@@ -190,7 +190,10 @@ fn add_drawn(
 // Whether an exploration has found this end, or its outcomes if it was an exploration of outcomes.
 fn is_known(known: &Ends, end: &Result<Report, RunError>) -> bool {
     match known {
-        Ends::Reports(answers) => answers.as_slice().iter().any(|answer| same_end(&answer.end, end)),
+        Ends::Reports(answers) => answers
+            .as_slice()
+            .iter()
+            .any(|answer| same_end(&answer.end, end)),
         Ends::Outcomes(answers) => answers.iter().any(|answer| has_outcomes(&answer.end, end)),
     }
 }
