@@ -1,123 +1,18 @@
 """Compares the answers of `fiber_cli test --json` with the verdicts of this reference."""
 import collections
 import json
-import os
-import re
-import subprocess
-import sys
-import tempfile
 
 from claims import Claim, Facts
-from programs import Maker
-from random_claims import Claimer
+from program import Answered, is_claim, text_of, without_computed
+from random_files import random_file
 from reader import File, read, write
-from search import Search, TooLarge
+from search import TooLarge
 from shrink import smallest
 from terms import CANCELER, UNNAMED
-from translate import Refused as Untranslated, Translation
+from translate import Translation
 
-sys.setrecursionlimit(20000)
-# The most states of a model, and how many models a random file has.
-MOST, MANY = 6000, 6
-
-
-class Refused(Exception):
-    """The program refuses the file: the codes of the faults and their lines."""
-
-    def __init__(self, faults):
-        super().__init__(faults)
-        self.faults = faults
-
-
-def tested(program, text):
-    """The models of a text, as `test --json` answers."""
-    with tempfile.TemporaryDirectory() as room:
-        path = os.path.join(room, "a.fm")
-        with open(path, "w", encoding="utf-8") as file:
-            file.write(text)
-        words = [program, "test", "--json", "--worlds", "100000", "--seconds", "3", "--jobs", "1", path]
-        ran = subprocess.run(words, capture_output=True, encoding="utf-8", check=False)
-    if ran.returncode == 65:
-        raise Refused(re.findall(r"error\[(E\d+)\].*\n +--> [^\n]*:(\d+):\d+\n", ran.stderr))
-    try:
-        return json.loads(ran.stdout)["models"]
-    except ValueError:
-        raise Refused([("status %d" % ran.returncode, "0")]) from None
-
-
-def lines_of(forms):
-    """The text of forms with a line for each item, and for each claim of a model."""
-    lines = []
-    for form in forms:
-        if form[0] == "model":
-            lines += ["(model " + form[1]] + ["  " + write(it) for it in form[2:]]
-            lines[-1] += ")"
-        else:
-            lines.append(write(form))
-    return "\n".join(lines) + "\n"
-
-
-def without_refused(program, forms):
-    """The forms without the claims that the program refuses by E22, the answer, the number of these claims, and other
-    refusals. Models that are refused otherwise are left out."""
-    dropped, others = 0, []
-    while True:
-        try:
-            return forms, tested(program, lines_of(forms)), dropped, others
-        except Refused as refused:
-            line, faulty = 1, {int(line): code for code, line in refused.faults}
-            kept, changed = [], False
-            for form in forms:
-                places = range(line, line + (len(form) - 1 if form[0] == "model" else 1))
-                line = places[-1] + 1
-                hit = [it for it in places if it in faulty]
-                if not hit:
-                    kept.append(form)
-                    continue
-                changed = True
-                claim = form[hit[0] - places[0] + 1] if form[0] == "model" and hit[0] > places[0] else None
-                if faulty[hit[0]] == "E22" and claim:
-                    dropped += 1
-                    rest = [it for it in form if it is not claim]
-                    kept += [rest] if any(is_claim(it) for it in rest[2:]) else []
-                else:
-                    others.append((faulty[hit[0]], form))
-            forms = kept
-            if not changed:
-                return [], [], dropped, others + [(str(refused.faults), forms)]
-
-
-def without_computed(program, forms):
-    """The forms without each `before` that names a fiber which says a computed value; and models with one of these
-    claims alone, each with whether the program refuses it by E22."""
-    file, kept, tried = File(forms), [], []
-    models = iter(file.models)
-    for form in forms:
-        if form[0] != "model":
-            kept.append(form)
-            continue
-        made, claims = Translation(file, next(models)), [it for it in form[2:] if is_claim(it)]
-        refused = [it for it in claims if Claim(it, file.constants).is_refused(made)]
-        for it in refused:
-            alone = [part for part in form if part is it or part not in claims]
-            tried.append((alone, is_refused(program, [other for other in forms if other[0] != "model"] + [alone])))
-        if len(refused) < len(claims):
-            kept.append([it for it in form if it not in refused])
-    return kept, tried
-
-
-def is_refused(program, forms):
-    """Whether the program refuses these forms by E22."""
-    try:
-        tested(program, lines_of(forms))
-    except Refused as refused:
-        return {code for code, _ in refused.faults} == {"E22"}
-    return False
-
-
-def is_claim(form):
-    """Whether a form of a model is a claim."""
-    return form[0] in ("want", "no-deadlock", "all-end", "must", "can", "never", "always", "ever", "before", "fails")
+# The most states of a random model, and of a model of a given file.
+MOST, MOST_GIVEN = 6000, 200000
 
 
 class Compared:
@@ -229,45 +124,6 @@ def total(counts, more):
     return collections.Counter(counts) + collections.Counter(more)
 
 
-# Random files
-
-
-def random_file(seed):
-    """The forms of a random file."""
-    maker = Maker(seed)
-    maker.constants = [("N", maker.random.randint(0, 2)), ("TWO", 2)][:maker.random.randint(0, 2)]
-    forms = [["define", name, str(value)] for name, value in maker.constants]
-    forms += [maker.definition(number) for number in range(maker.random.randint(0, 3))]
-    above, models = list(forms), 0
-    for _ in range(MANY * 10):
-        if models == MANY:
-            break
-        if maker.chance(0.05):
-            above.append(["defaults"] + maker.bounds())
-            forms.append(above[-1])
-        made = random_model(maker, above, "m%d" % (models + 1))
-        if made:
-            forms.append(made)
-            models += 1
-    return forms
-
-
-def random_model(maker, above, name):
-    """A random model below these forms, or None if it is too large, or if it has one answer and others are better."""
-    run, head = maker.program()
-    bounds = maker.bounds()
-    file = File(above + [["model", name] + bounds + [["run"] + run]])
-    model = file.models[0]
-    try:
-        made = Translation(file, model)
-        search = Search(made.terms, made.term, model.bounds, says=True, most=MOST // 4)
-    except (TooLarge, Untranslated, RecursionError):
-        return None
-    if len(search.answers()) < 2 and maker.chance(0.7):
-        return None
-    return ["model", name] + bounds + Claimer(maker, made, search, head).claims() + [["run"] + run]
-
-
 def compare_seed(seed, program, plain, whole):
     """The differences of a random file, each with its smallest model unless `whole` is set, and what was counted."""
     forms = random_file(seed)
@@ -279,7 +135,7 @@ def compare_seed(seed, program, plain, whole):
             smaller = smallest(smaller, kind, lambda it: compare_forms(it, program, plain)[0])
         again = [it for it in compare_forms(smaller, program, plain)[0] if it[0] == kind]
         text = again[0][2] if again else text
-        shown.append(("seed %d: %s of %s" % (seed, kind, model[1]), "%s\n%s" % (lines_of(smaller), text)))
+        shown.append(("seed %d: %s of %s" % (seed, kind, model[1]), "%s\n%s" % (text_of(smaller), text)))
     return shown, counts
 
 
@@ -287,7 +143,7 @@ def compare_file(path, program, plain, _whole):
     """The differences of a model file, and what was counted."""
     with open(path, encoding="utf-8") as file:
         forms = [without_text(it) for it in read(file.read())]
-    differences, counts = compare_forms(forms, program, plain, 200000)
+    differences, counts = compare_forms(forms, program, plain, MOST_GIVEN)
     shown = [("%s: %s of %s: %s" % (path, kind, model[1], claim), text) for kind, claim, text, model in differences]
     return shown, counts
 
@@ -309,23 +165,19 @@ def compare_forms(forms, program, plain, most=MOST):
     """The differences of the models of a file, and what was counted. A difference is its kind, the text of its claim, a
     text, and its model."""
     counts, found = collections.Counter(), []
-    forms, kept = without_computed(program, forms)
-    counts["claims refused by E22"] += sum(is_refused for _, is_refused in kept)
-    for form, is_refused in kept:
-        if not is_refused:
-            found.append(("no refusal", None, "fiber_cli takes a `before` of a fiber that says a computed value", form))
-    forms, answers, dropped, others = without_refused(program, forms)
-    counts["claims refused by E22"] += dropped
-    for code, form in others:
-        counts["models refused otherwise"] += 1
-        if code != "E23":
-            found.append(("refusal " + code, None, "fiber_cli refuses what the reference takes", form))
-    file = File(forms)
-    models = [it for it in forms if it[0] == "model"]
-    for form, model, answer in zip(models, file.models, answers):
+    forms, tried = without_computed(program, forms)
+    answered = Answered(program, forms)
+    counts["claims refused by E22"] += sum(is_refused for _, is_refused in tried) + answered.dropped
+    counts["models refused otherwise"] += len(answered.refused)
+    found += [("no refusal", None, "fiber_cli takes a `before` of a fiber that says a computed value", form)
+              for form, is_refused in tried if not is_refused]
+    found += [("refusal " + code, None, "fiber_cli refuses what the reference takes", form)
+              for code, form in answered.refused if code != "E23"]
+    counts["models that differ"] += len(found)
+    file, models = File(answered.forms), [it for it in answered.forms if it[0] == "model"]
+    for form, model, answer in zip(models, file.models, answered.models):
         compared = Compared(file, model, answer, plain, most)
         counts += compared.counts
         counts["models that differ"] += bool(compared.differences)
         found += [it + (form,) for it in compared.differences]
-    counts["models that differ"] += len([it for it in found if it[0].startswith("refusal")])
     return found, counts

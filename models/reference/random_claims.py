@@ -1,6 +1,6 @@
 """Random claims on a program whose answers and moments are known: some hold, some don't, and most are near them."""
 from claims import Claim, is_named
-from programs import NUMBERS
+from random_programs import NUMBERS
 from terms import CANCELER, HIDDEN, UNNAMED
 
 WORDS = ["want", "want", "no-deadlock", "all-end", "must", "must", "can", "can", "never", "never", "before", "before",
@@ -21,7 +21,7 @@ class Claimer:
         self.held = sorted((it for it in held if it[1] is not None and it[0] != HIDDEN), key=str)
         self.fibers = ["main", "*", "*"]
         for spelling, number in sorted(made.fibers, key=str):
-            self.fibers += [spelling] * 2 + ([] if number is None else ["%s.%d" % (spelling, number)])
+            self.fibers += [spelling] * 2 if number is None else [spelling] + ["%s.%d" % (spelling, number)] * 2
 
     def claims(self):
         """A few claims."""
@@ -96,7 +96,10 @@ class Claimer:
         if word == "ends":
             made = [self.outcome(self.one(near)[1]) for _ in range(self.maker.random.randint(1, 2))]
             return [word, name] + [it for number, it in enumerate(made) if it not in made[:number]]
-        said = [self.number(it) for it in self.one(near)[2]][:4]
+        several = [it for it in near if len(set(it[2])) > 1]
+        said = [self.number(it) for it in self.one(several if several and self.chance(0.7) else near)[2]][:4]
+        if self.chance(0.2):
+            self.maker.random.shuffle(said)
         if word == "said":
             said = [it for it in said if self.chance(0.7)] or said or ["1"]
         return [word, name] + said

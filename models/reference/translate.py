@@ -8,8 +8,8 @@ import re
 from reader import NUMBER
 from terms import MAIN, UNNAMED, Terms, Use
 
-# The parts of the language's forms: v a value, t a term, k a term in which all binders before it are bound, a small
-# letter's capital a use of that kind, and b, p, f, r, d a binder of a value, poll, fiber, ref, deferred.
+# The parts of forms of the language: v a value, b the binder of a value, t a term, k a term in which the binders before
+# it are bound, and P, F, R, D the use of a poll, a fiber, a ref, a deferred.
 FORMS = {
     "pure": "v", "raise": "v", "handle": "tbk", "if0": "vtt", "add": "vv", "say": "v", "cede": "",
     "never": "", "canceled": "", "poll": "Pt", "oncancel": "tt", "cancel": "F", "get": "R", "set": "Rv",
@@ -56,8 +56,8 @@ class Pick:
 
 
 class Translation:
-    """The term of a model. `fibers` are the labels of its fibers, `computed` those of fibers that say a value other than
-    a number. `refs` has for each spelling of a ref the forms that bind it."""
+    """The term of a model. `fibers` are the labels of its fibers, `computed` those of fibers that say a value other
+    than a number. `refs` has for each spelling of a ref the forms that bind it."""
 
     def __init__(self, file, model):
         self.file, self.terms = file, Terms()

@@ -18,7 +18,7 @@ use Rattle.command_line.specs.Runs.{ObeysRun}
 use Rattle.command_line.specs.Samplings.{ObeysSample}
 use Rattle.command_line.specs.Sayings.{ObeysSay}
 use Rattle.command_line.specs.Seekings.{ObeysSeek}
-use Rattle.command_line.specs.Tests.{ObeysTest}
+use Rattle.command_line.specs.Tests.{ObeysTerms, ObeysTest}
 use Rattle.command_line.specs.Unmarkings.{ObeysUnmark}
 use Rattle.command_words.specs.Telling.{LacksMemory, TellsKind, TellsWrong}
 use Rattle.command_words.specs.Words.{program}
@@ -40,7 +40,7 @@ ObeysRequest (Sample sampling) before after status = ObeysSample sampling before
 ObeysRequest (Compare comparing) before after status = (after.input ≡ before.input) ×
     ObeysCompare comparing.order before.out after.out before.err after.err status
 ObeysRequest (Test testing) before after status = ObeysTest before after status
-ObeysRequest (Terms translating) before after status = ObeysTest before after status
+ObeysRequest (Terms translating) before after status = ObeysTerms before after status
 
 -- The words are right, and the request that they make is obeyed.
 pub record RunsRequest (words : List Text) (before after : Devices) (status : Status) : Type 0 where

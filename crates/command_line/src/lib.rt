@@ -24,6 +24,7 @@ mod say_order;
 mod seek_order;
 mod spelling;
 mod test_order;
+mod test_reports;
 mod unmark_order;
 mod watched_forms;
 

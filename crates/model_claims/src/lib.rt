@@ -15,6 +15,7 @@
 mod answer;
 mod bounds;
 mod claim;
+mod claim_faults;
 mod compile;
 mod condition;
 mod endless;

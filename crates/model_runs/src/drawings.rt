@@ -17,7 +17,7 @@ const LATER: u32 = 9;
 const LENGTHS: &[u32] = &[64, 256, 1000];
 
 // The same after a stage of fewer than 10,000 worlds.
-const SHORT: &[u32] = &[64];
+const SHORT: &[u32] = &[64, 256];
 
 /// Schedules that are drawn together.
 #[derive(Clone, Copy)]

@@ -1,10 +1,13 @@
 //! Searches that check claims at any moment in each world.
 
-ghost use Rattle.std.specs.Prelude.{◌≡◌, ◌++◌, [], map, IfOk, OnOk, if◌then◌else◌};
+ghost use Rattle.std.specs.Prelude.{◌≡◌, ◌++◌, map, IfOk, List, OnOk};
 ghost use Rattle.std.specs.List.{All};
 ghost use Rattle.derived_ops.specs.Expansion.{code_of};
 ghost use Rattle.derived_ops.specs.Reading.{source_of};
+ghost use Rattle.derived_ops.specs.Tree.{Tree};
 ghost use Rattle.cell_registry.specs.Cells.{AreLimits};
+ghost use Rattle.cell_registry.specs.declared.limits.Limits.{Limits as TheLimits};
+ghost use Rattle.every_schedule.specs.declared.claims.ClaimWord.{ClaimWord as TheWord};
 ghost use Rattle.every_schedule.specs.Claims.{IsMetIn};
 ghost use Rattle.model_runs.specs.Moments.{AreMet, claim_comparison, claim_word, sought, sought_in, turning};
 ghost use Rattle.model_runs.specs.Moments.{soughts as all_soughts};
@@ -198,25 +201,25 @@ fn has_met(met: &[Met], number: usize) -> bool {
 
 // What a search has found. If the search isn't complete, also what was met in schedules that were drawn.
 fn with_drawn(found: Claimed, drawn: Vec<Met>) -> Result<Claimed, RunError>
-    ensures complete { IfOk result (λ it. it.complete ≡ found.complete) }
-    ensures met { IfOk result (λ it. it.met.items ≡
-        found.met.items ++ (if found.complete then [] else drawn.items)) }
+    ensures { (code : Tree) (k : TheLimits) (wanted : List (List TheWord)) →
+        AreMet code k wanted found.complete found.met.items → All (IsMetIn code k wanted) drawn.items →
+        IfOk result (λ it. AreMet code k wanted it.complete it.met.items) }
 {
     if found.complete {
         return Ok(found);
     }
     let Claimed {
         mut met,
-        complete,
         halted,
         worlds,
         bytes,
+        ..
     } = found;
     let mut drawn = drawn;
     met.append(&mut drawn)?;
     Ok(Claimed {
         met,
-        complete,
+        complete: false,
         halted,
         worlds,
         bytes,

@@ -8,7 +8,9 @@ ghost use Rattle.std.specs.Prelude.{◌≡◌, ◌≤◌, ◌++◌, [], false, I
 ghost use Rattle.std.specs.List.{All};
 ghost use Rattle.derived_ops.specs.Expansion.{code_of};
 ghost use Rattle.derived_ops.specs.Reading.{source_of};
+ghost use Rattle.derived_ops.specs.Tree.{Tree};
 ghost use Rattle.cell_registry.specs.Cells.{AreLimits};
+ghost use Rattle.cell_registry.specs.declared.limits.Limits.{Limits as TheLimits};
 ghost use Rattle.model_runs.specs.Seeing.{IsRight, IsSeen};
 
 use crate::drawings::{Drawing, drawing_after, lengths_after};
@@ -17,7 +19,7 @@ use crate::outcomes::search_outcomes;
 use crate::plan::Plan;
 use crate::prepared::Prepared;
 use crate::result::{NamedAnswer, Search};
-use crate::searching::{Explored, add_all_drawn, drawn_by_plan, search_reports};
+use crate::searching::{Ends, Explored, add_all_drawn, drawn_by_plan, search_reports};
 use cell_registry::RunError;
 use every_schedule::Watcher;
 use sampled_schedules::sample_watched;
@@ -101,7 +103,9 @@ fn nothing_before(alloc: Global) -> Before
 }
 
 // A search that has to find nothing.
-fn search_without_worlds(alloc: Global, marked: bool) -> Search {
+fn search_without_worlds(alloc: Global, marked: bool) -> Search
+    ensures { (code : Tree) (k : TheLimits) → IsRight code k result }
+{
     Search {
         complete: false,
         halted: false,
@@ -147,9 +151,7 @@ fn is_last(search: &Search, worlds: usize) -> bool {
 
 // The same stage; if the watcher has ended the drawing, it has ended the search.
 fn halted_with(stage: Explored, before: &Before) -> Explored
-    ensures complete { result.search.complete ≡ stage.search.complete }
-    ensures marked { result.search.marked ≡ stage.search.marked }
-    ensures answers { result.search.answers.items ≡ stage.search.answers.items }
+    ensures { (code : Tree) (k : TheLimits) → IsRight code k stage.search → IsRight code k result.search }
 {
     let mut stage = stage;
     stage.search.halted = stage.search.halted || before.halted;
@@ -228,11 +230,13 @@ fn keep(before: &mut Before, search: Search) -> Result<(), AllocError>
     ensures { OnOk result (before.new.answers.items ≡ before.old.answers.items ++ search.answers.items) }
 {
     let Search {
-        worlds, answers, ..
+        worlds,
+        mut answers,
+        ..
     } = search;
-    let mut answers = answers;
     before.worlds = before.worlds.max(worlds);
-    before.answers.append(&mut answers)
+    before.answers.append(&mut answers)?;
+    Ok(())
 }
 
 // The result of a search whose last stage this is. If it has a bound, and all answers together don't meet the goal,
@@ -255,15 +259,40 @@ fn last<V: Watcher>(
     if search.complete {
         return Ok(search);
     }
+    let explored = search.answers.as_slice();
     let halted = search.halted;
-    let mut before = before;
-    if !goal.is_met_by(alloc, found_in(search.answers.as_slice(), &before))? {
-        let drawn = drawn_by_plan(alloc, &prepared.program, plan, halted, watcher)?;
-        before.drawn = before.drawn.saturating_add(drawn.schedules);
-        let comings = drawn.comings.as_slice();
-        add_all_drawn(alloc, prepared, plan, &ends, comings, &mut before.answers)?;
+    let all = drawn_at_last(
+        alloc, prepared, plan, goal, explored, &ends, halted, before, watcher,
+    )?;
+    joined(search, all)
+}
+
+// What was found before the last stage, and if all answers together don't meet the goal, the answers of the schedules
+// that the plan has drawn. `halted` says that the watcher has ended the search.
+fn drawn_at_last<V: Watcher>(
+    alloc: Global,
+    prepared: &Prepared,
+    plan: Plan,
+    goal: &Goal,
+    explored: &[NamedAnswer],
+    ends: &Ends,
+    halted: bool,
+    before: Before,
+    watcher: &mut V,
+) -> Result<Before, RunError>
+    requires limits { AreLimits plan.limits }
+    requires seen { All (IsSeen (code_of (source_of prepared.now.program)) plan.limits) before.answers.items }
+    ensures seen { IfOk result (λ it. All (IsSeen (code_of (source_of prepared.now.program)) plan.limits) it.answers.items) }
+{
+    if goal.is_met_by(alloc, found_in(explored, &before))? {
+        return Ok(before);
     }
-    joined(search, before)
+    let drawn = drawn_by_plan(alloc, &prepared.program, plan, halted, watcher)?;
+    let mut all = before;
+    all.drawn = all.drawn.saturating_add(drawn.schedules);
+    let comings = drawn.comings.as_slice();
+    add_all_drawn(alloc, prepared, plan, ends, comings, &mut all.answers)?;
+    Ok(all)
 }
 
 // A search that isn't complete, with all that was found before.
@@ -275,17 +304,15 @@ fn joined(search: Search, before: Before) -> Result<Search, RunError>
         halted,
         marked,
         worlds,
-        answers,
+        answers: mut all,
         ..
     } = search;
     let Before {
-        answers: others,
+        answers: mut others,
         drawn,
         worlds: most,
         ..
     } = before;
-    let mut all = answers;
-    let mut others = others;
     all.append(&mut others)?;
     Ok(Search {
         complete: false,

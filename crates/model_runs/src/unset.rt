@@ -95,7 +95,7 @@ fn unset_among<V: Watcher>(
     requires limits { AreLimits plan.limits }
 {
     let wanted = any_values(alloc, numbers)?;
-    let found = search_by_plan(alloc, prepared, plan, wanted.as_slice(), false, watcher)?;
+    let found = search_by_plan(alloc, prepared, plan, wanted.as_slice(), true, watcher)?;
     if !found.complete {
         return Ok(Vec::new(alloc));
     }

@@ -108,12 +108,20 @@ fn warning_of(
     }
 }
 
-// Whether these are named fibers that none of these answers starts.
+// Whether these are named fibers that none of these answers starts, and none of the answers is a fault. An answer that is
+// a fault has one schedule of those that lead to it, and another one could start them.
 fn is_unstarted(source: &Source, who: Who, answers: &[NamedAnswer]) -> bool {
     match who {
         Who::Main | Who::Everyone => false,
-        Who::Named(_, _) | Who::OneOf(_, _, _) => !is_started(source, who, answers),
+        Who::Named(_, _) | Who::OneOf(_, _, _) => {
+            !is_started(source, who, answers) && !has_fault(answers)
+        }
     }
+}
+
+// Whether one of these answers is a fault.
+fn has_fault(answers: &[NamedAnswer]) -> bool {
+    answers.iter().any(|it| it.seen.faulty)
 }
 
 // Whether no schedule sets a ref that a claim names: one with a number in `unset`, or one whose watcher no answer of a

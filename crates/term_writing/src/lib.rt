@@ -20,12 +20,12 @@
 
 mod binder;
 mod condition;
-mod effect_names;
 mod file_fault;
 mod form;
 mod look;
 mod name_says;
 mod named;
+mod near_names;
 mod nearness;
 mod probe;
 mod reading;
@@ -38,6 +38,7 @@ mod task;
 mod term;
 mod told;
 mod trial;
+mod unknown_word;
 mod uses;
 mod wording;
 mod writing;

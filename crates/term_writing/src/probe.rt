@@ -55,13 +55,20 @@ fn is_one_of(spelled: &[u8], row: &[u8], number: usize) -> bool {
         && spelled.get(row.len().saturating_add(1)..) == Some(behind)
 }
 
-// Whether this is the name of a fiber, or of its row, or `*`.
+// Whether a claim that spells this is about a fiber: by its name, by the name of its row, or by `*`. `main` is the first
+// fiber alone.
 fn is_called(read: Reading, fiber: FiberName, spelled: &[u8]) -> bool {
-    if spelled == b"*".as_slice() {
-        return true;
+    match spelled {
+        b"*" => true,
+        b"main" => matches!(fiber, FiberName::Main),
+        _ => has_name(read, fiber, spelled),
     }
+}
+
+// Whether this is the name of a fiber that another one starts, or of its row.
+fn has_name(read: Reading, fiber: FiberName, spelled: &[u8]) -> bool {
     match fiber {
-        FiberName::Main => spelled == b"main".as_slice(),
+        FiberName::Main => false,
         FiberName::Left => spelled == b"left".as_slice(),
         FiberName::Right => spelled == b"right".as_slice(),
         FiberName::Word(at) => spelled == read.word(at),

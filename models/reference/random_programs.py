@@ -5,7 +5,7 @@ import random
 
 from translate import FORMS, KINDS
 
-SPELLINGS = {"value": "xyuv", "ref": "rst", "deferred": "dg", "fiber": "abcw", "poll": "pq"}
+SPELLINGS = {"value": "xyuvN", "ref": "rst", "deferred": "dg", "fiber": "abcw", "poll": "pq"}
 # Spellings that any kind of name can get, to test the rules of scope.
 MIXED = ["x", "r", "a", "get", "left", "N"]
 NUMBERS = ["0", "0", "1", "1", "2", "3", "-1"]
@@ -13,10 +13,10 @@ NUMBERS = ["0", "0", "1", "1", "2", "3", "-1"]
 LARGE = ["4611686018427387903", "-4611686018427387904", "4611686018427387901", "4611686000000000000",
          "4611686000000000001"]
 # How often a term is made of each word: those that don't nest, and those that do.
-SMALL = {"say": 5, "get": 6, "set": 6, "modify": 8, "complete": 4, "await": 4, "cede": 1, "never": 1, "canceled": 1,
+SMALL = {"say": 8, "get": 6, "set": 6, "modify": 8, "complete": 4, "await": 4, "cede": 1, "never": 1, "canceled": 1,
          "raise": 2, "add": 2, "pure": 1, "cancel": 6, "wait": 3, "value-of": 2, "part": 6, "spin-until-zero": 0.5}
 NESTED = {"handle": 4, "condition": 6, "if0": 2, "do": 2, "uncancelable": 5, "poll": 6, "oncancel": 5, "guarantee": 5,
-          "bracket": 4, "bracketcase": 3, "bracketfull": 2, "guarantee-case": 2, "race": 2, "both": 2, "join": 4,
+          "bracket": 4, "bracketcase": 3, "bracketfull": 2, "guarantee-case": 2, "race": 5, "both": 4, "join": 4,
           "repeat": 1, "forever": 1, "ignore-errors": 1, "defined": 9, "bind": 2}
 STATEMENTS = {"let": 6, "ref": 2, "deferred": 2, "start": 4, "starts": 1, "refs": 1, "deferreds": 1}
 
@@ -80,7 +80,7 @@ class Maker:
                 found.append(it.spelling)
                 continue
             found += ["%s.%d" % (it.spelling, number) for number in range(it.size)]
-            found += [it.spelling] * 2 if rows else []
+            found += [it.spelling] * 3 if rows else []
             for index in self.seen(scope, "value"):
                 spelled = "%s.%s" % (it.spelling, index.spelling)
                 if index.most is None:
@@ -150,11 +150,17 @@ class Maker:
         if made[0] == "refs":
             made.append(self.value(scope, deep))
         elif made[0] == "starts" and self.chance(0.6):
-            index = self.one(["i", "i", "_", "x"])
-            made[1] = [made[1], index]
-            made.append(self.body(scope + [Named(index, "value", most=size - 1)], max(deep, 1)))
+            made[1:] = self.with_index(made[1], made[2], scope, size, max(deep, 1))
         elif made[0] == "starts":
             made.append(self.body(scope, max(deep, 1)))
+
+    def with_index(self, spelling, count, scope, size, deep):
+        """The parts of a row of fibers with an index, by which they often end or which they often say."""
+        index = self.one(["i", "i", "i", "_", "x"])
+        body = self.body(scope + [Named(index, "value", most=size - 1)], deep)
+        if index != "_" and self.chance(0.6):
+            body = ["do", body, self.one([index, ["say", index], ["say", index]])]
+        return [[spelling, index], count, body]
 
     # Forms. Each takes the scope and how deep its parts may nest, and gives None if it can't be made there.
 
@@ -360,9 +366,8 @@ class Maker:
 
     def first_fiber(self, scope):
         """A statement that starts a fiber, or a row of them."""
-        if self.chance(0.25):
-            index = self.one(["i", "i", "x", "_"])
-            made = ["starts", ["w", index], "2", self.body(scope + [Named(index, "value", most=1)], 2)]
+        if self.chance(0.3):
+            made = ["starts"] + self.with_index("w", "2", scope, 2, 2)
             scope.append(Named("w", "fiber", size=2))
             return made
         name = self.spelling("fiber")
