@@ -11,6 +11,8 @@ mod decide_order;
 mod explore_order;
 mod first_line;
 mod judge_order;
+mod kept_devices;
+mod model_notes;
 mod noted;
 mod order;
 mod record_answers;
@@ -30,3 +32,4 @@ mod watched_forms;
 
 pub use cli::command;
 pub use command_words::refuse_words;
+pub use kept_devices::{HeardOutput, KeptInput};

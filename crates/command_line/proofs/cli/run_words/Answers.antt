@@ -3,7 +3,7 @@ use Rattle.clap.specs.Words.{subcommand_rows_of}
 use Rattle.command_words.specs.declared.requests.Request.{Request}
 use Rattle.command_words.specs.Requests.{GivesRequest}
 use Rattle.command_line.proofs.RunLemmas.{free_built, runs_request, runs_no_request, runs_error, runs_no_words, takes_input}
-use Rattle.command_line.proofs.cli.command.Goals as goal
+use Rattle.command_line.proofs.cli.run_words.Goals as goal
 
 pub returns-in_default-clause-runs : goal.returns-in_default-clause-runs
 returns-in_default-clause-runs g c = runs_no_words _ _ _ _ refl refl record { told = c.tell_fault.ensures.told; status_is = c.tell_fault.ensures.status }
