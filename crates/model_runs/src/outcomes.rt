@@ -13,9 +13,11 @@ ghost use Rattle.model_runs.specs.Seeing.{AreOutcomesOf, IsRight, IsSeen};
 use crate::plan::Plan;
 use crate::prepared::Prepared;
 use crate::result::{NamedAnswer, Search};
-use crate::searching::{FIRST, Known, TIMES_MORE, drawn_by_plan, named_end, with_drawn};
+use crate::searching::{
+    FIRST, Known, NAMED, NamedAnswers, TIMES_MORE, drawn_by_plan, is_first, named_end, with_drawn,
+};
 use cell_registry::RunError;
-use effect_term::Program;
+use effect_term::{Outcome, Program};
 use every_outcome::{
     Bounds, OutcomeAnswer, OutcomeExploration, Outcomes, Watcher, explore_outcomes, shortened,
 };
@@ -85,15 +87,29 @@ pub(crate) fn search_outcomes<V: Watcher>(
 {
     let explored = explore_by_plan(alloc, &prepared.program, plan, &mut *watcher)?;
     let found = sorted(shortened(explored, plan.entries as usize))?;
-    let answers = explored_answers(alloc, prepared, plan, found.answers.as_slice())?;
-    if found.complete {
-        return Ok(search_of(&found, 0, answers));
+    let listed = explored_answers(
+        alloc,
+        prepared,
+        plan,
+        found.answers.as_slice(),
+        &mut *watcher,
+    )?;
+    if found.complete && listed.whole {
+        return Ok(search_of(&found, 0, listed.answers));
     }
-    let drawn = drawn_by_plan(alloc, &prepared.program, plan, found.halted, watcher)?;
+    let halted = found.halted || !listed.whole;
+    let drawn = drawn_by_plan(alloc, &prepared.program, plan, halted, watcher)?;
     let known = Known::Outcomes(found.answers.as_slice());
     let comings = drawn.comings.as_slice();
-    let more = with_drawn(alloc, prepared, plan, known, comings, answers)?;
-    Ok(search_of(&found, drawn.schedules, more))
+    let more = with_drawn(alloc, prepared, plan, known, comings, listed.answers)?;
+    Ok(Search {
+        complete: false,
+        halted,
+        marked: false,
+        worlds: found.worlds,
+        sampled: drawn.schedules,
+        answers: more,
+    })
 }
 
 // The same exploration, with outcomes before faults, and in each group shorter schedules first.

@@ -18,7 +18,7 @@ use cell_registry::RunError;
 use effect_term::{Outcome, Program};
 use every_outcome::{OutcomeAnswer, Outcomes};
 use every_schedule::{Answer, Exploration, Schedule, Watcher, explore_watched};
-use sampled_schedules::{Coming, Sample, sample, sample_watched};
+use sampled_schedules::{Coming, Sample, sample_watched};
 use scheduled_core::{FiberReport, Report, same_end};
 use std::alloc::{AllocError, Global};
 use world_search::Bounds;
@@ -31,6 +31,12 @@ pub(crate) const TIMES_MORE: u32 = 8;
 
 // The greatest number of schedules that are drawn if the watcher has ended the exploration.
 const FEW_TIMES: u32 = 200;
+
+/// The quarters of the time after a search that the naming of answers can take.
+pub(crate) const NAMED: u32 = 3;
+
+// The most outcomes of fiber 0 of which an answer is named in any case.
+const OUTCOMES: usize = 100;
 
 /// The answers that an exploration has found.
 #[derive(Clone, Copy)]
@@ -101,19 +107,33 @@ pub(crate) fn search_reports<V: Watcher>(
     ensures { IfOk result (IsRight (code_of (source_of prepared.now.program)) plan.limits) }
 {
     let found = explore_by_plan(alloc, &prepared.program, plan, &mut *watcher)?;
-    let answers = explored_answers(alloc, prepared, plan, found.answers.as_slice())?;
-    if found.complete {
-        return Ok(search_of(&found, 0, answers));
+    let listed = explored_answers(
+        alloc,
+        prepared,
+        plan,
+        found.answers.as_slice(),
+        &mut *watcher,
+    )?;
+    if found.complete && listed.whole {
+        return Ok(search_of(&found, 0, listed.answers));
     }
-    let drawn = drawn_by_plan(alloc, &prepared.program, plan, found.halted, watcher)?;
+    let halted = found.halted || !listed.whole;
+    let drawn = drawn_by_plan(alloc, &prepared.program, plan, halted, watcher)?;
     let known = Known::Reports(found.answers.as_slice());
     let comings = drawn.comings.as_slice();
-    let more = with_drawn(alloc, prepared, plan, known, comings, answers)?;
-    Ok(search_of(&found, drawn.schedules, more))
+    let more = with_drawn(alloc, prepared, plan, known, comings, listed.answers)?;
+    Ok(Search {
+        complete: false,
+        halted,
+        marked: true,
+        worlds: found.worlds,
+        sampled: drawn.schedules,
+        answers: more,
+    })
 }
 
 /// Draws the plan's number of schedules after an exploration that isn't complete, until the watcher ends the drawing.
-/// If the watcher has ended the exploration (`halted`), draws at most 200 and doesn't ask the watcher.
+/// If the watcher has ended the exploration or the list of its answers (`halted`), draws at most 200.
 pub(crate) fn drawn_by_plan<V: Watcher>(
     alloc: Global,
     program: &Program,
@@ -123,37 +143,81 @@ pub(crate) fn drawn_by_plan<V: Watcher>(
 ) -> Result<Sample, RunError>
     requires limits { AreLimits plan.limits }
 {
-    if halted {
-        let times = plan.times.min(FEW_TIMES);
-        return sample(alloc, program, plan.limits, plan.seed, times, plan.entries);
-    }
+    let times = if halted {
+        plan.times.min(FEW_TIMES)
+    } else {
+        plan.times
+    };
     sample_watched(
         alloc,
         program,
         plan.limits,
         plan.seed,
-        plan.times,
+        times,
         plan.entries,
         watcher,
     )
 }
 
-// The answers of an exploration, in the names of the file.
-fn explored_answers(
+/// Answers in the names of the file.
+#[derive(Drop)]
+pub(crate) struct NamedAnswers {
+    /// The answers.
+    pub(crate) answers: Vec<NamedAnswer>,
+    /// No answer was left out.
+    pub(crate) whole: bool,
+}
+
+// The answers of an exploration, in the names of the file. The watcher can end the list; then only the first answer with
+// its outcome of fiber 0 is still added, and each fault.
+fn explored_answers<V: Watcher>(
     alloc: Global,
     prepared: &Prepared,
     plan: Plan,
     found: &[Answer],
-) -> Result<Vec<NamedAnswer>, AllocError>
+    watcher: &mut V,
+) -> Result<NamedAnswers, AllocError>
     requires limits { AreLimits plan.limits }
-    ensures each { IfOk result (λ it. All (IsSeen (code_of (source_of prepared.now.program)) plan.limits) it.items) }
-    ensures all { IfOk result (λ it. IsAllOf found.now it.items) }
+    ensures each { IfOk result (λ it.
+        All (IsSeen (code_of (source_of prepared.now.program)) plan.limits) it.answers.items) }
+    ensures all { IfOk result (λ it. it.whole ≡ true → IsAllOf found.now it.answers.items) }
 {
     let mut answers = Vec::new(alloc);
+    let mut known = Vec::new(alloc);
+    let mut whole = true;
     for answer in found {
-        answers.push(named_answer(alloc, prepared, plan, answer, 0)?)?;
+        if is_first(first_outcome(answer), &mut known)? || watcher.lists_on(NAMED) {
+            answers.push(named_answer(alloc, prepared, plan, answer, 0)?)?;
+        } else {
+            whole = false;
+        }
     }
-    Ok(answers)
+    Ok(NamedAnswers { answers, whole })
+}
+
+// The outcome of fiber 0 at the end of an answer; `None` if the answer is a fault.
+fn first_outcome(answer: &Answer) -> Option<Option<Outcome>> {
+    match &answer.end {
+        Ok(report) => Some(report.fibers.as_slice().first()?.outcome),
+        Err(_) => None,
+    }
+}
+
+/// Whether an answer has an outcome of fiber 0 that isn't known, which is then added, or is a fault.
+pub(crate) fn is_first(
+    outcome: Option<Option<Outcome>>,
+    known: &mut Vec<Option<Outcome>>,
+) -> Result<bool, AllocError> {
+    match outcome {
+        None => Ok(true),
+        Some(outcome) => {
+            if known.len() >= OUTCOMES || known.as_slice().contains(&outcome) {
+                return Ok(false);
+            }
+            known.push(outcome)?;
+            Ok(true)
+        }
+    }
 }
 
 // The result of a search: an exploration, the number of schedules that were drawn, and the answers of both.

@@ -71,6 +71,19 @@ impl<'w, C: Clock> Watcher for Noting<'w, C> {
         self.stopped = limit.stopped;
         goes_on
     }
+
+    fn lists_on(&mut self, quarters: u32) -> bool {
+        let mut limit = TimeLimit {
+            clock: self.clock,
+            begun: self.begun,
+            seconds: self.seconds,
+            stopped: self.stopped,
+        };
+        let time = limit.elapsed();
+        let lists_on = limit.lists_on_at(time, quarters);
+        self.stopped = limit.stopped;
+        lists_on
+    }
 }
 
 // The number a second, for `many` in this time; 0 if the time is below 1 millisecond.
