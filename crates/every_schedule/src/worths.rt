@@ -46,7 +46,7 @@ impl Worths {
         let mut worths = Vec::with_capacity(alloc, found.len())?;
         let mut known = Vec::new(alloc);
         for i in 0..found.len() {
-            worths.push(worth(worlds, found[i].end, &mut known)?)?;
+            worths.push(worth_of(worlds, found[i].end, &mut known)?)?;
         }
         Ok(Worths { worths, room })
     }
@@ -64,12 +64,11 @@ impl Worths {
 }
 
 // The worth of an answer with this end. `known` has the outcomes of fiber 0 of the answers before.
-fn worth(
+fn worth_of(
     worlds: &CoreWorlds,
     end: Landing,
     known: &mut Vec<Option<Outcome>>,
-) -> Result<Worth, AllocError>
-{
+) -> Result<Worth, AllocError> {
     match end {
         Landing::Fault(_) => Ok(Worth {
             first: true,

@@ -82,9 +82,7 @@ impl<W: SearchOrder + Drop> WatchedOrder for WithDraws<W> {
         program: &Program,
         watcher: &mut V,
     ) -> Result<NotedAnswer, AllocError> {
-        let noted = self
-            .order
-            .answer_watched(alloc, program, &mut *watcher)?;
+        let noted = self.order.answer_watched(alloc, program, &mut *watcher)?;
         let order = self.order.search_order();
         if order.wants.is_empty() || !is_unended(noted.answer.status) {
             return Ok(noted);

@@ -151,22 +151,39 @@ fn rank(end: &Result<Outcomes, RunError>) -> u8 {
     }
 }
 
-// The answers of an exploration of outcomes, in the names of the file.
-fn explored_answers(
+// The answers of an exploration of outcomes, in the names of the file. The watcher can end the list; then only the first
+// answer with its outcome of fiber 0 is still added, and each fault.
+fn explored_answers<V: Watcher>(
     alloc: Global,
     prepared: &Prepared,
     plan: Plan,
     found: &[OutcomeAnswer],
-) -> Result<Vec<NamedAnswer>, AllocError>
+    watcher: &mut V,
+) -> Result<NamedAnswers, AllocError>
     requires limits { AreLimits plan.limits }
-    ensures each { IfOk result (λ it. All (IsSeen (code_of (source_of prepared.now.program)) plan.limits) it.items) }
-    ensures all { IfOk result (λ it. AreOutcomesOf found.now it.items) }
+    ensures each { IfOk result (λ it.
+        All (IsSeen (code_of (source_of prepared.now.program)) plan.limits) it.answers.items) }
+    ensures all { IfOk result (λ it. it.whole ≡ true → AreOutcomesOf found.now it.answers.items) }
 {
     let mut answers = Vec::new(alloc);
+    let mut known = Vec::new(alloc);
+    let mut whole = true;
     for answer in found {
-        answers.push(named_answer(alloc, prepared, plan, answer)?)?;
+        if is_first(first_outcome(answer), &mut known)? || watcher.lists_on(NAMED) {
+            answers.push(named_answer(alloc, prepared, plan, answer)?)?;
+        } else {
+            whole = false;
+        }
     }
-    Ok(answers)
+    Ok(NamedAnswers { answers, whole })
+}
+
+// The outcome of fiber 0 at the end of an answer; `None` if the answer is a fault.
+fn first_outcome(answer: &OutcomeAnswer) -> Option<Option<Outcome>> {
+    match &answer.end {
+        Ok(outcomes) => outcomes.as_slice().first().copied(),
+        Err(_) => None,
+    }
 }
 
 // An answer in the names of the file.
