@@ -1,3 +1,3 @@
-pub mod Judging
+pub use Rattle.claim_verdicts.specs.Judging
 pub mod Leaves
 pub mod Conditions

@@ -1,8 +1,8 @@
 //! Claims.
 
 use crate::condition::{Condition, Wanted};
-use crate::judging::Rule;
 use crate::moment::MomentWord;
+use claim_verdicts::Rule;
 use model_terms::Probe;
 
 /// A way to end that a `want` names.

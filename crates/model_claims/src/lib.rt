@@ -1,28 +1,25 @@
 //! The claims of a model, and their verdicts.
 //!
 //! This crate uses the forms and items of a model file (`model_forms`, `model_text`), the terms of its models
-//! (`model_terms`) and the outcomes of fibers (`effect_term`). [`read_claims`] reads the claims of a model, or returns
+//! (`model_terms`), the outcomes of fibers (`effect_term`) and the verdict over all answers (`claim_verdicts`). [`read_claims`] reads the claims of a model, or returns
 //! the first fault with its place. A [`Claim`] has a [`Condition`] over one answer and the probe that its term needs; a
 //! claim that is checked in each world has [`MomentWord`]s. [`read_settings`] reads the bounds of a model. [`truth_in`]
 //! returns the truth of a claim at one answer, and [`judge`] the verdict over all answers. No function here calls
 //! itself, so claims nest to any depth.
 //!
-//! It promises the verdict of [`judge`]. A claim about every answer fails only if an answer refutes it, and passes only
-//! if none does and there are no other answers. A claim about some answer passes only if an answer meets it, and fails
-//! only if none does and there are no other answers. Otherwise a claim is undecided. `fails` exchanges passed and
-//! failed. The shown answer is the first that decides. [`truth_of`] and [`truth_in`] are proved to run the words of a
-//! condition over the fibers of the answer, as `specs/Conditions.antt` states. For [`read_claims`], [`read_settings`]
-//! and [`has_forever`] only safety and termination are proved.
+//! [`truth_of`] and [`truth_in`] are proved to run the words of a condition over the fibers of the answer, as
+//! `specs/Conditions.antt` states. For [`read_claims`], [`read_settings`], [`has_forever`] and [`marks_in_loops`] only
+//! safety and termination are proved.
 #![tactic(auto)]
 
 mod answer;
 mod bounds;
 mod claim;
+mod claim_faults;
 mod compile;
 mod condition;
 mod endless;
 mod faults;
-mod judging;
 mod leaf;
 mod moment;
 mod names;
@@ -37,9 +34,9 @@ mod words;
 pub use answer::{FiberName, Seen, SeenFiber};
 pub use bounds::{Settings, check_defaults, read_settings};
 pub use claim::{Claim, Want};
-pub use condition::{Comparison, Condition, Wanted, Who, Word};
-pub use endless::has_forever;
-pub use judging::{Judged, Rule, Truth, Verdict, judge, under};
+pub use claim_verdicts::{Judged, Rule, Truth, Verdict, judge, under};
+pub use condition::{Comparison, Condition, Spoken, SpokenName, Wanted, Who, Word};
+pub use endless::{has_forever, marks_in_loops};
 pub use leaf::{is_wanted, speaks_of};
 pub use moment::MomentWord;
 pub use reader::read_claims;

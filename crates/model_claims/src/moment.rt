@@ -1,7 +1,7 @@
 //! Claims on refs at any moment and at the end, in the form that a search checks in each world.
 
 use crate::condition::{Comparison, Word};
-use crate::judging::Rule;
+use claim_verdicts::Rule;
 use effect_term::Value;
 use std::alloc::{AllocError, Global};
 
@@ -97,6 +97,6 @@ fn moment_word(first: u16, word: Word) -> Option<MomentWord> {
         Word::Ends(_, _, _) => None,
         Word::Said(_, _, _) => None,
         Word::Says(_, _, _) => None,
-        Word::Late(_) => None,
+        Word::Late => None,
     }
 }

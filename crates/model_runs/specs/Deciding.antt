@@ -3,7 +3,7 @@ use Rattle.std.specs.Prelude.{◌≡◌, ◌⊎◌, ℕ, List, map, Option, Some
 use Rattle.std.specs.List.{slice_get}
 use Rattle.model_terms.specs.declared.source.Source.{Source}
 use Rattle.model_claims.specs.declared.claim.Claim.{Claim}
-use Rattle.model_claims.specs.declared.judging.Verdict.{Verdict}
+use Rattle.claim_verdicts.specs.declared.judging.Verdict.{Verdict}
 use Rattle.model_claims.specs.Conditions.{truth_in}
 use Rattle.model_claims.specs.Judging.{IsJudged, under}
 use Rattle.model_runs.specs.declared.result.ClaimResult.{ClaimResult}

@@ -15,10 +15,10 @@ use Rattle.every_schedule.specs.Claims.{IsMetIn, Meets}
 use Rattle.model_claims.specs.declared.claim.Claim.{Claim}
 use Rattle.model_claims.specs.declared.condition.Comparison.{Comparison}
 use Rattle.model_claims.specs.declared.condition.Comparison.TheVariants as comparisons
-use Rattle.model_claims.specs.declared.judging.Rule.{Rule}
-use Rattle.model_claims.specs.declared.judging.Rule.TheVariants as rules
-use Rattle.model_claims.specs.declared.judging.Verdict.{Verdict}
-use Rattle.model_claims.specs.declared.judging.Verdict.TheVariants as verdicts
+use Rattle.claim_verdicts.specs.declared.judging.Rule.{Rule}
+use Rattle.claim_verdicts.specs.declared.judging.Rule.TheVariants as rules
+use Rattle.claim_verdicts.specs.declared.judging.Verdict.{Verdict}
+use Rattle.claim_verdicts.specs.declared.judging.Verdict.TheVariants as verdicts
 use Rattle.model_claims.specs.declared.moment.MomentWord.{MomentWord}
 use Rattle.model_claims.specs.declared.moment.MomentWord.TheVariants as moments
 use Rattle.model_claims.specs.Judging.{under}

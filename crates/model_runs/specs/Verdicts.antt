@@ -1,8 +1,8 @@
 -- The verdict of a model.
 use Rattle.std.specs.Prelude.{Bool, true, false, if◌then◌else◌, List}
 use Rattle.std.specs.List.{list_any}
-use Rattle.model_claims.specs.declared.judging.Verdict.{Verdict}
-use Rattle.model_claims.specs.declared.judging.Verdict.TheVariants as verdict
+use Rattle.claim_verdicts.specs.declared.judging.Verdict.{Verdict}
+use Rattle.claim_verdicts.specs.declared.judging.Verdict.TheVariants as verdict
 use Rattle.model_runs.specs.declared.result.ClaimResult.{ClaimResult}
 
 -- whether a claim with this verdict has failed

@@ -10,7 +10,7 @@ ghost use Rattle.cell_registry.specs.Cells.{AreLimits};
 ghost use Rattle.cell_registry.specs.declared.limits.Limits.{Limits as TheLimits};
 ghost use Rattle.world_search.specs.Claims.{IsFound};
 ghost use Rattle.every_schedule.specs.declared.claims.ClaimWord.{ClaimWord};
-ghost use Rattle.model_claims.specs.declared.judging.Verdict.{Verdict as TheVerdict};
+ghost use Rattle.claim_verdicts.specs.declared.judging.Verdict.{Verdict as TheVerdict};
 ghost use Rattle.model_claims.specs.Judging.{under as under_fails};
 ghost use Rattle.model_runs.specs.Moments.{AreMet, IsJudgedAt, IsShownAt, has_fault, soughts as all_soughts};
 ghost use Rattle.model_runs.specs.Private.Looking.{IsMetAt, IsRightAt, IsRightAtSome, by_search};
@@ -76,7 +76,9 @@ fn look<V: Watcher>(
     if wanted.is_empty() {
         return Ok(nothing_found(alloc));
     }
-    let found = search_by_plan(alloc, prepared, plan, wanted.as_slice(), watcher)?;
+    let is_hopeful = are_hopeful(claims);
+    let conditions = wanted.as_slice();
+    let found = search_by_plan(alloc, prepared, plan, conditions, is_hopeful, watcher)?;
     let answers = answers_of(
         alloc,
         prepared,
@@ -86,6 +88,16 @@ fn look<V: Watcher>(
     )?;
     let marked = !may_leave_marks(prepared, plan);
     Ok(found_moments(found, marked, answers))
+}
+
+// Whether a moment is expected to decide each claim at any moment: it is about some moment, or has to be refuted.
+fn are_hopeful(claims: &[Claim]) -> bool {
+    for claim in claims {
+        if claim.moment.is_some() && (claim.rule == Rule::Some) == claim.fails {
+            return false;
+        }
+    }
+    true
 }
 
 // The result without a search.

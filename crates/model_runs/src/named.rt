@@ -26,6 +26,8 @@ pub struct Named {
     /// For each event, in the same order, the number of the form of the file that its move comes from. `None` if the
     /// move comes from no word, as a look.
     pub forms: Vec<Option<usize>>,
+    /// The entries, as events count them, whose moves are `say`s that a probe added to the term.
+    pub added: Vec<usize>,
     /// The name of each fiber, in the order of their numbers.
     pub fibers: Vec<FiberName>,
     /// The name of each ref, in the order of their numbers.
@@ -38,11 +40,20 @@ pub struct Named {
     pub end: Result<Report, RunError>,
 }
 
+impl Named {
+    /// Whether an event of the replay is a `say` that a probe added to the term.
+    pub fn is_added(&self, event: &Event) -> bool {
+        self.added.as_slice().contains(&event.entry)
+    }
+}
+
 /// The names of the fibers, refs and deferreds of a replay, and the forms of its moves.
 #[derive(Drop)]
 pub(crate) struct Names {
     /// For each event, the form that its move comes from.
     pub forms: Vec<Option<usize>>,
+    /// The entries whose moves are `say`s that a probe added.
+    pub added: Vec<usize>,
     /// The names of the fibers.
     pub fibers: Vec<FiberName>,
     /// The names of the refs.
@@ -73,6 +84,7 @@ pub(crate) fn replay_named(
     )?;
     let Names {
         forms,
+        added,
         fibers,
         refs,
         deferreds,
@@ -80,6 +92,7 @@ pub(crate) fn replay_named(
     Ok(Named {
         events: told.events,
         forms,
+        added,
         fibers,
         refs,
         deferreds,
@@ -99,6 +112,7 @@ fn names_of(
 {
     let mut names = Names {
         forms: Vec::new(alloc),
+        added: Vec::new(alloc),
         fibers: Vec::new(alloc),
         refs: Vec::new(alloc),
         deferreds: Vec::new(alloc),
@@ -122,6 +136,9 @@ fn note(names: &mut Names, event: Event, origin: Option<Origin>) -> Result<(), A
 {
     let deed = event.deed;
     names.forms.push(form_of(event, origin))?;
+    if is_added_say(event, origin) {
+        names.added.push(event.entry)?;
+    }
     match deed {
         Deed::Called(Call::Start, Reply::Number(_)) => names.fibers.push(fiber_name(origin))?,
         Deed::Called(Call::NewRef, Reply::Number(_)) => names.refs.push(cell_name(origin))?,
@@ -139,6 +156,14 @@ fn form_of(event: Event, origin: Option<Origin>) -> Option<usize> {
         origin?.form
     } else {
         None
+    }
+}
+
+// Whether an event is a `say` whose word, of this origin, a probe added.
+fn is_added_say(event: Event, origin: Option<Origin>) -> bool {
+    match event.mark {
+        Some(Mark::Say(_)) => origin.is_some_and(|it| it.is_added),
+        _ => false,
     }
 }
 

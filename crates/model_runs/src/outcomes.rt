@@ -13,43 +13,13 @@ ghost use Rattle.model_runs.specs.Seeing.{AreOutcomesOf, IsRight, IsSeen};
 use crate::plan::Plan;
 use crate::prepared::Prepared;
 use crate::result::{NamedAnswer, Search};
-use crate::searching::{
-    FIRST, Known, NAMED, NamedAnswers, TIMES_MORE, drawn_by_plan, is_first, named_end, with_drawn,
-};
+use crate::searching::{Ends, Explored, NamedAnswers, is_named, named_end};
 use cell_registry::RunError;
 use effect_term::{Outcome, Program};
 use every_outcome::{
     Bounds, OutcomeAnswer, OutcomeExploration, Outcomes, Watcher, explore_outcomes, shortened,
 };
 use std::alloc::{AllocError, Global};
-
-// Explores the outcomes of a program within the plan: with 10,000 worlds at first, and then with ten times as many, up
-// to those of the plan.
-fn explore_by_plan<V: Watcher>(
-    alloc: Global,
-    program: &Program,
-    plan: Plan,
-    watcher: &mut V,
-) -> Result<OutcomeExploration, RunError>
-    requires limits { AreLimits plan.limits }
-    ensures all { IfOk result (λ it. it.complete ≡ true → (count : ℕ) (schedule : List ℕ) →
-        IsCovered plan.limits it.answers.items
-        (core (code_of (source_of program.now)) (counted plan.limits count) schedule)) }
-    ensures each { IfOk result (λ it. All (IsReached (code_of (source_of program.now)) plan.limits) it.answers.items) }
-{
-    let mut worlds = FIRST;
-    for _ in 0..TIMES_MORE {
-        if worlds >= plan.worlds {
-            break;
-        }
-        let found = explore_with(alloc, program, plan, worlds, &mut *watcher)?;
-        if found.complete || found.halted || found.worlds < worlds {
-            return Ok(found);
-        }
-        worlds = worlds.saturating_mul(10);
-    }
-    explore_with(alloc, program, plan, plan.worlds, watcher)
-}
 
 // Explores the outcomes of a program with at most this number of worlds.
 fn explore_with<V: Watcher>(
@@ -73,42 +43,26 @@ fn explore_with<V: Watcher>(
     explore_outcomes(alloc, program, plan.limits, bounds, watcher)
 }
 
-/// Searches the outcomes of a term within the plan, until the watcher ends the search. If not every schedule was
-/// explored, some are drawn at random.
+/// Searches the outcomes of a term in at most this number of worlds, until the watcher ends the search.
 pub(crate) fn search_outcomes<V: Watcher>(
     alloc: Global,
     prepared: &Prepared,
     plan: Plan,
+    worlds: usize,
     watcher: &mut V,
-) -> Result<Search, RunError>
+) -> Result<Explored, RunError>
     requires limits { AreLimits plan.limits }
     requires count { plan.entries ≤ plan.limits.count }
-    ensures { IfOk result (IsRight (code_of (source_of prepared.now.program)) plan.limits) }
+    ensures { IfOk result (λ it. IsRight (code_of (source_of prepared.now.program)) plan.limits it.search) }
 {
-    let explored = explore_by_plan(alloc, &prepared.program, plan, &mut *watcher)?;
+    let explored = explore_with(alloc, &prepared.program, plan, worlds, &mut *watcher)?;
     let found = sorted(shortened(explored, plan.entries as usize))?;
-    let listed = explored_answers(
-        alloc,
-        prepared,
-        plan,
-        found.answers.as_slice(),
-        &mut *watcher,
-    )?;
-    if found.complete && listed.whole {
-        return Ok(search_of(&found, 0, listed.answers));
-    }
-    let halted = found.halted || !listed.whole;
-    let drawn = drawn_by_plan(alloc, &prepared.program, plan, halted, watcher)?;
-    let known = Known::Outcomes(found.answers.as_slice());
-    let comings = drawn.comings.as_slice();
-    let more = with_drawn(alloc, prepared, plan, known, comings, listed.answers)?;
-    Ok(Search {
-        complete: false,
-        halted,
-        marked: false,
-        worlds: found.worlds,
-        sampled: drawn.schedules,
-        answers: more,
+    let named = explored_answers(alloc, prepared, plan, found.answers.as_slice(), watcher)?;
+    let search = search_of(&found, named);
+    let OutcomeExploration { answers: ends, .. } = found;
+    Ok(Explored {
+        search,
+        ends: Ends::Outcomes(ends),
     })
 }
 
@@ -169,7 +123,7 @@ fn explored_answers<V: Watcher>(
     let mut known = Vec::new(alloc);
     let mut whole = true;
     for answer in found {
-        if is_first(first_outcome(answer), &mut known)? || watcher.lists_on(NAMED) {
+        if is_named(first_outcome(answer), &mut known, &mut *watcher)? {
             answers.push(named_answer(alloc, prepared, plan, answer)?)?;
         } else {
             whole = false;
@@ -202,19 +156,19 @@ fn named_answer(
     named_end(alloc, prepared, plan, entries, held, 0)
 }
 
-// The result of a search: an exploration, the number of schedules that were drawn, and the answers of both.
-fn search_of(found: &OutcomeExploration, sampled: u32, answers: Vec<NamedAnswer>) -> Search
+// The exploration as a search, with these answers. If not all were named, the watcher has ended the search.
+fn search_of(found: &OutcomeExploration, named: NamedAnswers) -> Search
     ensures marked { result.marked ≡ false }
-    ensures complete { result.complete ≡ found.now.complete }
-    ensures halted { result.halted ≡ found.now.halted }
-    ensures answers { result.answers.items ≡ answers.items }
+    ensures complete { result.complete ≡ true → found.now.complete ≡ true }
+    ensures whole { result.complete ≡ true → named.whole ≡ true }
+    ensures answers { result.answers.items ≡ named.answers.items }
 {
     Search {
-        complete: found.complete,
-        halted: found.halted,
+        complete: found.complete && named.whole,
+        halted: found.halted || !named.whole,
         marked: false,
         worlds: found.worlds,
-        sampled,
-        answers,
+        sampled: 0,
+        answers: named.answers,
     }
 }

@@ -1,8 +1,8 @@
 -- The status of verdicts is one of three.
 use Rattle.std.proofs.Common.{Bool, true, false, List, if◌then◌else◌}
 use Rattle.std.specs.List.{list_any}
-use Rattle.model_claims.specs.declared.judging.Verdict.{Verdict}
-use Rattle.model_suites.specs.Verdicts.{is_failed, is_undecided, status_of}
+use Rattle.claim_verdicts.specs.declared.judging.Verdict.{Verdict}
+use Rattle.suite_statuses.specs.Verdicts.{is_failed, is_undecided, status_of}
 use Rattle.model_suites.specs.Statuses.{IsSuiteStatus}
 use Rattle.text_io.specs.declared.status.Status.TheVariants.{Succeeded, Errored, Unended}
 

@@ -1,2 +1,2 @@
 pub mod Statuses
-pub mod Verdicts
+pub use Rattle.suite_statuses.specs.Verdicts

@@ -3,7 +3,6 @@ ghost use Rattle.std.specs.Prelude.{◌≡◌, ◌<◌, ◌↔◌, [], IfOk, IsN
 ghost use Rattle.wait_bay.specs.Names.{named_of};
 ghost use Rattle.wait_bay.specs.Bays.{IsSeatOf, IsWithin};
 
-use crate::laws::Slot;
 use crate::lists::{Lists, WaiterList};
 use crate::rule::{BayRule, Knowledge, Names, Same};
 use crate::seat::BaySeat;
@@ -11,6 +10,7 @@ use atomic_table::Table;
 use cell_registry::Registry;
 use derived_ops::Code;
 use fiber_poll::{FiberTask, Topic};
+use slot_laws::Slot;
 use std::alloc::{AllocError, Global};
 use std::marker::Model;
 use std::sync::atomic::Ordering;

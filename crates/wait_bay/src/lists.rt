@@ -1,8 +1,8 @@
 //! The lists of waiting fibers, by the numbers of what they wait for.
 ghost use Rattle.std.specs.Prelude.{◌≡◌, ◌<◌, ◌≤◌, ◌*◌, IfOk, vec_len};
 
-use crate::laws::Waiters;
 use once_cell::race::OnceBox;
+use slot_laws::Waiters;
 use std::alloc::{AllocError, Global};
 use std::sync::Mutex;
 use std::sync::atomic::AtomicBool;

@@ -7,10 +7,10 @@ use Rattle.derived_ops.specs.Tree.{Tree}
 use Rattle.cell_registry.specs.declared.limits.Limits.{Limits}
 use Rattle.world_search.specs.declared.claims.Met.{Met}
 use Rattle.every_schedule.specs.declared.claims.ClaimWord.{ClaimWord}
-use Rattle.model_claims.specs.declared.judging.Rule.{Rule}
-use Rattle.model_claims.specs.declared.judging.Rule.TheVariants as rules
-use Rattle.model_claims.specs.declared.judging.Verdict.{Verdict}
-use Rattle.model_claims.specs.declared.judging.Verdict.TheVariants as verdicts
+use Rattle.claim_verdicts.specs.declared.judging.Rule.{Rule}
+use Rattle.claim_verdicts.specs.declared.judging.Rule.TheVariants as rules
+use Rattle.claim_verdicts.specs.declared.judging.Verdict.{Verdict}
+use Rattle.claim_verdicts.specs.declared.judging.Verdict.TheVariants as verdicts
 use Rattle.model_runs.specs.declared.moments.Moments.{Moments}
 use Rattle.model_claims.specs.declared.claim.Claim.{Claim}
 use Rattle.model_claims.specs.declared.moment.MomentWord.{MomentWord}
