@@ -17,9 +17,9 @@ use std::time::Clock;
 
 /// Tests the models of files. Returns `Status::Succeeded` if all passed, `Status::Errored` if one failed or there is
 /// none, `Status::Unended` if none failed and one is undecided, `Status::Refused` if a file has a fault, which is
-/// written to `err`, `Status::Usage` if something could be lost at the path of a report, and `Status::Fault` if a device
-/// failed or memory ran out. While models are explored, progress goes to `err` if the words ask for it. `colors` is
-/// whether verdicts have colours if the words leave that open.
+/// written to `err`, `Status::Usage` if something could be lost at the path of a report, and `Status::Fault` if a
+/// device failed or memory ran out. While models are explored, progress goes to `err` if the words ask for it. `colors`
+/// is whether verdicts have colours if the words leave that open.
 ///
 /// The reports of an earlier test are removed before any file is read. Models that are only listed have no reports.
 pub fn obey_test<R: Files + Clock + Threads + Wait + Sync, O: TextOut, E: TextOut>(

@@ -147,8 +147,8 @@ impl<'a> Reports<'a> {
         Ok(())
     }
 
-    /// Writes the reports behind what was printed, those in files first. A report that can't be written keeps no other one
-    /// from being written. Returns the first fault.
+    /// Writes the reports behind what was printed, those in files first. A report in a file that can't be written keeps
+    /// no other one from being written. Returns the first fault.
     pub(crate) fn write<R: Files, O: TextOut>(
         &self,
         rt: &R,
