@@ -98,7 +98,7 @@ class Claimer:
             return [word, name] + [it for number, it in enumerate(made) if it not in made[:number]]
         several = [it for it in near if len(set(it[2])) > 1]
         said = [self.number(it) for it in self.one(several if several and self.chance(0.7) else near)[2]][:4]
-        if self.chance(0.2):
+        if self.chance(0.3):
             self.maker.random.shuffle(said)
         if word == "said":
             said = [it for it in said if self.chance(0.7)] or said or ["1"]
