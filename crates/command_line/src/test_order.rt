@@ -11,9 +11,9 @@ use outcome_trace::{Status, TextFault, TextOut, tell_fault, write_text};
 use std::alloc::{AllocError, Global};
 use std::rt::Files;
 use std::sync::Wait;
+use std::thread;
 use std::thread::{Threads, join_mut};
 use std::time::Clock;
-use std::thread;
 
 /// Tests the models of files. Returns `Status::Succeeded` if all passed, `Status::Errored` if one failed or there is
 /// none, `Status::Unended` if none failed and one is undecided, `Status::Refused` if a file has a fault, which is
@@ -269,7 +269,11 @@ fn write_each<R: Clock + Wait, O: TextOut, E: TextOut>(
 }
 
 /// Writes a part of what is printed. A fault counts the bytes of the parts before it, too.
-pub(crate) fn write_part<O: TextOut>(text: &[u8], told: &mut Told, out: &mut O) -> Result<(), TextFault>
+pub(crate) fn write_part<O: TextOut>(
+    text: &[u8],
+    told: &mut Told,
+    out: &mut O,
+) -> Result<(), TextFault>
     requires { (O.seen out.old).failed ≡ false }
     ensures failed { (O.seen out.new).failed ≡ is_write_fault result }
     ensures only { OnlyOutFaults result }

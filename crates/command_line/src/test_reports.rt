@@ -254,7 +254,8 @@ fn refusal_words(refusal: Refusal) -> &'static str {
         Refusal::Other => "this file has something other than such a report in it",
         Refusal::Folder => "this is a folder",
         Refusal::Errors => "standard error is written to this file",
-        Refusal::Beside => "something other than a part of such a report is at this path with '.part' behind it",
+        Refusal::Beside =>
+            "something other than a part of such a report is at this path with '.part' behind it",
     }
 }
 

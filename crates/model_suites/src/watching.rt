@@ -62,11 +62,7 @@ impl<'w, C: Clock> Noting<'w, C> {
 
 /// Whether fewer than `seconds` seconds have passed since `begun`, or there is no such limit. If the clock fails, the
 /// time isn't over.
-pub(crate) fn is_within<C: Clock>(
-    clock: &C,
-    begun: Option<Instant>,
-    seconds: Option<u64>,
-) -> bool
+pub(crate) fn is_within<C: Clock>(clock: &C, begun: Option<Instant>, seconds: Option<u64>) -> bool
     ensures { result ≡ false → is_some seconds ≡ true }
 {
     if seconds.is_none() {
