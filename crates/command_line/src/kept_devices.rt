@@ -42,7 +42,7 @@ impl<I> KeptInput<I> {
         ensures input { input_of self.new ≡ input_of self.old }
         ensures kept { (text_of self.new ≡ text_of self.old ++ bytes.now) ⊎ (text_of self.new ≡ []) }
     {
-        if self.whole && self.text.extend_from_slice(bytes).is_err() {
+        if !self.whole || self.text.extend_from_slice(bytes).is_err() {
             self.whole = false;
             self.text.clear();
         }

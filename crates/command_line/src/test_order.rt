@@ -11,15 +11,15 @@ use outcome_trace::{Status, TextFault, TextOut, tell_fault, write_text};
 use std::alloc::{AllocError, Global};
 use std::rt::Files;
 use std::sync::Wait;
+use std::thread;
 use std::thread::{Threads, join_mut};
 use std::time::Clock;
-use std::thread;
 
 /// Tests the models of files. Returns `Status::Succeeded` if all passed, `Status::Errored` if one failed or there is
 /// none, `Status::Unended` if none failed and one is undecided, `Status::Refused` if a file has a fault, which is
-/// written to `err`, `Status::Usage` if something could be lost at the path of a report, and `Status::Fault` if a device
-/// failed or memory ran out. While models are explored, progress goes to `err` if the words ask for it. `colors` is
-/// whether verdicts have colours if the words leave that open.
+/// written to `err`, `Status::Usage` if something could be lost at the path of a report, and `Status::Fault` if a
+/// device failed or memory ran out. While models are explored, progress goes to `err` if the words ask for it. `colors`
+/// is whether verdicts have colours if the words leave that open.
 ///
 /// The reports of an earlier test are removed before any file is read. Models that are only listed have no reports.
 pub fn obey_test<R: Files + Clock + Threads + Wait + Sync, O: TextOut, E: TextOut>(
@@ -269,7 +269,11 @@ fn write_each<R: Clock + Wait, O: TextOut, E: TextOut>(
 }
 
 /// Writes a part of what is printed. A fault counts the bytes of the parts before it, too.
-pub(crate) fn write_part<O: TextOut>(text: &[u8], told: &mut Told, out: &mut O) -> Result<(), TextFault>
+pub(crate) fn write_part<O: TextOut>(
+    text: &[u8],
+    told: &mut Told,
+    out: &mut O,
+) -> Result<(), TextFault>
     requires { (O.seen out.old).failed ≡ false }
     ensures failed { (O.seen out.new).failed ≡ is_write_fault result }
     ensures only { OnlyOutFaults result }

@@ -147,8 +147,8 @@ impl<'a> Reports<'a> {
         Ok(())
     }
 
-    /// Writes the reports behind what was printed, those in files first. A report that can't be written keeps no other one
-    /// from being written. Returns the first fault.
+    /// Writes the reports behind what was printed, those in files first. A report in a file that can't be written keeps
+    /// no other one from being written. Returns the first fault.
     pub(crate) fn write<R: Files, O: TextOut>(
         &self,
         rt: &R,
@@ -254,7 +254,8 @@ fn refusal_words(refusal: Refusal) -> &'static str {
         Refusal::Other => "this file has something other than such a report in it",
         Refusal::Folder => "this is a folder",
         Refusal::Errors => "standard error is written to this file",
-        Refusal::Beside => "something other than a part of such a report is at this path with '.part' behind it",
+        Refusal::Beside =>
+            "something other than a part of such a report is at this path with '.part' behind it",
     }
 }
 

@@ -54,8 +54,7 @@ const ATOMIC_CELL: &str =
 
 const HOTSWAP: &str = "no such word: a ref says which resource is in use: models/hotswap.fm";
 
-const DISPATCHER: &str =
-    "no such word: a worker fiber that starts the tasks: models/dispatcher.fm";
+const DISPATCHER: &str = "no such word: a worker fiber that starts the tasks: models/dispatcher.fm";
 
 const CALLBACK: &str = "a deferred, which another fiber completes: `(await d)`";
 
@@ -80,7 +79,10 @@ pub const NOTES: [(&str, &str); 157] = [
     (">>", IN_ORDER),
     (">>=", LET),
     ("AtomicCell", ATOMIC_CELL),
-    ("Channel", "no such word: refs for the stock and the close: models/producer-consumer.fm"),
+    (
+        "Channel",
+        "no such word: refs for the stock and the close: models/producer-consumer.fm",
+    ),
     (
         "CountDownLatch",
         "no such word: a ref that counts down and a deferred: models/count-down-latch.fm",
@@ -106,22 +108,34 @@ pub const NOTES: [(&str, &str); 157] = [
     ("adaptError", "`(handle e x (raise v))`"),
     ("allocated", RESOURCE),
     ("and", TEST),
-    ("andWait", "`(do e (cede))`: there are no clocks, and every order of moves is explored"),
+    (
+        "andWait",
+        "`(do e (cede))`: there are no clocks, and every order of moves is explored",
+    ),
     ("as", "`(do e v)`"),
     ("async", CALLBACK),
     ("async_", CALLBACK),
-    ("attempt", "`(handle e x h)`: h with the code x, if e raises one; there is no Either"),
+    (
+        "attempt",
+        "`(handle e x h)`: h with the code x, if e raises one; there is no Either",
+    ),
     (
         "background",
         "`(uncancelable p (start f e) (guarantee (poll p k) (cancel f)))`: models/background.fm",
     ),
     ("blocking", NOTED),
-    ("bothOutcome", "no such word: start both sides, and `(join f x s y e c)` each"),
+    (
+        "bothOutcome",
+        "no such word: start both sides, and `(join f x s y e c)` each",
+    ),
     ("bracketCase", "`(bracketcase x acq body y rs z re rc)`"),
     ("bracketFull", "`(bracketfull p x acq body y rs z re rc)`"),
     ("compareAndSet", LOCKED),
     ("delay", NOTED),
-    ("delayBy", "`(do (cede) e)`: there are no clocks, and every order of moves is explored"),
+    (
+        "delayBy",
+        "`(do (cede) e)`: there are no clocks, and every order of moves is explored",
+    ),
     ("evalGetAndUpdate", ATOMIC_CELL),
     ("evalMap", LET),
     ("evalModify", ATOMIC_CELL),
@@ -153,7 +167,10 @@ pub const NOTES: [(&str, &str); 157] = [
     ("interruptible", NOTED),
     ("iterateUntil", WHILE),
     ("iterateWhile", WHILE),
-    ("joinWith", "`(join f x x y (raise y) c)`: c if f was canceled"),
+    (
+        "joinWith",
+        "`(join f x x y (raise y) c)`: c if f was canceled",
+    ),
     ("joinWithNever", "`(join f x x y (raise y) (never))`"),
     ("joinWithUnit", "`(join f x x y (raise y) 0)`"),
     ("lock", MUTEX),
@@ -188,7 +205,10 @@ pub const NOTES: [(&str, &str); 157] = [
     ("product", PAIR),
     ("productL", "`(let x a)`, then b, then x"),
     ("productR", IN_ORDER),
-    ("raceOutcome", "no such word: `(race a b)` gives the winner's value, or raises its error"),
+    (
+        "raceOutcome",
+        "no such word: `(race a b)` gives the winner's value, or raises its error",
+    ),
     ("racePair", UNDECIDED_RACE),
     ("raceWith", UNDECIDED_RACE),
     ("raiseError", "`(raise v)`"),
@@ -205,7 +225,10 @@ pub const NOTES: [(&str, &str); 157] = [
     ("replicateA_", REPEATED),
     ("sequence", EACH),
     ("sequence_", EACH),
-    ("sleep", "`(cede)`: there are no clocks, and every order of moves is explored"),
+    (
+        "sleep",
+        "`(cede)`: there are no clocks, and every order of moves is explored",
+    ),
     ("spawn", STARTED),
     ("startOn", STARTED),
     ("supervise", SUPERVISOR),
@@ -214,7 +237,10 @@ pub const NOTES: [(&str, &str); 157] = [
     ("tailRecM", WHILE),
     ("take", QUEUE),
     ("timed", NO_CLOCK),
-    ("timeout", "`(race e (raise v))`: there are no clocks, and each side can end first"),
+    (
+        "timeout",
+        "`(race e (raise v))`: there are no clocks, and each side can end first",
+    ),
     (
         "timeoutAndForget",
         "no such word: e in a fiber that another fiber cancels, and nobody waits for it: models/timeout.fm",
@@ -226,7 +252,10 @@ pub const NOTES: [(&str, &str); 157] = [
     ("traverse", EACH),
     ("traverse_", EACH),
     ("tryAcquire", SEMAPHORE),
-    ("tryGet", "no such word: a ref beside the deferred, set in one mask with its completion"),
+    (
+        "tryGet",
+        "no such word: a ref beside the deferred, set in one mask with its completion",
+    ),
     ("tryModify", LOCKED),
     ("tryOffer", QUEUE),
     ("tryTake", QUEUE),

@@ -93,7 +93,10 @@ pub(crate) fn condition_fault(alloc: Global, place: &Place, at: usize) -> Refuse
 fn condition_blame(place: &Place, at: usize) -> Blame {
     match test_of(name_at(place, at)) {
         None => unknown(place, at, NO_CONDITION),
-        Some(_) if !word_at(place.source, at).is_empty() => whole(at, " is a condition in brackets"),
+        Some(_) if !word_at(place.source, at).is_empty() => whole(
+            at,
+            " is a condition in brackets",
+        ),
         Some(Test::Not) => whole(at, " has one condition"),
         Some(Test::AllEnd | Test::NoDeadlock) => no_parts(place, at),
         Some(Test::Ends) => fiber_blame(place, at, " needs an outcome behind the fiber"),
@@ -118,7 +121,12 @@ fn fiber_blame(place: &Place, at: usize, missing: &'static str) -> Blame {
         return whole(at, " needs the name of a fiber");
     };
     if word_at(place.source, first).is_empty() {
-        return part(first, "the first part of ", at, " must be the name of a fiber");
+        return part(
+            first,
+            "the first part of ",
+            at,
+            " must be the name of a fiber",
+        );
     }
     match no_number(place, behind(place.source, parts)) {
         Some(value) => part(value, "what follows the fiber of ", at, NUMBER),
@@ -241,7 +249,10 @@ pub(crate) fn order_fault(alloc: Global, place: &Place, at: usize) -> Refused {
 // What is wrong with a `before`.
 fn order_blame(place: &Place, at: usize) -> Blame {
     let Some((one, other)) = both_at(place.source, parts_at(place.source, at)) else {
-        return whole(at, " has two parts: `(before (f v) (g w))`, f says v before g says w");
+        return whole(
+            at,
+            " has two parts: `(before (f v) (g w))`, f says v before g says w",
+        );
     };
     match saying_blame(place, at, one) {
         Some(blame) => blame,
@@ -255,7 +266,12 @@ fn order_blame(place: &Place, at: usize) -> Blame {
 // What is wrong with `(f v)`, a part of the `before` with the number `at`, if anything is.
 fn saying_blame(place: &Place, at: usize, saying: usize) -> Option<Blame> {
     let Some((_, number)) = both_at(place.source, inside_at(place.source, saying)) else {
-        return Some(part(saying, "each part of ", at, " is a fiber and a number: `(f v)`"));
+        return Some(part(
+            saying,
+            "each part of ",
+            at,
+            " is a fiber and a number: `(f v)`",
+        ));
     };
     if number_at(place.source, place.model, number).is_none() {
         return Some(part(number, "what a fiber says in ", at, NUMBER));

@@ -1,11 +1,11 @@
 //! The claims of a model, and their verdicts.
 //!
 //! This crate uses the forms and items of a model file (`model_forms`, `model_text`), the terms of its models
-//! (`model_terms`), the outcomes of fibers (`effect_term`) and the verdict over all answers (`claim_verdicts`). [`read_claims`] reads the claims of a model, or returns
-//! the first fault with its place. A [`Claim`] has a [`Condition`] over one answer and the probe that its term needs; a
-//! claim that is checked in each world has [`MomentWord`]s. [`read_settings`] reads the bounds of a model. [`truth_in`]
-//! returns the truth of a claim at one answer, and [`judge`] the verdict over all answers. No function here calls
-//! itself, so claims nest to any depth.
+//! (`model_terms`), the outcomes of fibers (`effect_term`) and the verdict over all answers (`claim_verdicts`).
+//! [`read_claims`] reads the claims of a model, or returns the first fault with its place. A [`Claim`] has a
+//! [`Condition`] over one answer and the probe that its term needs; a claim that is checked in each world has
+//! [`MomentWord`]s. [`read_settings`] reads the bounds of a model. [`truth_in`] returns the truth of a claim at one
+//! answer, and [`judge`] the verdict over all answers. No function here calls itself, so claims nest to any depth.
 //!
 //! [`truth_of`] and [`truth_in`] are proved to run the words of a condition over the fibers of the answer, as
 //! `specs/Conditions.antt` states. For [`read_claims`], [`read_settings`], [`has_forever`] and [`marks_in_loops`] only

@@ -7,9 +7,7 @@ use crate::condition::Who;
 use crate::faults::{Names, push_name, unknown_name};
 use crate::parts::{Place, bytes_at, form_at, word_at};
 use model_forms::form_bytes;
-use model_terms::{
-    Binder, BinderName, FiberName as Sayer, ModelTerm, NameKind, Refused, Source,
-};
+use model_terms::{Binder, BinderName, FiberName as Sayer, ModelTerm, NameKind, Refused, Source};
 use model_text::read_number;
 use std::alloc::{AllocError, Global};
 

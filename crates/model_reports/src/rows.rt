@@ -43,7 +43,11 @@ pub(crate) struct Rows {
 impl Rows {
     /// What the first rows make, if they are shown as one.
     pub(crate) fn made(&self) -> Option<Made> {
-        if self.made.rows > 0 { Some(self.made) } else { None }
+        if self.made.rows > 0 {
+            Some(self.made)
+        } else {
+            None
+        }
     }
 
     /// The rows behind those that are shown as one.

@@ -100,9 +100,11 @@ impl<'a> Goal<'a> {
     }
 }
 
-// Whether one of these answers has such a fiber, or none is needed.
+// Whether one of these answers has such a fiber, or no warning says that no schedule starts one: none is about `main` and
+// `*`, and none comes if a schedule ends in a fault.
 fn is_known(source: &Source, who: Who, found: Found) -> bool {
     matches!(who, Who::Main | Who::Everyone)
+        || has_fault(found)
         || is_started(source, who, found.explored)
         || is_started(source, who, found.others)
 }

@@ -138,7 +138,9 @@ pub(crate) fn search_by_plan<V: Watcher>(
         if is_last(&found, wanted.len(), worlds) {
             return with_drawn(found, drawn);
         }
-        draw_met(alloc, prepared, plan, wanted, worlds, is_hopeful, &mut drawn)?;
+        draw_met(
+            alloc, prepared, plan, wanted, worlds, is_hopeful, &mut drawn,
+        )?;
         if are_met(found.met.as_slice(), drawn.as_slice(), wanted.len()) {
             return with_drawn(found, drawn);
         }

@@ -150,8 +150,8 @@ fn all_worlds(searches: &[Search], moments: &Search) -> u64 {
     worlds
 }
 
-// Searches the term with each of these probes. `is_open` says that a claim about every moment depends on whether the term
-// without a probe has a fault.
+// Searches the term with each of these probes. `is_open` says that a claim about every moment depends on whether the
+// term without a probe has a fault.
 fn searches_of<V: Watcher>(
     alloc: Global,
     source: &Source,

@@ -37,11 +37,7 @@ fn fault_seen(alloc: Global) -> Seen
 }
 
 // What a claim sees of the fibers of a replay that ended with these reports.
-fn fibers_seen(
-    alloc: Global,
-    reports: &[FiberReport],
-    replay: &Named,
-) -> Result<Seen, AllocError>
+fn fibers_seen(alloc: Global, reports: &[FiberReport], replay: &Named) -> Result<Seen, AllocError>
     ensures outcomes { IfOk result (λ seen. map (λ f. f.outcome) seen.fibers.items ≡ map (λ f. f.outcome) reports.now) }
     ensures faultless { IfOk result (λ seen. seen.faulty ≡ false) }
 {

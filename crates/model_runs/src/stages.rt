@@ -1,5 +1,5 @@
-//! The search of a model's term in stages, each with more worlds than the one before, until it is complete or its answers
-//! decide all its claims.
+//! The search of a model's term in stages, each with more worlds than the one before, until it is complete or its
+//! answers decide all its claims.
 //!
 //! An exploration finds short schedules first, but few ends before it has most of its worlds. Schedules that are drawn
 //! at random come to their ends at once. So some are drawn before each stage that takes long.
@@ -80,8 +80,25 @@ pub(crate) fn search_in_stages<V: Watcher>(
         if is_last(&stage.search, worlds) {
             return last(alloc, prepared, plan, goal, stage, before, watcher);
         }
-        if draw_between(alloc, prepared, plan, goal, &stage, worlds, &mut before, &mut *watcher)? {
-            return last(alloc, prepared, plan, goal, halted_with(stage, &before), before, watcher);
+        if draw_between(
+            alloc,
+            prepared,
+            plan,
+            goal,
+            &stage,
+            worlds,
+            &mut before,
+            &mut *watcher,
+        )? {
+            return last(
+                alloc,
+                prepared,
+                plan,
+                goal,
+                halted_with(stage, &before),
+                before,
+                watcher,
+            );
         }
         keep(&mut before, stage.search)?;
         worlds = worlds.saturating_mul(10);

@@ -16,8 +16,8 @@ use model_text::Model;
 use std::alloc::{AllocError, Global};
 
 /// Returns the numbers of the refs that claims at any moment name and that no schedule sets; none if the search for
-/// moments isn't complete. A ref that an answer sets is one that a schedule sets. The others are sought in the worlds of
-/// one more search.
+/// moments isn't complete. A ref that an answer sets is one that a schedule sets. The others are sought in the worlds
+/// of one more search.
 pub(crate) fn unset_refs<V: Watcher>(
     alloc: Global,
     source: &Source,

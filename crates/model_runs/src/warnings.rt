@@ -42,8 +42,8 @@ impl Warning {
     }
 }
 
-/// Returns the warnings about a model with this term, these claims, and their results by these searches. No schedule sets
-/// the refs with the numbers `unset`, among those that claims at any moment name.
+/// Returns the warnings about a model with this term, these claims, and their results by these searches. No schedule
+/// sets the refs with the numbers `unset`, among those that claims at any moment name.
 pub(crate) fn warnings_of(
     alloc: Global,
     source: &Source,

@@ -9,9 +9,9 @@ use model_text::Model;
 use std::alloc::{AllocError, Global};
 use term_parse::{ParseError, Word, parse};
 use term_writing::{
-    Binder, BinderName, ComputedSay, FiberName, Here, Limit, MOST_BYTES, NONE, NameKind, Operand, Reading,
-    Refused, SaidBy, Stop, Task, View, WordPlace, Writing, first_of, span_of, term_refused,
-    write_all,
+    Binder, BinderName, ComputedSay, FiberName, Here, Limit, MOST_BYTES, NONE, NameKind, Operand,
+    Reading, Refused, SaidBy, Stop, Task, View, WordPlace, Writing, first_of, span_of,
+    term_refused, write_all,
 };
 
 /// A fiber's name in a file, and a value that it says.

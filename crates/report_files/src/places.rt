@@ -104,10 +104,7 @@ pub(crate) fn kind_at<R: Files>(
     }
     let mut front = vec![in alloc; 0u8; head.len()]?;
     match read_front(rt, path, front.as_mut_slice()) {
-        Some(count) => Ok(Kind::File(content_of(
-            front.get(..count).unwrap_or(&[]),
-            head,
-        ))),
+        Some(count) => Ok(Kind::File(content_of(front.get(..count).unwrap_or(&[]), head))),
         None => Ok(Kind::File(Content::Other)),
     }
 }

@@ -6,12 +6,12 @@ use Rattle.report_files.proofs.writing.write_whole.Goals.{in-Ok, in-Err}
 
 pub loop-preserved : goal.loop-preserved
 loop-preserved g c = elim c.match-write.branch [
-    in-Ok w ↦ record {
-      within = grind (arith, common_steps, w.written-is, w.in-Ok.ensures.bound);
-      written = grind (arith, common_steps, appends_more, w.written-is, w.in-Ok.ensures.bytes, c.loop.invariant.written);
-    }
+  | in-Ok w ↦ record {
+    within = grind (arith, common_steps, w.written-is, w.in-Ok.ensures.bound);
+    written = grind (arith, common_steps, appends_more, w.written-is, w.in-Ok.ensures.bytes, c.loop.invariant.written);
+  }
   | in-Err w ↦ record {
-      within = grind (arith, common_steps, w.written-is);
-      written = grind (arith, common_steps, appends_none, w.written-is, w.in-Err.ensures.bytes, c.loop.invariant.written);
-    }
-  ]
+    within = grind (arith, common_steps, w.written-is);
+    written = grind (arith, common_steps, appends_none, w.written-is, w.in-Err.ensures.bytes, c.loop.invariant.written);
+  }
+]
