@@ -75,12 +75,12 @@ class Compared:
     def found(self, claim, got):
         """Compares what was found with the answers, or the moments, that settle the claim."""
         fibers = [(it["fiber"], outcome_of(it["outcome"])) for it in got["found"] if "fiber" in it]
-        refs = {it["ref"]: it["value"] for it in got["found"] if "ref" in it}
+        refs = {(it["ref"], it["value"]) for it in got["found"] if "ref" in it}
         if claim.word == "before":
             return
         settling = [it for it in claim.facts(self.facts) if claim.is_settled_by(it)]
         if claim.refs:
-            is_there = any(all(refs.get(name) == value for name, value in it.items()) for it in settling)
+            is_there = any(refs >= set(it.items()) for it in settling)
         else:
             is_there = any(same_fibers(fibers, it) for it in settling)
         if not is_there:
