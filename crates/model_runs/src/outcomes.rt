@@ -13,9 +13,9 @@ ghost use Rattle.model_runs.specs.Seeing.{AreOutcomesOf, IsRight, IsSeen};
 use crate::plan::Plan;
 use crate::prepared::Prepared;
 use crate::result::{NamedAnswer, Search};
-use crate::searching::{Ends, Explored, NamedAnswers, is_named, named_end};
+use crate::searching::{Ends, Explored, named_end};
 use cell_registry::RunError;
-use effect_term::{Outcome, Program};
+use effect_term::Program;
 use every_outcome::{
     Bounds, OutcomeAnswer, OutcomeExploration, Outcomes, Watcher, explore_outcomes, shortened,
 };
@@ -55,10 +55,10 @@ pub(crate) fn search_outcomes<V: Watcher>(
     requires count { plan.entries ≤ plan.limits.count }
     ensures { IfOk result (λ it. IsRight (code_of (source_of prepared.now.program)) plan.limits it.search) }
 {
-    let explored = explore_with(alloc, &prepared.program, plan, worlds, &mut *watcher)?;
+    let explored = explore_with(alloc, &prepared.program, plan, worlds, watcher)?;
     let found = sorted(shortened(explored, plan.entries as usize))?;
-    let named = explored_answers(alloc, prepared, plan, found.answers.as_slice(), watcher)?;
-    let search = search_of(&found, named);
+    let answers = explored_answers(alloc, prepared, plan, found.answers.as_slice())?;
+    let search = search_of(&found, answers);
     let OutcomeExploration { answers: ends, .. } = found;
     Ok(Explored {
         search,
@@ -105,39 +105,22 @@ fn rank(end: &Result<Outcomes, RunError>) -> u8 {
     }
 }
 
-// The answers of an exploration of outcomes, in the names of the file. The watcher can end the list; then only the first
-// answer with its outcome of fiber 0 is still added, and each fault.
-fn explored_answers<V: Watcher>(
+// The answers of an exploration of outcomes, in the names of the file.
+fn explored_answers(
     alloc: Global,
     prepared: &Prepared,
     plan: Plan,
     found: &[OutcomeAnswer],
-    watcher: &mut V,
-) -> Result<NamedAnswers, AllocError>
+) -> Result<Vec<NamedAnswer>, AllocError>
     requires limits { AreLimits plan.limits }
-    ensures each { IfOk result (λ it.
-        All (IsSeen (code_of (source_of prepared.now.program)) plan.limits) it.answers.items) }
-    ensures all { IfOk result (λ it. it.whole ≡ true → AreOutcomesOf found.now it.answers.items) }
+    ensures each { IfOk result (λ it. All (IsSeen (code_of (source_of prepared.now.program)) plan.limits) it.items) }
+    ensures all { IfOk result (λ it. AreOutcomesOf found.now it.items) }
 {
     let mut answers = Vec::new(alloc);
-    let mut known = Vec::new(alloc);
-    let mut whole = true;
     for answer in found {
-        if is_named(first_outcome(answer), &mut known, &mut *watcher)? {
-            answers.push(named_answer(alloc, prepared, plan, answer)?)?;
-        } else {
-            whole = false;
-        }
+        answers.push(named_answer(alloc, prepared, plan, answer)?)?;
     }
-    Ok(NamedAnswers { answers, whole })
-}
-
-// The outcome of fiber 0 at the end of an answer; `None` if the answer is a fault.
-fn first_outcome(answer: &OutcomeAnswer) -> Option<Option<Outcome>> {
-    match &answer.end {
-        Ok(outcomes) => outcomes.as_slice().first().copied(),
-        Err(_) => None,
-    }
+    Ok(answers)
 }
 
 // An answer in the names of the file.
@@ -156,19 +139,19 @@ fn named_answer(
     named_end(alloc, prepared, plan, entries, held, 0)
 }
 
-// The exploration as a search, with these answers. If not all were named, the watcher has ended the search.
-fn search_of(found: &OutcomeExploration, named: NamedAnswers) -> Search
+// The exploration as a search, with these answers.
+fn search_of(found: &OutcomeExploration, answers: Vec<NamedAnswer>) -> Search
     ensures marked { result.marked ≡ false }
-    ensures complete { result.complete ≡ true → found.now.complete ≡ true }
-    ensures whole { result.complete ≡ true → named.whole ≡ true }
-    ensures answers { result.answers.items ≡ named.answers.items }
+    ensures complete { result.complete ≡ found.now.complete }
+    ensures halted { result.halted ≡ found.now.halted }
+    ensures answers { result.answers.items ≡ answers.items }
 {
     Search {
-        complete: found.complete && named.whole,
-        halted: found.halted || !named.whole,
+        complete: found.complete,
+        halted: found.halted,
         marked: false,
         worlds: found.worlds,
         sampled: 0,
-        answers: named.answers,
+        answers,
     }
 }

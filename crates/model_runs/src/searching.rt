@@ -18,19 +18,13 @@ use cell_registry::RunError;
 use effect_term::{Outcome, Program};
 use every_outcome::{OutcomeAnswer, Outcomes};
 use every_schedule::{Answer, Answers, Exploration, Schedule, Watcher, explore_watched};
-use sampled_schedules::{Coming, Sample, sample_watched};
+use sampled_schedules::{Coming, Sample, sample, sample_watched};
 use scheduled_core::{FiberReport, Report, same_end};
 use std::alloc::{AllocError, Global};
 use world_search::Bounds;
 
 // The greatest number of schedules that are drawn if the watcher has ended the exploration.
 const FEW_TIMES: u32 = 200;
-
-// The quarters of the time after a search that the naming of answers can take.
-const NAMED: u32 = 3;
-
-// The most outcomes of fiber 0 of which an answer is named in any case.
-const OUTCOMES: usize = 100;
 
 /// The answers that an exploration has found.
 #[derive(Drop)]
@@ -82,9 +76,9 @@ pub(crate) fn search_reports<V: Watcher>(
     requires limits { AreLimits plan.limits }
     ensures { IfOk result (λ it. IsRight (code_of (source_of prepared.now.program)) plan.limits it.search) }
 {
-    let found = explore_with(alloc, &prepared.program, plan, worlds, &mut *watcher)?;
-    let named = explored_answers(alloc, prepared, plan, found.answers.as_slice(), watcher)?;
-    let search = search_of(&found, named);
+    let found = explore_with(alloc, &prepared.program, plan, worlds, watcher)?;
+    let answers = explored_answers(alloc, prepared, plan, found.answers.as_slice())?;
+    let search = search_of(&found, answers);
     let Exploration { answers: ends, .. } = found;
     Ok(Explored {
         search,
@@ -93,7 +87,7 @@ pub(crate) fn search_reports<V: Watcher>(
 }
 
 /// Draws the plan's number of schedules after an exploration that isn't complete, until the watcher ends the drawing.
-/// If the watcher has ended the exploration (`halted`), draws at most 200.
+/// If the watcher has ended the exploration (`halted`), draws at most 200 and doesn't ask the watcher.
 pub(crate) fn drawn_by_plan<V: Watcher>(
     alloc: Global,
     program: &Program,
@@ -103,99 +97,53 @@ pub(crate) fn drawn_by_plan<V: Watcher>(
 ) -> Result<Sample, RunError>
     requires limits { AreLimits plan.limits }
 {
-    let times = if halted {
-        plan.times.min(FEW_TIMES)
-    } else {
-        plan.times
-    };
+    if halted {
+        let times = plan.times.min(FEW_TIMES);
+        return sample(alloc, program, plan.limits, plan.seed, times, plan.entries);
+    }
     sample_watched(
         alloc,
         program,
         plan.limits,
         plan.seed,
-        times,
+        plan.times,
         plan.entries,
         watcher,
     )
 }
 
-/// Answers in the names of the file.
-#[derive(Drop)]
-pub(crate) struct NamedAnswers {
-    /// The answers.
-    pub(crate) answers: Vec<NamedAnswer>,
-    /// No answer was left out.
-    pub(crate) whole: bool,
-}
-
-// The answers of an exploration, in the names of the file. The watcher can end the list; then only the first answer with
-// its outcome of fiber 0 is still added, and each fault.
-fn explored_answers<V: Watcher>(
+// The answers of an exploration, in the names of the file.
+fn explored_answers(
     alloc: Global,
     prepared: &Prepared,
     plan: Plan,
     found: &[Answer],
-    watcher: &mut V,
-) -> Result<NamedAnswers, AllocError>
+) -> Result<Vec<NamedAnswer>, AllocError>
     requires limits { AreLimits plan.limits }
-    ensures each { IfOk result (λ it.
-        All (IsSeen (code_of (source_of prepared.now.program)) plan.limits) it.answers.items) }
-    ensures all { IfOk result (λ it. it.whole ≡ true → IsAllOf found.now it.answers.items) }
+    ensures each { IfOk result (λ it. All (IsSeen (code_of (source_of prepared.now.program)) plan.limits) it.items) }
+    ensures all { IfOk result (λ it. IsAllOf found.now it.items) }
 {
     let mut answers = Vec::new(alloc);
-    let mut known = Vec::new(alloc);
-    let mut whole = true;
     for answer in found {
-        if is_named(first_outcome(answer), &mut known, &mut *watcher)? {
-            answers.push(named_answer(alloc, prepared, plan, answer, 0)?)?;
-        } else {
-            whole = false;
-        }
+        answers.push(named_answer(alloc, prepared, plan, answer, 0)?)?;
     }
-    Ok(NamedAnswers { answers, whole })
+    Ok(answers)
 }
 
-// The outcome of fiber 0 at the end of an answer; `None` if the answer is a fault.
-fn first_outcome(answer: &Answer) -> Option<Option<Outcome>> {
-    match &answer.end {
-        Ok(report) => Some(report.fibers.as_slice().first()?.outcome),
-        Err(_) => None,
-    }
-}
-
-/// Whether an answer is named: it is a fault, it has an outcome of fiber 0 that isn't known, which is then added, or the
-/// watcher lets the list go on.
-pub(crate) fn is_named<V: Watcher>(
-    outcome: Option<Option<Outcome>>,
-    known: &mut Vec<Option<Outcome>>,
-    watcher: &mut V,
-) -> Result<bool, AllocError> {
-    match outcome {
-        None => Ok(true),
-        Some(outcome) => {
-            if known.len() >= OUTCOMES || known.as_slice().contains(&outcome) {
-                return Ok(watcher.lists_on(NAMED));
-            }
-            known.push(outcome)?;
-            Ok(true)
-        }
-    }
-}
-
-// The exploration as a search, with these answers. If not all were named, the watcher has ended the search.
-fn search_of(found: &Exploration, named: NamedAnswers) -> Search
+// The exploration as a search, with these answers.
+fn search_of(found: &Exploration, answers: Vec<NamedAnswer>) -> Search
     ensures marked { result.marked ≡ true }
-    ensures complete { result.complete ≡ true → found.now.complete ≡ true }
-    ensures whole { result.complete ≡ true → named.whole ≡ true }
-    ensures answers { result.answers.items ≡ named.answers.items }
+    ensures complete { result.complete ≡ found.now.complete }
+    ensures halted { result.halted ≡ found.now.halted }
+    ensures answers { result.answers.items ≡ answers.items }
 {
     Search {
-        complete: found.complete && named.whole,
-        halted: found.halted || !named.whole,
+        complete: found.complete,
+        halted: found.halted,
         marked: true,
         worlds: found.worlds,
         sampled: 0,
-        answers: named.answers,
+        answers,
     }
 }
 

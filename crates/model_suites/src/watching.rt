@@ -103,38 +103,6 @@ impl<'w, C: Clock> Watcher for Noting<'w, C> {
         self.stopped = true;
         false
     }
-
-    fn lists_on(&mut self, quarters: u32) -> bool {
-        if lists_within(self.clock, self.begun, self.seconds, quarters)
-            && lists_within(self.clock, self.test_begun, self.total_seconds, quarters)
-        {
-            return true;
-        }
-        self.stopped = true;
-        false
-    }
-}
-
-// Whether the work after a search goes on by a limit of `seconds` that began at `begun`, if there is one.
-fn lists_within<C: Clock>(
-    clock: &C,
-    begun: Option<Instant>,
-    seconds: Option<u64>,
-    quarters: u32,
-) -> bool
-    ensures { result ≡ false → is_some seconds ≡ true }
-{
-    if seconds.is_none() {
-        return true;
-    }
-    let mut limit = TimeLimit {
-        clock,
-        begun,
-        seconds,
-        stopped: false,
-    };
-    let time = limit.elapsed();
-    limit.lists_on_at(time, quarters)
 }
 
 // The number a second, for `many` in this time; 0 if the time is below 1 millisecond.

@@ -11,7 +11,7 @@ use Rattle.every_schedule.proofs.{Trails.{unfolded_next, unfolded_sorted}, unfol
 use Rattle.every_schedule.proofs.unfolding.unfold_all.Goals as goal
 
 pub loop-i-init : goal.loop-i-init
-loop-i-init g c =
+loop-i-init c =
     let p = here c.in_ok-current.current in
     let fs = c.number.new.self.fibers in
     let rs = c.number.new.self.registries in
@@ -29,22 +29,22 @@ loop-i-init g c =
     }
 
 pub returns-in_err-schedule-clause-memory : goal.returns-in_err-schedule-clause-memory
-returns-in_err-schedule-clause-memory g c =
+returns-in_err-schedule-clause-memory c =
     let p = err_from_is_err_and c.from_residual-in_err-schedule.result c.from_residual-in_err-schedule.ensures.1 in
     rw (p.1, p.2) c.in_err-schedule.ensures.memory
 
 pub returns-in_err-add-clause-memory : goal.returns-in_err-add-clause-memory
-returns-in_err-add-clause-memory g c =
+returns-in_err-add-clause-memory c =
     let p = err_from_is_err_and c.from_residual-in_err-add.result c.from_residual-in_err-add.ensures.1 in
     rw (p.1, p.2) refl
 
 pub returns-in_err-sort-clause-memory : goal.returns-in_err-sort-clause-memory
-returns-in_err-sort-clause-memory g c =
+returns-in_err-sort-clause-memory c =
     let p = err_from_is_err_and c.from_residual-in_err-sort.result c.from_residual-in_err-sort.ensures.1 in
     rw (p.1, p.2) refl
 
 pub unfold_from-requires : goal.unfold_from-requires
-unfold_from-requires g c =
+unfold_from-requires c =
     let first = first_place (code_of (source_of c.args.program.now)) c.args.limits in
     let there : IsWorldOf c.loop-i.current.fibers c.loop-i.current.registries (record { registry = c.in_ok-registry.registry; fibers = c.as_slice.result.now }) first =
     subst (λ (l : List ℕ). IsWorldOf c.loop-i.current.fibers c.loop-i.current.registries (record { registry = c.in_ok-registry.registry; fibers = l }) first)
@@ -52,7 +52,7 @@ unfold_from-requires g c =
     (first.limits, record { place = first; limits = refl; is = there; fits = subst (λ (p : Place). AllFit p.world) c.in_ok-first.ensures c.new.ensures.fits })
 
 pub loop-i-preserved : goal.loop-i-preserved
-loop-i-preserved g c =
+loop-i-preserved c =
     let known = c.loop-i.invariant in
     let told = c.in_ok-add.ensures in
     let n = c.args.at_once in
@@ -115,20 +115,20 @@ loop-i-preserved g c =
     }
 
 pub returns-clause-whole : goal.returns-clause-whole
-returns-clause-whole g c = λ whole i a at.
+returns-clause-whole c = λ whole i a at.
     let low = slice_get_within c.args.found.now i a at in
     kept_sorted c.loop-i.answers.items c.sort.new.answers.items a c.sort.ensures.same (c.loop-i.invariant.whole whole i a (omega arith) at)
 
 pub returns-clause-each : goal.returns-clause-each
-returns-clause-each g c =
+returns-clause-each c =
     unfolded_sorted c.args.at_once c.args.most (first_place (code_of (source_of c.args.program.now)) c.args.limits) c.args.found.now
     c.loop-i.answers.items c.sort.new.answers.items c.sort.ensures.same c.loop-i.invariant.each
 
 pub returns-clause-apart : goal.returns-clause-apart
-returns-clause-apart g c = λ all.
+returns-clause-apart c = λ all.
     apart_sorted c.loop-i.answers.items c.sort.new.answers.items c.sort.ensures.same (c.loop-i.invariant.apart all)
 
 pub returns-clause-left : goal.returns-clause-left
-returns-clause-left g c = λ isnt.
+returns-clause-left c = λ isnt.
     let k = c.loop-i.invariant.left isnt in
     (k.0, k.1, λ all. alone_sorted c.loop-i.answers.items c.sort.new.answers.items k.0 c.sort.ensures.same (k.3 all))

@@ -7,7 +7,7 @@ use Rattle.every_schedule.proofs.unfolding.unfold_all.Given as goal
 
 -- the numbers are those of the first world; the answers so far are unfolded; none was left out if the flag is true, and one was if it is false
 abbrev pub invariant-loop-i : goal.invariant-loop-i
-invariant-loop-i g l = record {
+invariant-loop-i l = record {
   there : IsWorldOf l.current.fibers l.current.registries (record { registry = l.registry; fibers = l.numbers.items })
       (first_place (code_of (source_of l.program)) l.fn.limits);
   each : AreUnfolded l.at_once l.most (first_place (code_of (source_of l.program)) l.fn.limits) l.found l.answers.items;
@@ -15,10 +15,5 @@ invariant-loop-i g l = record {
   apart : EndApart l.found → EndApart l.answers.items;
   left : l.whole ≡ false → (a : Found) × (out : IsLeftOut l.at_once l.most (first_place (code_of (source_of l.program)) l.fn.limits) l.found a) ×
       (out.number < l.i) × (EndApart l.found → EndsAlone a l.answers.items);
-  whole : l.whole ≡ true → l.left ≡ None → (i : ℕ) (a : Found) → i < l.i → slice_get l.found i ≡ Some a → IsKeptIn l.answers.items a;
-  halted : l.left ≡ Some Cause.Time → g.V.Watcher.has_stopped l.watcher ≡ true;
-  may : l.left ≡ Some Cause.Time → g.V.Watcher.can_stop l.initial.watcher ≡ true;
-  room : l.left ≡ Some Cause.Room → l.worths.room < 18446744073709551615;
-  keeps : g.V.Watcher.has_stopped l.initial.watcher ≡ true → g.V.Watcher.has_stopped l.watcher ≡ true;
-  watches : g.V.Watcher.can_stop l.watcher ≡ g.V.Watcher.can_stop l.initial.watcher;
+  whole : l.whole ≡ true → (i : ℕ) (a : Found) → i < l.i → slice_get l.found i ≡ Some a → IsKeptIn l.answers.items a;
 }

@@ -4,7 +4,7 @@ use Rattle.sampled_schedules.proofs.Walked.{erred, further, went, within}
 use Rattle.sampled_schedules.proofs.walks.walk.Goals as goal
 
 pub returns-in_err-make_row-clause-walked : goal.returns-in_err-make_row-clause-walked
-returns-in_err-make_row-clause-walked g c =
+returns-in_err-make_row-clause-walked c =
     let p = err_from_is_err_and c.from_residual.result c.from_residual.ensures.1 in
     let k = c.args.registry.now.limits in
     let w = world_of c.args.fibers.now.items c.args.registry.now.state in
@@ -19,7 +19,7 @@ returns-in_err-make_row-clause-walked g c =
     (within k w (Ok v) a b c.args.most (length b) c.loop-fibers.invariant.walked (omega arith)) c.in_err-make_row.ensures.walked (omega arith)))
 
 pub loop-fibers-preserved : goal.loop-fibers-preserved
-loop-fibers-preserved g c =
+loop-fibers-preserved c =
     let k = c.args.registry.now.limits in
     let w = world_of c.args.fibers.now.items c.args.registry.now.state in
     let v = world_of c.loop-fibers.fibers.items c.loop-fibers.registry.state in
@@ -33,5 +33,4 @@ loop-fibers-preserved g c =
           (further (Ok c.in_ok-make_row.field-0) k c.loop-fibers.registry.limits w v x a b c.make_row.new.schedule.items
           (length b) c.min-many.result c.args.most c.loop-fibers.invariant.limits
           (within k w (Ok v) a b c.args.most (length b) c.loop-fibers.invariant.walked (omega arith)) c.in_ok-make_row.ensures.walked (omega arith));
-      watches = c.lets_draw.ensures.same ∙ c.loop-fibers.invariant.watches;
     }

@@ -5,14 +5,13 @@ use Rattle.sampled_schedules.proofs.walks.walk.Given as goal
 
 -- the entries so far led to this world
 abbrev pub invariant-loop-fibers : goal.invariant-loop-fibers
-invariant-loop-fibers g l = record {
+invariant-loop-fibers l = record {
   limits : l.registry.limits ≡ l.initial.registry.limits;
   fits : AllFit (world_of l.fibers.items l.registry.state);
   walked : IsWalk l.initial.registry.limits (world_of l.initial.fibers.items l.initial.registry.state) l.initial.schedule.items
       (Ok (world_of l.fibers.items l.registry.state)) l.schedule.items l.most;
-  watches : g.V.Watcher.can_stop l.watcher ≡ g.V.Watcher.can_stop l.initial.watcher;
 }
 
 -- the greatest number of entries that can still follow
 abbrev pub decreases-loop-fibers : goal.decreases-loop-fibers
-decreases-loop-fibers g l = l.most - length l.schedule.items
+decreases-loop-fibers l = l.most - length l.schedule.items
