@@ -136,9 +136,7 @@ fn note(names: &mut Names, event: Event, origin: Option<Origin>) -> Result<(), A
 {
     let deed = event.deed;
     names.forms.push(form_of(event, origin))?;
-    if is_added_say(event, origin) {
-        names.added.push(event.entry)?;
-    }
+    note_added(&mut names.added, event, origin)?;
     match deed {
         Deed::Called(Call::Start, Reply::Number(_)) => names.fibers.push(fiber_name(origin))?,
         Deed::Called(Call::NewRef, Reply::Number(_)) => names.refs.push(cell_name(origin))?,
@@ -157,6 +155,18 @@ fn form_of(event: Event, origin: Option<Origin>) -> Option<usize> {
     } else {
         None
     }
+}
+
+// Adds the entry of an event that is a `say` whose word, of this origin, a probe added.
+fn note_added(
+    added: &mut Vec<usize>,
+    event: Event,
+    origin: Option<Origin>,
+) -> Result<(), AllocError> {
+    if is_added_say(event, origin) {
+        added.push(event.entry)?;
+    }
+    Ok(())
 }
 
 // Whether an event is a `say` whose word, of this origin, a probe added.
