@@ -37,6 +37,10 @@ right_search code k s marked is seen all = record {
   all = λ complete. subst (λ (m : Bool). AreAll m code k s.answers.items) (sym is) (all complete);
 }
 
+-- what holds of two lists holds of both together
+pub all_more : {A : Type 0} (P : A → Type 0) (zs xs ys : List A) → zs ≡ xs ++ ys → All P xs → All P ys → All P zs
+all_more P zs xs ys same one other = subst (All P) (sym same) (All-append P xs ys one other)
+
 -- a search that isn't complete, with answers that are right, is right
 pub right_joined : (code : Tree) (k : Limits) (it : Result Search RunError) (xs ys : List NamedAnswer) → IfOk it (λ s. s.complete ≡ false) →
     IfOk it (λ s. s.answers.items ≡ xs ++ ys) → All (IsSeen code k) xs → All (IsSeen code k) ys → IfOk it (IsRight code k)
