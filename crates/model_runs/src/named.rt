@@ -119,7 +119,9 @@ fn names_of(
     };
     names.fibers.push(FiberName::Main)?;
     for event in events {
-        note(&mut names, *event, origin_of(origins, places, event.entry))?;
+        let origin = origin_of(origins, places, event.entry);
+        note_added(&mut names.added, event, origin)?;
+        note(&mut names, *event, origin)?;
     }
     Ok(names)
 }
@@ -136,9 +138,6 @@ fn note(names: &mut Names, event: Event, origin: Option<Origin>) -> Result<(), A
 {
     let deed = event.deed;
     names.forms.push(form_of(event, origin))?;
-    if is_added_say(event, origin) {
-        names.added.push(event.entry)?;
-    }
     match deed {
         Deed::Called(Call::Start, Reply::Number(_)) => names.fibers.push(fiber_name(origin))?,
         Deed::Called(Call::NewRef, Reply::Number(_)) => names.refs.push(cell_name(origin))?,
@@ -159,8 +158,21 @@ fn form_of(event: Event, origin: Option<Origin>) -> Option<usize> {
     }
 }
 
+// Adds the entry of an event that is a `say` whose word, of this origin, a probe added.
+fn note_added(
+    added: &mut Vec<usize>,
+    event: &Event,
+    origin: Option<Origin>,
+) -> Result<(), AllocError> {
+    if is_added_say(event, origin) {
+        let entry = event.entry;
+        added.push(entry)?;
+    }
+    Ok(())
+}
+
 // Whether an event is a `say` whose word, of this origin, a probe added.
-fn is_added_say(event: Event, origin: Option<Origin>) -> bool {
+fn is_added_say(event: &Event, origin: Option<Origin>) -> bool {
     match event.mark {
         Some(Mark::Say(_)) => origin.is_some_and(|it| it.is_added),
         _ => false,

@@ -67,7 +67,8 @@ pub(crate) fn search_in_stages<V: Watcher>(
     ensures right { IfOk result (IsRight (code_of (source_of prepared.now.program)) plan.limits) }
 {
     let mut before = nothing_before(alloc);
-    if goal.is_met_by(alloc, found_in(&[], &before))? {
+    let is_met = goal.is_met_by(alloc, found_in(&[], &before))?;
+    if is_met {
         return Ok(search_without_worlds(alloc, marked));
     }
     let is_hopeful = goal.is_hopeful();
@@ -80,7 +81,7 @@ pub(crate) fn search_in_stages<V: Watcher>(
         if is_last(&stage.search, worlds) {
             return last(alloc, prepared, plan, goal, stage, before, watcher);
         }
-        if draw_between(
+        let is_over = draw_between(
             alloc,
             prepared,
             plan,
@@ -89,16 +90,9 @@ pub(crate) fn search_in_stages<V: Watcher>(
             worlds,
             &mut before,
             &mut *watcher,
-        )? {
-            return last(
-                alloc,
-                prepared,
-                plan,
-                goal,
-                halted_with(stage, &before),
-                before,
-                watcher,
-            );
+        )?;
+        if is_over {
+            return last(alloc, prepared, plan, goal, stage, before, watcher);
         }
         keep(&mut before, stage.search)?;
         worlds = worlds.saturating_mul(10);
@@ -164,15 +158,6 @@ fn explored_in<V: Watcher>(
 // Whether a stage with more worlds than this would find no more, or the watcher has ended the stage.
 fn is_last(search: &Search, worlds: usize) -> bool {
     search.complete || search.halted || search.worlds < worlds
-}
-
-// The same stage; if the watcher has ended the drawing, it has ended the search.
-fn halted_with(stage: Explored, before: &Before) -> Explored
-    ensures { (code : Tree) (k : TheLimits) → IsRight code k stage.search → IsRight code k result.search }
-{
-    let mut stage = stage;
-    stage.search.halted = stage.search.halted || before.halted;
-    stage
 }
 
 // Draws schedules after a stage with this bound of worlds, the shortest first. Returns whether the search is over: all
@@ -277,7 +262,7 @@ fn last<V: Watcher>(
         return Ok(search);
     }
     let explored = search.answers.as_slice();
-    let halted = search.halted;
+    let halted = search.halted || before.halted;
     let all = drawn_at_last(
         alloc, prepared, plan, goal, explored, &ends, halted, before, watcher,
     )?;
@@ -328,12 +313,12 @@ fn joined(search: Search, before: Before) -> Result<Search, RunError>
         answers: mut others,
         drawn,
         worlds: most,
-        ..
+        halted: is_cut,
     } = before;
     all.append(&mut others)?;
     Ok(Search {
         complete: false,
-        halted,
+        halted: halted || is_cut,
         marked,
         worlds: worlds.max(most),
         sampled: drawn,
