@@ -137,14 +137,19 @@ fn open_report<'a, R: Files>(
 impl<'a> Reports<'a> {
     /// Removes the reports of an earlier test.
     pub(crate) fn clear<R: Files>(&self, rt: &R) -> Result<(), ReportFault<'a>> {
-        for report in [&self.junit, &self.html] {
-            if let Some(report) = report
-                && let Err(fault) = report.file.clear(rt)
-            {
-                return Err(self.fault_of(report, fault));
-            }
+        self.clear_form(rt, Form::Junit)?;
+        self.clear_form(rt, Form::Html)
+    }
+
+    // Removes the report of this form of an earlier test.
+    fn clear_form<R: Files>(&self, rt: &R, form: Form) -> Result<(), ReportFault<'a>> {
+        let Some(report) = self.report(form) else {
+            return Ok(());
+        };
+        match report.file.clear(rt) {
+            Ok(()) => Ok(()),
+            Err(fault) => Err(self.fault_of(report, fault)),
         }
-        Ok(())
     }
 
     /// Writes the reports behind what was printed, those in files first. A report in a file that can't be written keeps

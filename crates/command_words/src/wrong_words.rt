@@ -4,6 +4,7 @@ ghost use Rattle.std.specs.Prelude.{◌≡◌, ◌⊎◌, false};
 ghost use Rattle.command_words.specs.Telling.{LacksMemory, TellsWrong};
 
 use crate::words::all_words;
+use clap::Error;
 use clap::error::ErrorKind;
 use outcome_trace::{Status, TextFault, TextOut, tell_fault, write_text};
 use std::alloc::{AllocError, Global};
@@ -14,11 +15,27 @@ use text_io::push_shown;
 /// as its number ([`push_shown`]). `None` if words that are shown so aren't refused.
 pub fn shown_reason<S: AsStr>(alloc: Global, words: &[S]) -> Result<Option<String>, AllocError> {
     let shown = shown_words(alloc, words)?;
-    match all_words(alloc)?.try_get_matches_from(shown.as_slice()) {
-        Err(error) if error.kind() == ErrorKind::OutOfMemory => Err(AllocError),
-        Err(error) if error.use_stderr() => Ok(Some(error.to_string(alloc)?)),
-        _ => Ok(None),
+    reason_of(alloc, shown.as_slice())
+}
+
+// What is wrong with words, if `clap` refuses them.
+fn reason_of<'a>(alloc: Global, words: &'a [String]) -> Result<Option<String>, AllocError> {
+    let all = all_words(alloc)?;
+    match all.try_get_matches_from(words) {
+        Ok(_matches) => Ok(None),
+        Err(error) => refusal_text(alloc, &error),
     }
+}
+
+// The text of an error, unless help or the version is asked for.
+fn refusal_text(alloc: Global, error: &Error) -> Result<Option<String>, AllocError> {
+    if error.kind() == ErrorKind::OutOfMemory {
+        return Err(AllocError);
+    }
+    if error.use_stderr() {
+        return Ok(Some(error.to_string(alloc)?));
+    }
+    Ok(None)
 }
 
 // The words, with each byte that isn't printable ASCII shown as its number.
