@@ -7,11 +7,11 @@ use Rattle.text_io.specs.declared.fault.TextFault.TheVariants as faults
 use Rattle.text_io.specs.declared.status.Status.{Status}
 use Rattle.text_io.specs.declared.status.Status.TheVariants.{Fault}
 use Rattle.text_io.specs.Devices.{Reader, Writer}
-use Rattle.text_io.specs.Exchange.{IsOutOfReads}
+use Rattle.text_io.specs.Exchange.{IsOutOfReads, IsRead}
 use Rattle.text_io.specs.FaultLines.{fault_line}
 use Rattle.text_io.specs.Telling.{Told}
 use Rattle.text_io.specs.Text.{GoesOut, OnlyWriteFaults, is_read_fault, is_write_fault}
-use Rattle.command_line.specs.Comparings.{IsFileFault, IsUnread, NotesPair, WritesPair, answered}
+use Rattle.command_line.specs.Comparings.{IsFileFault, IsFileText, IsUnread, NotesPair, WritesPair, answered}
 use Rattle.command_line.proofs.RunLemmas.{only_same, out_same, write_same}
 
 read_same : (X : Type 0) (f : TextFault) → is_read_fault {A = X} (Err f) ≡ is_read_fault {A = Status} (Err f)
@@ -19,6 +19,10 @@ read_same X faults.NoMemory = refl
 read_same X faults.ReadFault = refl
 read_same X (faults.WriteFault n) = refl
 read_same X faults.TurnBound = refl
+
+-- the text of a file that was opened
+pub file_read : (before after : Reader) (text : List ℕ) → IsUnread before → IsRead before after text → IsFileText text
+file_read before after text unread read = record { before = before; after = after; unread = unread; read = read }
 
 -- a file that was opened has no text, if reading it failed
 pub file_fault : {X : Type 0} (before after : Reader) (r : Result X TextFault) → IsUnread before → after.failed ≡ is_read_fault r →
