@@ -17,5 +17,3 @@ pub mod Workers
 pub mod Comparings
 pub mod Decidings
 pub mod Judgings
-pub mod KeptDevices
-pub mod ModelNotes

@@ -1,7 +1,7 @@
 //! Command lines with devices that give or take little at a time, and that fail.
 
 use crate::answers::{LONG, answered, told};
-use command_line::{HeardOutput, KeptInput, command};
+use command_line::command;
 use outcome_trace::{FromRead, ToWrite};
 use std::alloc::{AllocError, Global};
 use std::io;
@@ -252,12 +252,12 @@ fn keeps_the_status_where_a_usage_fault_cannot_be_told(rt: HostRuntime) {
         &rt,
         &["fiber_cli", "walk"],
         false,
-        &mut KeptInput::new(rt.alloc(), FromRead::new(b"(pure 7)".as_slice())),
+        &mut FromRead::new(b"(pure 7)".as_slice()),
         &mut ToWrite::new(&mut out),
-        &mut HeardOutput::new(ToWrite::new(Narrow {
+        &mut ToWrite::new(Narrow {
             room: 3,
             fails: true,
-        })),
+        }),
     );
     assert_eq!(rt; (status.code(), out.len()), (64, 0));
 }

@@ -1,6 +1,6 @@
 -- A search of outcomes is right: its answers are those of an exploration, without long ones, sorted.
-use Rattle.std.proofs.{Common.{◌≡◌, ◌≤◌, ◌==◌, ◌&&◌, ◌++◌, ℕ, Bool, true, false, IfOk, List, length, leb, refl, sym, ap, ◌∙◌, subst, arith}, lemmas.Bool.eqb-true}
-use Rattle.std.{proofs.lemmas.{Bool.leb-true, List.{Elements.{All-append, All-filter, filter_passes}, Sorted.{All-permutation, IsPermutation-sym}}}, specs.Prelude.Option}
+use Rattle.std.proofs.{Common.{◌≡◌, ◌≤◌, ◌==◌, ◌&&◌, ℕ, Bool, true, false, List, length, leb, refl, sym, ap, ◌∙◌, subst, arith}, lemmas.Bool.eqb-true}
+use Rattle.std.{proofs.lemmas.{Bool.leb-true, List.{Elements.{All-filter, filter_passes}, Sorted.{All-permutation, IsPermutation-sym}}}, specs.Prelude.Option}
 use Rattle.std.specs.{Prelude.{Some, Result, Ok, Err}, List.{All, filter, slice_get, Sorted.IsPermutation}}
 use Rattle.derived_ops.specs.Tree.{Tree}
 use Rattle.effect_term.specs.declared.reply.Outcome.{Outcome}
@@ -36,18 +36,6 @@ right_search code k s marked is seen all = record {
   each = seen;
   all = λ complete. subst (λ (m : Bool). AreAll m code k s.answers.items) (sym is) (all complete);
 }
-
--- what holds of two lists holds of both together
-pub all_more : {A : Type 0} (P : A → Type 0) (zs xs ys : List A) → zs ≡ xs ++ ys → All P xs → All P ys → All P zs
-all_more P zs xs ys same one other = subst (All P) (sym same) (All-append P xs ys one other)
-
--- a search that isn't complete, with answers that are right, is right
-pub right_joined : (code : Tree) (k : Limits) (it : Result Search RunError) (xs ys : List NamedAnswer) → IfOk it (λ s. s.complete ≡ false) →
-    IfOk it (λ s. s.answers.items ≡ xs ++ ys) → All (IsSeen code k) xs → All (IsSeen code k) ys → IfOk it (IsRight code k)
-right_joined code k (Ok s) xs ys ended same one other =
-    right_search code k s s.marked refl (subst (All (IsSeen code k)) (sym same) (All-append (IsSeen code k) xs ys one other))
-    (λ complete. absurd (let e : true ≡ false = sym complete ∙ ended in cc))
-right_joined code k (Err e) xs ys ended same one other = tt
 
 both_true : (a b : Bool) → (a && b) ≡ true → (a ≡ true) × (b ≡ true)
 both_true true b e = (refl, e)

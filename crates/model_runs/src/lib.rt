@@ -16,8 +16,6 @@
 //! moment passes only by a schedule that meets it, and fails only if no schedule does.
 #![tactic(auto)]
 
-mod drawings;
-mod goals;
 mod held;
 mod judging;
 mod looking;
@@ -33,8 +31,6 @@ mod result;
 mod run;
 mod searching;
 mod seeing;
-mod stages;
-mod unset;
 mod verdicts;
 mod waits;
 mod warnings;

@@ -14,8 +14,6 @@ pub(crate) struct Origin {
     pub name: BinderName,
     /// The role of the fiber that the word starts, if it starts one.
     pub role: StartRole,
-    /// Whether the word is a `say` that a probe added.
-    pub is_added: bool,
 }
 
 impl Origin {
@@ -48,12 +46,10 @@ pub(crate) fn origins_of(
 ) -> Result<Vec<Origin>, AllocError> {
     let mut origins = Vec::with_capacity(alloc, sources.len())?;
     for source in sources {
-        let found = place_at(term.places.as_slice(), source.place);
         origins.push(Origin {
-            form: found.map(|it| it.form),
+            form: form_at(term.places.as_slice(), source.place),
             name: name_behind(term, source.place),
             role: source.role,
-            is_added: found.is_some_and(|it| it.is_added),
         })?;
     }
     Ok(origins)
@@ -62,15 +58,15 @@ pub(crate) fn origins_of(
 // At least the number of halvings of a binary search among any number of places.
 const HALVINGS: u32 = 64;
 
-// What is known of the form of the term at this place.
-fn place_at(places: &[WordPlace], place: usize) -> Option<WordPlace> {
+// The form of the file for which the form of the term at this place was made.
+fn form_at(places: &[WordPlace], place: usize) -> Option<usize> {
     let mut low = 0usize;
     let mut high = places.len();
     for _ in 0..HALVINGS {
         let middle = low.saturating_add(high) / 2;
         let found = places.get(middle)?;
         if found.term == place {
-            return Some(*found);
+            return Some(found.form);
         }
         if found.term < place {
             low = middle.saturating_add(1);

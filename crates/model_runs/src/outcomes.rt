@@ -13,13 +13,41 @@ ghost use Rattle.model_runs.specs.Seeing.{AreOutcomesOf, IsRight, IsSeen};
 use crate::plan::Plan;
 use crate::prepared::Prepared;
 use crate::result::{NamedAnswer, Search};
-use crate::searching::{Ends, Explored, named_end};
+use crate::searching::{FIRST, Known, TIMES_MORE, drawn_by_plan, named_end, with_drawn};
 use cell_registry::RunError;
 use effect_term::Program;
 use every_outcome::{
     Bounds, OutcomeAnswer, OutcomeExploration, Outcomes, Watcher, explore_outcomes, shortened,
 };
 use std::alloc::{AllocError, Global};
+
+// Explores the outcomes of a program within the plan: with 10,000 worlds at first, and then with ten times as many, up
+// to those of the plan.
+fn explore_by_plan<V: Watcher>(
+    alloc: Global,
+    program: &Program,
+    plan: Plan,
+    watcher: &mut V,
+) -> Result<OutcomeExploration, RunError>
+    requires limits { AreLimits plan.limits }
+    ensures all { IfOk result (λ it. it.complete ≡ true → (count : ℕ) (schedule : List ℕ) →
+        IsCovered plan.limits it.answers.items
+        (core (code_of (source_of program.now)) (counted plan.limits count) schedule)) }
+    ensures each { IfOk result (λ it. All (IsReached (code_of (source_of program.now)) plan.limits) it.answers.items) }
+{
+    let mut worlds = FIRST;
+    for _ in 0..TIMES_MORE {
+        if worlds >= plan.worlds {
+            break;
+        }
+        let found = explore_with(alloc, program, plan, worlds, &mut *watcher)?;
+        if found.complete || found.halted || found.worlds < worlds {
+            return Ok(found);
+        }
+        worlds = worlds.saturating_mul(10);
+    }
+    explore_with(alloc, program, plan, plan.worlds, watcher)
+}
 
 // Explores the outcomes of a program with at most this number of worlds.
 fn explore_with<V: Watcher>(
@@ -43,27 +71,29 @@ fn explore_with<V: Watcher>(
     explore_outcomes(alloc, program, plan.limits, bounds, watcher)
 }
 
-/// Searches the outcomes of a term in at most this number of worlds, until the watcher ends the search.
+/// Searches the outcomes of a term within the plan, until the watcher ends the search. If not every schedule was
+/// explored, some are drawn at random.
 pub(crate) fn search_outcomes<V: Watcher>(
     alloc: Global,
     prepared: &Prepared,
     plan: Plan,
-    worlds: usize,
     watcher: &mut V,
-) -> Result<Explored, RunError>
+) -> Result<Search, RunError>
     requires limits { AreLimits plan.limits }
     requires count { plan.entries ≤ plan.limits.count }
-    ensures { IfOk result (λ it. IsRight (code_of (source_of prepared.now.program)) plan.limits it.search) }
+    ensures { IfOk result (IsRight (code_of (source_of prepared.now.program)) plan.limits) }
 {
-    let explored = explore_with(alloc, &prepared.program, plan, worlds, watcher)?;
+    let explored = explore_by_plan(alloc, &prepared.program, plan, &mut *watcher)?;
     let found = sorted(shortened(explored, plan.entries as usize))?;
     let answers = explored_answers(alloc, prepared, plan, found.answers.as_slice())?;
-    let search = search_of(&found, answers);
-    let OutcomeExploration { answers: ends, .. } = found;
-    Ok(Explored {
-        search,
-        ends: Ends::Outcomes(ends),
-    })
+    if found.complete {
+        return Ok(search_of(&found, 0, answers));
+    }
+    let drawn = drawn_by_plan(alloc, &prepared.program, plan, found.halted, watcher)?;
+    let known = Known::Outcomes(found.answers.as_slice());
+    let comings = drawn.comings.as_slice();
+    let more = with_drawn(alloc, prepared, plan, known, comings, answers)?;
+    Ok(search_of(&found, drawn.schedules, more))
 }
 
 // The same exploration, with outcomes before faults, and in each group shorter schedules first.
@@ -139,8 +169,8 @@ fn named_answer(
     named_end(alloc, prepared, plan, entries, held, 0)
 }
 
-// The exploration as a search, with these answers.
-fn search_of(found: &OutcomeExploration, answers: Vec<NamedAnswer>) -> Search
+// The result of a search: an exploration, the number of schedules that were drawn, and the answers of both.
+fn search_of(found: &OutcomeExploration, sampled: u32, answers: Vec<NamedAnswer>) -> Search
     ensures marked { result.marked ≡ false }
     ensures complete { result.complete ≡ found.now.complete }
     ensures halted { result.halted ≡ found.now.halted }
@@ -151,7 +181,7 @@ fn search_of(found: &OutcomeExploration, answers: Vec<NamedAnswer>) -> Search
         halted: found.halted,
         marked: false,
         worlds: found.worlds,
-        sampled: 0,
+        sampled,
         answers,
     }
 }

@@ -17,31 +17,55 @@ use crate::seeing::seen_of;
 use cell_registry::RunError;
 use effect_term::{Outcome, Program};
 use every_outcome::{OutcomeAnswer, Outcomes};
-use every_schedule::{Answer, Answers, Exploration, Schedule, Watcher, explore_watched};
+use every_schedule::{Answer, Exploration, Schedule, Watcher, explore_watched};
 use sampled_schedules::{Coming, Sample, sample, sample_watched};
 use scheduled_core::{FiberReport, Report, same_end};
 use std::alloc::{AllocError, Global};
 use world_search::Bounds;
 
+/// The greatest number of worlds of the first search: most models have fewer.
+pub(crate) const FIRST: usize = 10_000;
+
+/// The greatest number of times that the bound of worlds is multiplied by ten.
+pub(crate) const TIMES_MORE: u32 = 8;
+
 // The greatest number of schedules that are drawn if the watcher has ended the exploration.
 const FEW_TIMES: u32 = 200;
 
 /// The answers that an exploration has found.
-#[derive(Drop)]
-pub(crate) enum Ends {
+#[derive(Clone, Copy)]
+pub(crate) enum Known<'a> {
     /// Reports and faults.
-    Reports(Answers),
+    Reports(&'a [Answer]),
     /// Outcomes of fibers, and faults.
-    Outcomes(Vec<OutcomeAnswer>),
+    Outcomes(&'a [OutcomeAnswer]),
 }
 
-/// An exploration, and its answers in the names of the file.
-#[derive(Drop)]
-pub(crate) struct Explored {
-    /// The exploration as a search: no schedule is drawn.
-    pub search: Search,
-    /// The answers.
-    pub ends: Ends,
+/// Explores a program within the plan: with 10,000 worlds at first, and then with ten times as many, up to those of the
+/// plan.
+fn explore_by_plan<V: Watcher>(
+    alloc: Global,
+    program: &Program,
+    plan: Plan,
+    watcher: &mut V,
+) -> Result<Exploration, RunError>
+    requires limits { AreLimits plan.limits }
+    ensures all { IfOk result (λ it. it.complete ≡ true → (schedule : List ℕ) →
+        IsCovered plan.limits it.answers (core (code_of (source_of program.now)) plan.limits schedule)) }
+    ensures each { IfOk result (λ it. All (IsReached (code_of (source_of program.now)) plan.limits) it.answers) }
+{
+    let mut worlds = FIRST;
+    for _ in 0..TIMES_MORE {
+        if worlds >= plan.worlds {
+            break;
+        }
+        let found = explore_with(alloc, program, plan, worlds, &mut *watcher)?;
+        if found.complete || found.halted || found.worlds < worlds {
+            return Ok(found);
+        }
+        worlds = worlds.saturating_mul(10);
+    }
+    explore_with(alloc, program, plan, plan.worlds, watcher)
 }
 
 // Explores a program with at most this number of worlds.
@@ -65,25 +89,27 @@ fn explore_with<V: Watcher>(
     explore_watched(alloc, program, plan.limits, bounds, watcher)
 }
 
-/// Searches the reports of a term in at most this number of worlds, until the watcher ends the search.
+/// Searches the reports of a term within the plan, until the watcher ends the search. If not every schedule was
+/// explored, some are drawn at random.
 pub(crate) fn search_reports<V: Watcher>(
     alloc: Global,
     prepared: &Prepared,
     plan: Plan,
-    worlds: usize,
     watcher: &mut V,
-) -> Result<Explored, RunError>
+) -> Result<Search, RunError>
     requires limits { AreLimits plan.limits }
-    ensures { IfOk result (λ it. IsRight (code_of (source_of prepared.now.program)) plan.limits it.search) }
+    ensures { IfOk result (IsRight (code_of (source_of prepared.now.program)) plan.limits) }
 {
-    let found = explore_with(alloc, &prepared.program, plan, worlds, watcher)?;
+    let found = explore_by_plan(alloc, &prepared.program, plan, &mut *watcher)?;
     let answers = explored_answers(alloc, prepared, plan, found.answers.as_slice())?;
-    let search = search_of(&found, answers);
-    let Exploration { answers: ends, .. } = found;
-    Ok(Explored {
-        search,
-        ends: Ends::Reports(ends),
-    })
+    if found.complete {
+        return Ok(search_of(&found, 0, answers));
+    }
+    let drawn = drawn_by_plan(alloc, &prepared.program, plan, found.halted, watcher)?;
+    let known = Known::Reports(found.answers.as_slice());
+    let comings = drawn.comings.as_slice();
+    let more = with_drawn(alloc, prepared, plan, known, comings, answers)?;
+    Ok(search_of(&found, drawn.schedules, more))
 }
 
 /// Draws the plan's number of schedules after an exploration that isn't complete, until the watcher ends the drawing.
@@ -130,8 +156,8 @@ fn explored_answers(
     Ok(answers)
 }
 
-// The exploration as a search, with these answers.
-fn search_of(found: &Exploration, answers: Vec<NamedAnswer>) -> Search
+// The result of a search: an exploration, the number of schedules that were drawn, and the answers of both.
+fn search_of(found: &Exploration, sampled: u32, answers: Vec<NamedAnswer>) -> Search
     ensures marked { result.marked ≡ true }
     ensures complete { result.complete ≡ found.now.complete }
     ensures halted { result.halted ≡ found.now.halted }
@@ -142,28 +168,29 @@ fn search_of(found: &Exploration, answers: Vec<NamedAnswer>) -> Search
         halted: found.halted,
         marked: true,
         worlds: found.worlds,
-        sampled: 0,
+        sampled,
         answers,
     }
 }
 
 /// Adds to these answers each one that was drawn, is settled, and isn't known.
-pub(crate) fn add_all_drawn(
+pub(crate) fn with_drawn(
     alloc: Global,
     prepared: &Prepared,
     plan: Plan,
-    known: &Ends,
+    known: Known,
     drawn: &[Coming],
-    all: &mut Vec<NamedAnswer>,
-) -> Result<(), AllocError>
+    answers: Vec<NamedAnswer>,
+) -> Result<Vec<NamedAnswer>, AllocError>
     requires limits { AreLimits plan.limits }
-    requires each { All (IsSeen (code_of (source_of prepared.now.program)) plan.limits) all.old.items }
-    ensures each { OnOk result (All (IsSeen (code_of (source_of prepared.now.program)) plan.limits) all.new.items) }
+    requires each { All (IsSeen (code_of (source_of prepared.now.program)) plan.limits) answers.items }
+    ensures each { IfOk result (λ it. All (IsSeen (code_of (source_of prepared.now.program)) plan.limits) it.items) }
 {
+    let mut all = answers;
     for coming in drawn {
-        add_drawn(alloc, prepared, plan, known, coming, all)?;
+        add_drawn(alloc, prepared, plan, known, coming, &mut all)?;
     }
-    Ok(())
+    Ok(all)
 }
 
 // Adds an answer that was drawn, if it is settled and isn't known.
@@ -171,7 +198,7 @@ fn add_drawn(
     alloc: Global,
     prepared: &Prepared,
     plan: Plan,
-    known: &Ends,
+    known: Known,
     coming: &Coming,
     all: &mut Vec<NamedAnswer>,
 ) -> Result<(), AllocError>
@@ -188,13 +215,10 @@ fn add_drawn(
 }
 
 // Whether an exploration has found this end, or its outcomes if it was an exploration of outcomes.
-fn is_known(known: &Ends, end: &Result<Report, RunError>) -> bool {
+fn is_known(known: Known, end: &Result<Report, RunError>) -> bool {
     match known {
-        Ends::Reports(answers) => answers
-            .as_slice()
-            .iter()
-            .any(|answer| same_end(&answer.end, end)),
-        Ends::Outcomes(answers) => answers.iter().any(|answer| has_outcomes(&answer.end, end)),
+        Known::Reports(answers) => answers.iter().any(|answer| same_end(&answer.end, end)),
+        Known::Outcomes(answers) => answers.iter().any(|answer| has_outcomes(&answer.end, end)),
     }
 }
 
@@ -267,13 +291,10 @@ pub(crate) fn named_end(
     let fault = fault_of(&replay);
     let kept = Vec::from_slice(alloc, entries)?;
     let schedule = Schedule::new(kept);
-    let Named { fibers, refs, .. } = replay;
     Ok(NamedAnswer {
         seen,
         held,
         fault,
-        started: fibers,
-        refs: refs.len(),
         schedule,
         came,
     })

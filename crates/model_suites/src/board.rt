@@ -1,6 +1,6 @@
 //! A board on which threads leave the results of models, for the thread that reports them.
 
-ghost use Rattle.std.specs.Prelude.{◌≡◌, ◌<◌, IfOk, IfSome};
+ghost use Rattle.std.specs.Prelude.{◌<◌, IfSome};
 
 use crate::tested::Became;
 use std::alloc::{AllocError, Global};
@@ -13,8 +13,6 @@ use std::time::{Clock, Duration};
 pub struct Board {
     // The number of models.
     count: usize,
-    /// The number of bytes at which the search of each model stops.
-    pub(crate) memory: usize,
     // The number of the first model that no thread has claimed.
     next: AtomicUsize,
     // How far the search of each model is.
@@ -57,10 +55,8 @@ struct Left {
 }
 
 impl Board {
-    /// Returns a board for `count` models. The search of each stops at `memory` bytes.
-    pub(crate) fn new(alloc: Global, count: usize, memory: usize) -> Result<Board, AllocError>
-        ensures { IfOk result (λ board. board.memory ≡ memory) }
-    {
+    /// Returns a board for `count` models.
+    pub(crate) fn new(alloc: Global, count: usize) -> Result<Board, AllocError> {
         let mut found = Vec::new(alloc);
         let mut searches = Vec::new(alloc);
         for _ in 0..count {
@@ -69,7 +65,6 @@ impl Board {
         }
         Ok(Board {
             count,
-            memory,
             next: AtomicUsize::new(0),
             searches,
             left: Mutex::new(Left {

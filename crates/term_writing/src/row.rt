@@ -206,10 +206,9 @@ fn plan_row(
     out.then(Task::Close(open))
 }
 
-// The name in the file of the name with this number in a row. Fibers of a row `_` are fibers of the file, too.
+// The name in the file of the name with this number in a row.
 fn row_name(read: Reading, work: RowWork, number: usize) -> BinderName {
-    let is_nameless = is_hidden(read, work.name) && !matches!(work.word, RowWord::Starts);
-    if is_nameless {
+    if is_hidden(read, work.name) {
         BinderName::Hidden
     } else {
         BinderName::Row(work.name, number)

@@ -37,8 +37,7 @@ pub fn write_all(read: Reading, out: &mut Writing) -> Result<(), Stop> {
 // Does one task.
 fn step(read: Reading, out: &mut Writing, task: Task) -> Result<(), Stop> {
     match task {
-        Task::Open(word, form) => out.write_open(word, form, false),
-        Task::AddedSay(form) => out.write_open(Word::Say, form, true),
+        Task::Open(word, form) => out.write_open(word, form),
         Task::Close(count) => out.write_close(count),
         Task::Operand(operand) => out.write_operand(operand),
         Task::Bind(name, kind, binder) => out.write_binder(name, kind, binder),
