@@ -1,10 +1,11 @@
 -- Lists that grow by one element at a time.
 use Rattle.std.proofs.Common.{◌≡◌, ℕ, zero, suc, ◌+◌, ◌<◌, ◌≤◌, true, false, List, [], ◌∷◌, ◌++◌, length, drop, take, map, get_or}
-use Rattle.std.proofs.Common.{refl, sym, ap, ◌∙◌, subst, add-one, append_assoc, arith, drop-cons, length-append}
-use Rattle.std.specs.Prelude.{◌||◌, Some}
+use Rattle.std.proofs.Common.{refl, sym, ap, ◌∙◌, subst, add-one, append_assoc, arith, drop-cons, inl, inr, length-append}
+use Rattle.std.specs.Prelude.{◌||◌, ◌⊎◌, Some}
 use Rattle.std.specs.Borrow.{Bor}
 use Rattle.std.specs.List.{slice_get}
-use Rattle.std.proofs.lemmas.List.{drop_all, get_or-map, length-map, map-append}
+use Rattle.std.proofs.lemmas.Bool.{cases_lt}
+use Rattle.std.proofs.lemmas.List.{drop-append-le, drop_all, get_or-map, length-map, map-append, take-append-le}
 use Rattle.claim_words.specs.Spacing.{spaced_text}
 use Rattle.claim_answers.specs.declared.asked.Asked.{Asked}
 use Rattle.claim_answers.specs.declared.asked.Rule.{Rule}
@@ -68,6 +69,63 @@ pub lines_all : (L : Asked → Verdict → List ℕ → Type 0) (all : List Aske
     AreLines L (take i all) (take i vs) text → AreLines L all vs text
 lines_all L all vs text i past past' h =
     subst (λ xs. AreLines L xs vs text) (take_whole all i past) (subst (λ ys. AreLines L (take i all) ys text) (take_whole vs i past') h)
+
+-- ---- a part of two lists whose elements belong together
+module _ {A B : Type 0} (R : A → B → Type 0) (n : ℕ) where
+  take_more : (all : List A) (bs : List B) (a : A) (b : B) → Pairwise R all bs → R a b → length all ≡ length bs →
+      Pairwise R (take n all) (take n bs) → (n < length all + 1) ⊎ (length all + 1 ≤ n) →
+      Pairwise R (take n (all ++ a ∷ [])) (take n (bs ++ b ∷ []))
+  take_more all bs a b h r same before (inl low) =
+      subst (λ l. Pairwise R l (take n (bs ++ b ∷ []))) (sym (take-append-le n all (a ∷ []) (omega arith)))
+      (subst (λ l. Pairwise R (take n all) l) (sym (take-append-le n bs (b ∷ []) (omega arith))) before)
+  take_more all bs a b h r same before (inr past) =
+      subst (λ l. Pairwise R l (take n (bs ++ b ∷ []))) (sym (take_whole (all ++ a ∷ []) n (omega (arith, length-append all (a ∷ [])))))
+      (subst (λ l. Pairwise R (all ++ a ∷ []) l) (sym (take_whole (bs ++ b ∷ []) n (omega (arith, length-append bs (b ∷ [])))))
+      (a_pair all bs a b h r))
+
+  pub pairs_take : (xs : List A) (ys : List B) → Pairwise R xs ys → Pairwise R (take n xs) (take n ys)
+  pairs_take xs ys no_pair =
+      subst (λ l. Pairwise R l (take n [])) (sym (take_whole [] n (omega arith)))
+      (subst (λ l. Pairwise R [] l) (sym (take_whole [] n (omega arith))) no_pair)
+  pairs_take xs ys (a_pair all bs a b h r) =
+      take_more all bs a b h r (pairs_length R all bs h) (pairs_take all bs h) (cases_lt n (length all + 1))
+
+  drop_more : (all : List A) (bs : List B) (a : A) (b : B) → R a b → length all ≡ length bs →
+      Pairwise R (drop n all) (drop n bs) → (n < length all + 1) ⊎ (length all + 1 ≤ n) →
+      Pairwise R (drop n (all ++ a ∷ [])) (drop n (bs ++ b ∷ []))
+  drop_more all bs a b r same behind (inl low) =
+      subst (λ l. Pairwise R l (drop n (bs ++ b ∷ []))) (sym (drop-append-le n all (a ∷ []) (omega arith)))
+      (subst (λ l. Pairwise R (drop n all ++ a ∷ []) l) (sym (drop-append-le n bs (b ∷ []) (omega arith)))
+      (a_pair (drop n all) (drop n bs) a b behind r))
+  drop_more all bs a b r same behind (inr past) =
+      subst (λ l. Pairwise R l (drop n (bs ++ b ∷ []))) (sym (drop_all n (all ++ a ∷ []) (omega (arith, length-append all (a ∷ [])))))
+      (subst (λ l. Pairwise R [] l) (sym (drop_all n (bs ++ b ∷ []) (omega (arith, length-append bs (b ∷ []))))) no_pair)
+
+  pub pairs_drop : (xs : List A) (ys : List B) → Pairwise R xs ys → Pairwise R (drop n xs) (drop n ys)
+  pairs_drop xs ys no_pair =
+      subst (λ l. Pairwise R l (drop n [])) (sym (drop_all n [] (omega arith)))
+      (subst (λ l. Pairwise R [] l) (sym (drop_all n [] (omega arith))) no_pair)
+  pairs_drop xs ys (a_pair all bs a b h r) =
+      drop_more all bs a b r (pairs_length R all bs h) (pairs_drop all bs h) (cases_lt n (length all + 1))
+
+-- the front and the back of two lists, the first of which is put together from two
+pub pairs_front : {A B : Type 0} (R : A → B → Type 0) (xs ys : List A) (vs : List B) → Pairwise R (xs ++ ys) vs →
+    Pairwise R xs (take (length xs) vs)
+pairs_front R xs ys vs h =
+    subst (λ l. Pairwise R l (take (length xs) vs)) (take-append-le (length xs) xs ys (omega arith) ∙ take_whole xs (length xs) (omega arith))
+    (pairs_take R (length xs) (xs ++ ys) vs h)
+
+pub pairs_back : {A B : Type 0} (R : A → B → Type 0) (xs ys : List A) (vs : List B) → Pairwise R (xs ++ ys) vs →
+    Pairwise R ys (drop (length xs) vs)
+pairs_back R xs ys vs h =
+    subst (λ l. Pairwise R l (drop (length xs) vs))
+    (drop-append-le (length xs) xs ys (omega arith) ∙ ap (λ l. l ++ ys) (drop_all (length xs) xs (omega arith)))
+    (pairs_drop R (length xs) (xs ++ ys) vs h)
+
+-- as many as twice the elements of a list, if the list comes first and then its image
+pub twice : {A : Type 0} (f : A → A) (xs all : List A) (n : ℕ) → n ≡ length xs → all ≡ xs ++ map f xs → length all ≡ n + n
+twice f xs all n e is =
+    ap length is ∙ length-append xs (map f xs) ∙ ap (λ m. length xs + m) (length-map xs f) ∙ ap (λ m. m + m) (sym e)
 
 -- ---- the texts of claims
 pub asked_more : (rule : Rule) (old before new : List Asked) (texts : List (List ℕ)) (i : ℕ) (t : List ℕ) → i < length texts → t ≡ get_or texts i t →

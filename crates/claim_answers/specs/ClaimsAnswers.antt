@@ -1,5 +1,5 @@
 -- The answer to a text about claims.
-use Rattle.std.specs.Prelude.{◌≡◌, ◌⊎◌, ℕ, false, List, [], ◌++◌, codes}
+use Rattle.std.specs.Prelude.{◌≡◌, ◌⊎◌, ℕ, false, List, [], ◌++◌, codes, map}
 use Rattle.derived_ops.specs.Expansion.{code_of}
 use Rattle.derived_ops.specs.Reading.{source_of}
 use Rattle.effect_term.specs.declared.term.Term.{Term}
@@ -20,7 +20,9 @@ use Rattle.claim_answers.specs.declared.asked.Asked.{Asked}
 use Rattle.claim_answers.specs.declared.judging.Verdict.{Verdict}
 use Rattle.claim_answers.specs.declared.lines.ClaimForm.{ClaimForm}
 use Rattle.claim_answers.specs.declared.lines.ClaimForm.TheVariants as forms
-use Rattle.claim_answers.specs.Claims.{IsDecided, IsSought, Pairwise}
+use Rattle.claim_answers.specs.declared.moments.Among.TheVariants as among
+use Rattle.claim_answers.specs.Claims.{IsDecided, IsSought, Pairwise, all_set}
+use Rattle.claim_answers.specs.Unchecked.{AreUnchecked}
 use Rattle.claim_answers.specs.Verdicts.{AreLines, IsLine, claims_status, gap, worse}
 
 -- the answer of `explore` to a program without claims, with this note, and no finding of random schedules behind it
@@ -36,27 +38,34 @@ refuses_as forms.Timeline = IsRefusalAnswer
 refuses_as forms.Json = IsJsonRefusal
 
 -- Each claim has words that decide it, and a verdict that is true of the program. The text has a line for each, in
--- their order.
+-- their order. The words that are true when the claim is checked have such a verdict, too, and if no schedule comes to
+-- such a moment, there is a note on the claim.
 pub record AreJudged (form : ClaimForm) (o : ExploreOrder) (asked : List Asked) (text : List ℕ) (t : Term)
-    (verdicts : List Verdict) (lines : List ℕ) : Type 0
+    (verdicts : List Verdict) (lines notes : List ℕ) : Type 0
   where
     pub soughts : List (List ClaimWord)
     pub sought : Pairwise (IsSought (spaced_text text)) asked soughts
     pub decided : Pairwise (IsDecided (code_of (source_of t)) o.limits) soughts verdicts
+    pub moments : List Verdict
+    pub checked : Pairwise (IsDecided (code_of (source_of t)) o.limits) (map all_set soughts) moments
     pub lines_are : AreLines (IsLine form) asked verdicts lines
+    pub notes_are : AreUnchecked among.All asked moments notes
 
--- the lines of the claims, and after them the answer of `explore` without claims, with its note; the status is the
--- worse of both
+-- the lines of the claims, and after them the answer of `explore` without claims; the notes on the claims, and after
+-- them that of this answer; the status is the worse of both
 pub record IsJudgedAnswer (form : ClaimForm) (o : ExploreOrder) (asked : List Asked) (text note : List ℕ) (t : Term)
     (answer : List ℕ) (status : Status) : Type 0
   where
     pub verdicts : List Verdict
     pub lines : List ℕ
-    pub judged : AreJudged form o asked text t verdicts lines
+    pub notes : List ℕ
+    pub judged : AreJudged form o asked text t verdicts lines notes
     pub rest : List ℕ
+    pub rest_note : List ℕ
     pub rest_status : Status
-    pub explored : explored_as form o note t rest rest_status
+    pub explored : explored_as form o rest_note t rest rest_status
     pub answer_is : answer ≡ lines ++ (gap form ++ rest)
+    pub note_is : note ≡ notes ++ rest_note
     pub status_is : status ≡ worse (claims_status asked verdicts) rest_status
 
 -- why the number of a ref isn't known

@@ -1,5 +1,5 @@
 -- The answer to a text about claims that are looked at in schedules which are drawn at random.
-use Rattle.std.specs.Prelude.{◌≡◌, ◌⊎◌, ℕ, Bool, true, false, if◌then◌else◌, List, ◌++◌, length, codes}
+use Rattle.std.specs.Prelude.{◌≡◌, ◌⊎◌, ℕ, Bool, true, false, if◌then◌else◌, List, ◌++◌, length, codes, map}
 use Rattle.std.specs.List.{All}
 use Rattle.derived_ops.specs.Expansion.{code_of}
 use Rattle.derived_ops.specs.Reading.{source_of}
@@ -25,7 +25,9 @@ use Rattle.claim_answers.specs.declared.judging.Verdict.{Verdict}
 use Rattle.claim_answers.specs.declared.judging.Verdict.TheVariants.{Moment, NoMoment, Undecided}
 use Rattle.claim_answers.specs.declared.lines.ClaimForm.{ClaimForm}
 use Rattle.claim_answers.specs.declared.lines.ClaimForm.TheVariants as forms
-use Rattle.claim_answers.specs.Claims.{IsMoment, IsSought, Pairwise}
+use Rattle.claim_answers.specs.declared.moments.Among.TheVariants as among
+use Rattle.claim_answers.specs.Claims.{IsMoment, IsSought, Pairwise, all_set}
+use Rattle.claim_answers.specs.Unchecked.{AreUnchecked}
 use Rattle.claim_answers.specs.ClaimsAnswers.{IsUnnamedAnswer, refuses_as}
 use Rattle.claim_answers.specs.Verdicts.{AreLines, IsLine, IsShown, gap, one_refuted, rule_text, under, worse}
 
@@ -77,9 +79,10 @@ sampled_as true o note t = IsNotedJsonSample t o.limits o.seed o.times o.entries
 sampled_as false o note t = IsNotedSample t o.limits o.times o.entries o.wants.items note
 
 -- As many schedules were drawn as the order says. Each claim has words that decide it, and a verdict that is right for
--- these schedules. The text has a line for each, in their order.
+-- these schedules. The text has a line for each, in their order. The words that are true when the claim is checked have
+-- such a verdict, too, and if none of the schedules comes to such a moment, there is a note on the claim.
 pub record AreSeen (json : Bool) (o : SampleOrder) (asked : List Asked) (text : List ℕ) (t : Term)
-    (verdicts : List Verdict) (lines : List ℕ) : Type 0
+    (verdicts : List Verdict) (lines notes : List ℕ) : Type 0
   where
     pub drawn : List Drawn
     pub many : length drawn ≡ o.times
@@ -87,20 +90,26 @@ pub record AreSeen (json : Bool) (o : SampleOrder) (asked : List Asked) (text : 
     pub soughts : List (List ClaimWord)
     pub sought : Pairwise (IsSought (spaced_text text)) asked soughts
     pub seen : Pairwise (IsSeen (code_of (source_of t)) o.limits drawn) soughts verdicts
+    pub moments : List Verdict
+    pub checked : Pairwise (IsSeen (code_of (source_of t)) o.limits drawn) (map all_set soughts) moments
     pub lines_are : AreLines (IsSeenLine json o.times) asked verdicts lines
+    pub notes_are : AreUnchecked among.Drawn asked moments notes
 
--- the lines of the claims, and after them the answer of `sample` without claims, with its note; the status is the worse
--- of both
+-- the lines of the claims, and after them the answer of `sample` without claims; the notes on the claims, and after them
+-- that of this answer; the status is the worse of both
 pub record IsSeenAnswer (json : Bool) (o : SampleOrder) (asked : List Asked) (text note : List ℕ) (t : Term)
     (answer : List ℕ) (status : Status) : Type 0
   where
     pub verdicts : List Verdict
     pub lines : List ℕ
-    pub seen : AreSeen json o asked text t verdicts lines
+    pub notes : List ℕ
+    pub seen : AreSeen json o asked text t verdicts lines notes
     pub rest : List ℕ
+    pub rest_note : List ℕ
     pub rest_status : Status
-    pub sampled : sampled_as json o note t rest rest_status
+    pub sampled : sampled_as json o rest_note t rest rest_status
     pub answer_is : answer ≡ lines ++ (gap (form_of json) ++ rest)
+    pub note_is : note ≡ notes ++ rest_note
     pub status_is : status ≡ worse (seen_status asked verdicts) rest_status
 
 -- the answer to a text with its status and this note: the refusal of the text, what was seen of the claims on its

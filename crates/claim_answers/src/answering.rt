@@ -1,20 +1,26 @@
 //! The answers to a text about claims.
 
-ghost use Rattle.std.specs.Prelude.{◌≡◌, ◌⊎◌, ◌++◌, ℕ, List, IfOk, length};
+ghost use Rattle.std.specs.Prelude.{◌≡◌, ◌⊎◌, ◌+◌, ◌++◌, ℕ, List, IfOk, drop, length, take};
+ghost use Rattle.std.specs.List.{All};
+ghost use Rattle.cell_registry.specs.Cells.{AreLimits};
 ghost use Rattle.derived_ops.specs.Expansion.{code_of};
 ghost use Rattle.derived_ops.specs.Reading.{source_of};
 ghost use Rattle.outcome_trace.specs.Answers.{IsRefused};
 ghost use Rattle.claim_words.specs.Spacing.{spaced_text};
-ghost use Rattle.claim_answers.specs.Claims.{IsDecided, IsSought, Pairwise};
+ghost use Rattle.claim_answers.specs.Claims.{IsSought, Pairwise};
 ghost use Rattle.claim_answers.specs.ClaimsAnswers.{IsClaimsAnswer, IsJudgedAnswer, IsUnnamedAnswer, explored_as};
 ghost use Rattle.claim_answers.specs.ClaimsAnswers.{reason_text, refuses_as, unnamed_note};
-ghost use Rattle.claim_answers.specs.Verdicts.{AreLines, IsLine, gap, worse};
+ghost use Rattle.claim_answers.specs.Private.Met.{AreJudgedBy, IsSpellable};
+ghost use Rattle.claim_answers.specs.Unchecked.{AreUnchecked};
+ghost use Rattle.claim_answers.specs.Verdicts.{AreLines, IsLine, claims_status, gap, worse};
 
 use crate::asked::Asked;
 use crate::judging::{Verdict, judge, soughts_of};
 pub use crate::lines::ClaimForm;
 use crate::lines::claim_lines;
+use crate::moments::{Among, unchecked_lines, with_moments};
 use crate::statuses::{claims_status, worse};
+use cell_registry::Limits;
 use claim_words::{NumberFault, RefFault, spaced_text};
 use effect_term::Program;
 use every_schedule::{Claim, Unwatched};
@@ -24,17 +30,20 @@ use outcome_trace::{Answer, InWords, RefusalForm, Refused, Status, read_program}
 use std::alloc::{AllocError, Global};
 use timelines::ExploreTimelineOrder;
 
-// Verdicts on claims, and the lines that are written of them.
+// The lines of claims with their verdicts, the status that the verdicts give, and the notes on claims that are checked
+// at no moment.
 #[derive(Drop)]
-struct Judged {
-    verdicts: Vec<Verdict>,
-    lines: Vec<u8>,
+pub(crate) struct Judged {
+    pub(crate) lines: Vec<u8>,
+    pub(crate) status: Status,
+    pub(crate) notes: Vec<u8>,
 }
 
 /// Answers a text about claims: a line for each claim, in their order, and then the answer of `explore` without claims,
-/// with its note. The status is `Status::Errored` if a claim is refuted or something unwanted was found, else
-/// `Status::Unended` if a claim is undecided or a bound was reached, else `Status::Succeeded`. A refused text is
-/// answered by its refusal alone.
+/// with its note. Before that note there is a line for each claim that is checked at no moment, if that is certain: no
+/// schedule sets each ref that the claim names. The status is `Status::Errored` if a claim is refuted or something
+/// unwanted was found, else `Status::Unended` if a claim is undecided or a bound was reached, else `Status::Succeeded`.
+/// A refused text is answered by its refusal alone.
 ///
 /// Each claim is checked in every world to which a schedule leads, within the bounds of the order. If a claim names a
 /// ref whose number isn't known ([`RefFault`]), the answer is empty, its status is `Status::Usage`, and the note gives
@@ -89,7 +98,7 @@ fn judged_answer<'a>(
 {
     let spaced = spaced_text(alloc, text)?;
     match soughts_of(alloc, spaced.as_slice(), asked) {
-        Ok(soughts) => sought_answer(alloc, order, form, asked, program, soughts.as_slice()),
+        Ok(soughts) => sought_answer(alloc, order, form, asked, program, soughts),
         Err(NumberFault::Unknown(name, fault)) => unnamed_answer(alloc, name, fault),
         Err(NumberFault::NoMemory) => Err(AllocError),
     }
@@ -102,16 +111,15 @@ fn sought_answer(
     form: ClaimForm,
     asked: &[Asked<'_>],
     program: &Program,
-    soughts: &[Claim],
+    soughts: Vec<Claim>,
 ) -> Result<NotedAnswer, AllocError>
-    requires { length asked.now ≡ length soughts.now }
-    ensures { IfOk result (λ n. (text : List ℕ) → Pairwise (IsSought (spaced_text text)) asked.now soughts.now →
+    requires { length asked.now ≡ length soughts.items }
+    ensures { IfOk result (λ n. (text : List ℕ) → Pairwise (IsSought (spaced_text text)) asked.now soughts.items →
         IsJudgedAnswer form order asked.now text n.note.items program.now n.answer.text.items n.answer.status) }
 {
-    let judged = verdicts_of(alloc, &order, form, asked, program, soughts)?;
-    let status = claims_status(asked, judged.verdicts.as_slice());
+    let judged = judged_of(alloc, &order, form, asked, program, soughts)?;
     let rest = explored_answer(alloc, order, form, program)?;
-    let answer = with_lines(form, judged.lines, status, rest)?;
+    let answer = with_lines(form, judged, rest)?;
     Ok(answer)
 }
 
@@ -159,25 +167,60 @@ fn reason_text(fault: RefFault) -> &'static [u8]
     }
 }
 
-// The verdicts, and the lines that are written of them.
-fn verdicts_of(
+// The verdicts of one search on the claims, and on when they are checked, and what is written of them.
+fn judged_of(
     alloc: Global,
     order: &ExploreOrder,
     form: ClaimForm,
     asked: &[Asked<'_>],
     program: &Program,
-    soughts: &[Claim],
+    soughts: Vec<Claim>,
 ) -> Result<Judged, AllocError>
-    requires { length asked.now ≡ length soughts.now }
-    ensures decided { IfOk result (λ it.
-        Pairwise (IsDecided (code_of (source_of program.now)) order.now.limits) soughts.now it.verdicts.items) }
-    ensures lines { IfOk result (λ it. AreLines (IsLine form) asked.now it.verdicts.items it.lines.items) }
-    ensures length { IfOk result (λ it. length asked.now ≡ length it.verdicts.items) }
+    requires { length asked.now ≡ length soughts.items }
+    ensures { IfOk result (λ it. AreJudgedBy (code_of (source_of program.now)) form order.now.limits asked.now
+        soughts.items it.lines.items it.status it.notes.items) }
 {
-    let verdicts = judge(alloc, program, order.limits, order.bounds, soughts)?;
-    let slice = verdicts.as_slice();
-    let lines = claim_lines(alloc, program, order.limits, form, asked, slice)?;
-    Ok(Judged { verdicts, lines })
+    let all = with_moments(alloc, soughts)?;
+    let verdicts = judge(alloc, program, order.limits, order.bounds, all.as_slice())?;
+    let judged = written(
+        alloc,
+        order.limits,
+        form,
+        asked,
+        program,
+        verdicts.as_slice(),
+    )?;
+    Ok(judged)
+}
+
+// What is written of these verdicts: those on the claims, and then those on when they are checked.
+fn written(
+    alloc: Global,
+    limits: Limits,
+    form: ClaimForm,
+    asked: &[Asked<'_>],
+    program: &Program,
+    verdicts: &[Verdict],
+) -> Result<Judged, AllocError>
+    requires limits { AreLimits limits }
+    requires spelled { All IsSpellable verdicts.now }
+    requires length { length verdicts.now ≡ length asked.now + length asked.now }
+    ensures lines { IfOk result (λ it.
+        AreLines (IsLine form) asked.now (take (length asked.now) verdicts.now) it.lines.items) }
+    ensures status { IfOk result (λ it. it.status ≡ claims_status asked.now (take (length asked.now) verdicts.now)) }
+    ensures notes { IfOk result (λ it.
+        AreUnchecked Among.All asked.now (drop (length asked.now) verdicts.now) it.notes.items) }
+{
+    let many = asked.len();
+    let decided = &verdicts[..many];
+    let lines = claim_lines(alloc, program, limits, form, asked, decided)?;
+    let status = claims_status(asked, decided);
+    let notes = unchecked_lines(alloc, Among::All, asked, &verdicts[many..])?;
+    Ok(Judged {
+        lines,
+        status,
+        notes,
+    })
 }
 
 // The answer of `explore` without claims.
@@ -198,26 +241,28 @@ fn explored_answer(
     }
 }
 
-/// The lines of claims with this status, and after them the answer `rest`.
+/// The lines of claims with their status, and after them the answer `rest`. Its note comes after those on the claims.
 pub(crate) fn with_lines(
     form: ClaimForm,
-    lines: Vec<u8>,
-    status: Status,
+    judged: Judged,
     rest: NotedAnswer,
 ) -> Result<NotedAnswer, AllocError>
-    ensures text { IfOk result (λ n. n.answer.text.items ≡ lines.items ++ (gap form ++ rest.answer.text.items)) }
-    ensures status { IfOk result (λ n. n.answer.status ≡ worse status rest.answer.status) }
-    ensures note { IfOk result (λ n. n.note.items ≡ rest.note.items) }
+    ensures text { IfOk result (λ n. n.answer.text.items ≡
+        judged.lines.items ++ (gap form ++ rest.answer.text.items)) }
+    ensures status { IfOk result (λ n. n.answer.status ≡ worse judged.status rest.answer.status) }
+    ensures note { IfOk result (λ n. n.note.items ≡ judged.notes.items ++ rest.note.items) }
 {
-    let mut text = lines;
+    let mut text = judged.lines;
     text.extend_from_slice(gap(form))?;
     text.extend_from_slice(rest.answer.text.as_slice())?;
+    let mut note = judged.notes;
+    note.extend_from_slice(rest.note.as_slice())?;
     Ok(NotedAnswer {
         answer: Answer {
             text,
-            status: worse(status, rest.answer.status),
+            status: worse(judged.status, rest.answer.status),
         },
-        note: rest.note,
+        note,
     })
 }
 

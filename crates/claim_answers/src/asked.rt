@@ -1,7 +1,7 @@
 //! The claims that are asked for.
 
 ghost use Rattle.std.specs.Prelude.{◌≡◌, ◌++◌, ◌∷◌, [], OnOk, map};
-ghost use Rattle.claim_answers.specs.Claims.{asked_texts, question_of};
+ghost use Rattle.claim_answers.specs.Claims.{AreMade, asked_texts, question_of};
 
 use claim_words::{ClaimFault, Spelled, read_claim};
 use std::alloc::{AllocError, Global};
@@ -37,18 +37,21 @@ pub struct AskFault<'a> {
     pub fault: ClaimFault,
 }
 
-/// Adds the claims that the texts spell, in the same order, or returns the first text that spells no claim.
+/// Adds the claims that the texts spell, in the same order, or returns the first text that spells no claim. A claim that
+/// names a ref by a number is refused if a run that makes at most `refs` refs doesn't make it.
 pub fn read_asked<'a>(
     alloc: Global,
     rule: Rule,
     texts: &[&'a str],
+    refs: u16,
     asked: &mut Vec<Asked<'a>>,
 ) -> Result<(), AskFault<'a>>
-    ensures { OnOk result (map question_of asked.new.items ≡ map question_of asked.old.items ++
+    ensures read { OnOk result (map question_of asked.new.items ≡ map question_of asked.old.items ++
         asked_texts rule (map (λ s. s.now) texts.now)) }
+    ensures made { OnOk result (AreMade refs asked.old.items → AreMade refs asked.new.items) }
 {
     for text in texts {
-        match one_asked(alloc, rule, text.as_bytes(), &mut *asked) {
+        match one_asked(alloc, rule, text.as_bytes(), refs, &mut *asked) {
             Ok(()) => {}
             Err(fault) => {
                 return Err(AskFault {
@@ -67,12 +70,14 @@ fn one_asked<'a>(
     alloc: Global,
     rule: Rule,
     text: &'a [u8],
+    refs: u16,
     asked: &mut Vec<Asked<'a>>,
 ) -> Result<(), ClaimFault>
-    ensures { OnOk result (map question_of asked.new.items ≡ map question_of asked.old.items ++
+    ensures read { OnOk result (map question_of asked.new.items ≡ map question_of asked.old.items ++
         asked_texts rule (text.now ∷ [])) }
+    ensures made { OnOk result (AreMade refs asked.old.items → AreMade refs asked.new.items) }
 {
-    let claim = read_claim(alloc, text)?;
+    let claim = read_claim(alloc, text, refs)?;
     match push_asked(asked, Asked { rule, claim }) {
         Ok(()) => Ok(()),
         Err(_) => Err(ClaimFault::NoMemory),

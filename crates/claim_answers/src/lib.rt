@@ -13,6 +13,7 @@ mod answering;
 mod asked;
 mod judging;
 mod lines;
+mod moments;
 mod sampling;
 mod seen_lines;
 mod statuses;

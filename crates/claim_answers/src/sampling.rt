@@ -1,6 +1,6 @@
 //! The answers to a text about claims that are looked at in schedules which are drawn at random.
 
-ghost use Rattle.std.specs.Prelude.{◌≡◌, ◌⊎◌, ℕ, List, IfOk, length};
+ghost use Rattle.std.specs.Prelude.{◌≡◌, ◌⊎◌, ◌+◌, ℕ, List, IfOk, drop, length, take};
 ghost use Rattle.derived_ops.specs.Expansion.{code_of};
 ghost use Rattle.derived_ops.specs.Reading.{source_of};
 ghost use Rattle.cell_registry.specs.Cells.{AreLimits};
@@ -13,13 +13,15 @@ ghost use Rattle.claim_answers.specs.Claims.{IsSought, Pairwise};
 ghost use Rattle.claim_answers.specs.ClaimsAnswers.{IsUnnamedAnswer};
 ghost use Rattle.claim_answers.specs.Drawn.{IsSampledClaims, IsSeenAnswer, IsSeenLine, form_of, sampled_as};
 ghost use Rattle.claim_answers.specs.Drawn.{seen_status};
-ghost use Rattle.claim_answers.specs.Private.Met.{AreSeenBy, IsFoundAs};
+ghost use Rattle.claim_answers.specs.Private.Met.{AreSeenBy, AreSeenIn, IsFoundAs, IsSpellable};
+ghost use Rattle.claim_answers.specs.Unchecked.{AreUnchecked};
 ghost use Rattle.claim_answers.specs.Verdicts.{AreLines};
 
-use crate::answering::{refused_answer, unnamed_answer, with_lines};
+use crate::answering::{Judged, refused_answer, unnamed_answer, with_lines};
 use crate::asked::Asked;
 use crate::judging::{Verdict, met_number, soughts_of};
 use crate::lines::ClaimForm;
+use crate::moments::{Among, unchecked_lines, with_moments};
 use crate::seen_lines::seen_lines;
 use crate::statuses::one_refuted;
 use claim_words::{NumberFault, spaced_text};
@@ -31,15 +33,9 @@ use outcome_trace::{Status, read_program};
 use sampled_schedules::sample_claims;
 use std::alloc::{AllocError, Global};
 
-// What was seen of claims, and the lines that are written of them.
-#[derive(Drop)]
-struct Seen {
-    verdicts: Vec<Verdict>,
-    lines: Vec<u8>,
-}
-
 /// Answers a text about claims by schedules that are drawn at random: a line for each claim, in their order, and then
-/// the answer of `sample` without claims, with its note. The status is `Status::Errored` if a claim is refuted or
+/// the answer of `sample` without claims, with its note. Before that note there is a line for each claim that names refs
+/// which no drawn schedule sets: it is checked at no moment. The status is `Status::Errored` if a claim is refuted or
 /// something unwanted was found, else `Status::Succeeded`. A refused text is answered by its refusal alone.
 ///
 /// Each claim is checked in each world on the way of each schedule, from the world before the first entry on. A claim
@@ -91,7 +87,7 @@ fn named_answer<'a>(
 {
     let spaced = spaced_text(alloc, text)?;
     match soughts_of(alloc, spaced.as_slice(), asked) {
-        Ok(soughts) => seen_answer(alloc, order, json, asked, program, soughts.as_slice()),
+        Ok(soughts) => seen_answer(alloc, order, json, asked, program, soughts),
         Err(NumberFault::Unknown(name, fault)) => unnamed_answer(alloc, name, fault),
         Err(NumberFault::NoMemory) => Err(AllocError),
     }
@@ -104,39 +100,63 @@ fn seen_answer(
     json: bool,
     asked: &[Asked<'_>],
     program: &Program,
-    soughts: &[Claim],
+    soughts: Vec<Claim>,
 ) -> Result<NotedAnswer, AllocError>
-    requires { length asked.now ≡ length soughts.now }
-    ensures { IfOk result (λ n. (text : List ℕ) → Pairwise (IsSought (spaced_text text)) asked.now soughts.now →
+    requires { length asked.now ≡ length soughts.items }
+    ensures { IfOk result (λ n. (text : List ℕ) → Pairwise (IsSought (spaced_text text)) asked.now soughts.items →
         IsSeenAnswer json order asked.now text n.note.items program.now n.answer.text.items n.answer.status) }
 {
     let seen = seen_of(alloc, &order, json, asked, program, soughts)?;
-    let status = seen_status(asked, seen.verdicts.as_slice());
     let rest = sampled_answer(alloc, order, json, program)?;
-    let answer = with_lines(form_of(json), seen.lines, status, rest)?;
+    let answer = with_lines(form_of(json), seen, rest)?;
     Ok(answer)
 }
 
-// What is seen of the claims, and the lines that are written of them.
+// What the drawn schedules show of the claims, and of when they are checked, and what is written of it.
 fn seen_of(
     alloc: Global,
     order: &SampleOrder,
     json: bool,
     asked: &[Asked<'_>],
     program: &Program,
-    soughts: &[Claim],
-) -> Result<Seen, AllocError>
-    requires { length asked.now ≡ length soughts.now }
-    ensures seen { IfOk result (λ it. AreSeenBy (code_of (source_of program.now)) order.now soughts.now
-        it.verdicts.items) }
-    ensures lines { IfOk result (λ it.
-        AreLines (IsSeenLine json order.now.times) asked.now it.verdicts.items it.lines.items) }
-    ensures length { IfOk result (λ it. length asked.now ≡ length it.verdicts.items) }
+    soughts: Vec<Claim>,
+) -> Result<Judged, AllocError>
+    requires { length asked.now ≡ length soughts.items }
+    ensures { IfOk result (λ it. AreSeenIn (code_of (source_of program.now)) json order.now asked.now soughts.items
+        it.lines.items it.status it.notes.items) }
 {
-    let verdicts = see(alloc, program, order, soughts)?;
-    let slice = verdicts.as_slice();
-    let lines = seen_lines(alloc, json, order.times, asked, slice)?;
-    Ok(Seen { verdicts, lines })
+    let all = with_moments(alloc, soughts)?;
+    let verdicts = see(alloc, program, order, all.as_slice())?;
+    let seen = written(alloc, json, order.times, asked, verdicts.as_slice())?;
+    Ok(seen)
+}
+
+// What is written of these verdicts: those on the claims, and then those on when they are checked.
+fn written(
+    alloc: Global,
+    json: bool,
+    times: u32,
+    asked: &[Asked<'_>],
+    verdicts: &[Verdict],
+) -> Result<Judged, AllocError>
+    requires spelled { All IsSpellable verdicts.now }
+    requires length { length verdicts.now ≡ length asked.now + length asked.now }
+    ensures lines { IfOk result (λ it.
+        AreLines (IsSeenLine json times) asked.now (take (length asked.now) verdicts.now) it.lines.items) }
+    ensures status { IfOk result (λ it. it.status ≡ seen_status asked.now (take (length asked.now) verdicts.now)) }
+    ensures notes { IfOk result (λ it.
+        AreUnchecked Among.Drawn asked.now (drop (length asked.now) verdicts.now) it.notes.items) }
+{
+    let many = asked.len();
+    let seen = &verdicts[..many];
+    let lines = seen_lines(alloc, json, times, asked, seen)?;
+    let status = seen_status(asked, seen);
+    let notes = unchecked_lines(alloc, Among::Drawn, asked, &verdicts[many..])?;
+    Ok(Judged {
+        lines,
+        status,
+        notes,
+    })
 }
 
 // The verdicts of the schedules that are drawn on claims, each given by the words that decide it.

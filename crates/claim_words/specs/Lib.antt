@@ -1,4 +1,5 @@
 pub mod Spacing
 pub mod Spelling
 pub mod Heads
+pub mod MadeRefs
 pub mod Private

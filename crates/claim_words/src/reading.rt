@@ -1,9 +1,12 @@
 //! The claim that a text spells.
 
 ghost use Rattle.std.specs.Prelude.{◌≡◌, IfOk};
+ghost use Rattle.std.specs.List.{All};
+ghost use Rattle.claim_words.specs.MadeRefs.{IsMade};
 ghost use Rattle.claim_words.specs.Spacing.{spaced_text};
 
 use crate::heads::is_same;
+use crate::made_refs::ref_beyond;
 use crate::scanning::{Scanner, Subject, comparison_of, subject_of, value_of, whole_of};
 use crate::spacing::spaced_text;
 use crate::spelled::{
@@ -15,11 +18,13 @@ use every_schedule::Comparison;
 use itoa::Buffer;
 use std::alloc::{AllocError, Global};
 
-/// Why a text spells no claim.
+/// Why a text spells no claim, or none that can be checked.
 #[derive(Clone, Copy, PartialEq, Eq, Debug)]
 pub enum ClaimFault {
     /// What was expected, and the number of bytes of the text before this place.
     Expected(&'static str, usize),
+    /// The claim names the ref of this number, and no run makes it: at most as many refs as the second number are made.
+    Unmade(u16, u16),
     /// Memory ran out.
     NoMemory,
 }
@@ -67,8 +72,12 @@ const PLAIN: &str = "a number without zeros or a plus sign in front";
 /// Reads the claim that a text spells: `(= REF V)`, also with `!=`, `<`, `<=`, `>` or `>=`; `deadlock`, `left` or
 /// `final`; `(and CLAIM ..)`, `(or CLAIM ..)` or `(not CLAIM)`. REF is a name or a number up to 999, V a value. Spaces
 /// around brackets and further spaces between words mean nothing. Claims can nest to any depth.
-pub fn read_claim<'a>(alloc: Global, text: &'a [u8]) -> Result<Spelled<'a>, ClaimFault>
-    ensures { IfOk result (λ claim. claim.text.items ≡ spaced_text text.now) }
+///
+/// `refs` is the greatest number of refs that a run makes. They are numbered from 0: a claim that names the ref of this
+/// number, or of a greater one, is refused.
+pub fn read_claim<'a>(alloc: Global, text: &'a [u8], refs: u16) -> Result<Spelled<'a>, ClaimFault>
+    ensures spelled { IfOk result (λ claim. claim.text.items ≡ spaced_text text.now) }
+    ensures made { IfOk result (λ claim. All (IsMade refs) claim.words.items) }
 {
     let mut scanner = Scanner::new(text);
     let claim = whole_claim(alloc, text.len(), &mut scanner)?;
@@ -79,7 +88,10 @@ pub fn read_claim<'a>(alloc: Global, text: &'a [u8]) -> Result<Spelled<'a>, Clai
     if !is_same(claim.text.as_slice(), spaced.as_slice()) {
         return Err(ClaimFault::Expected(PLAIN, 0));
     }
-    Ok(claim)
+    match ref_beyond(claim.words.as_slice(), refs) {
+        Some(number) => Err(ClaimFault::Unmade(number, refs)),
+        None => Ok(claim),
+    }
 }
 
 // The claim that begins here. Each round takes at least one bracket or word.

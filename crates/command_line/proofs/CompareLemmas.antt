@@ -1,5 +1,5 @@
 -- The effects of comparing two texts.
-use Rattle.std.proofs.Common.{◌≡◌, ◌≢◌, ◌∙◌, ℕ, List, Result, Ok, Err, refl, ap, subst}
+use Rattle.std.proofs.Common.{◌≡◌, ◌≢◌, ◌∙◌, ℕ, List, Result, Ok, Err, IfErr, inl, refl, ap, subst}
 use Rattle.compared_ends.specs.declared.order.CompareOrder.{CompareOrder}
 use Rattle.comparison_answers.specs.PairAnswers.{IsPairAnswer}
 use Rattle.text_io.specs.declared.fault.TextFault.{TextFault}
@@ -7,12 +7,11 @@ use Rattle.text_io.specs.declared.fault.TextFault.TheVariants as faults
 use Rattle.text_io.specs.declared.status.Status.{Status}
 use Rattle.text_io.specs.declared.status.Status.TheVariants.{Fault}
 use Rattle.text_io.specs.Devices.{Reader, Writer}
-use Rattle.text_io.specs.Exchange.{IsOutOfReads}
+use Rattle.text_io.specs.Exchange.{IsOutOfReads, IsRead}
 use Rattle.text_io.specs.FaultLines.{fault_line}
 use Rattle.text_io.specs.Telling.{Told}
 use Rattle.text_io.specs.Text.{GoesOut, OnlyWriteFaults, is_read_fault, is_write_fault}
-use Rattle.command_line.specs.declared.compare_order.Side.{Side}
-use Rattle.command_line.specs.Comparings.{FailsSide, WritesPair, answered, side_line}
+use Rattle.command_line.specs.Comparings.{IsFileFault, IsFileText, IsUnread, NotesPair, WritesPair, answered}
 use Rattle.command_line.proofs.RunLemmas.{only_same, out_same, write_same}
 
 read_same : (X : Type 0) (f : TextFault) → is_read_fault {A = X} (Err f) ≡ is_read_fault {A = Status} (Err f)
@@ -21,18 +20,21 @@ read_same X faults.ReadFault = refl
 read_same X (faults.WriteFault n) = refl
 read_same X faults.TurnBound = refl
 
--- a text can't be read
-pub side_fails : {X : Type 0} (side : Side) (before after : Reader) (out err err' : Writer) (status : Status) (r : Result X TextFault) (f : TextFault) →
-    r ≡ Err f → after.failed ≡ is_read_fault r → (r ≡ Err faults.TurnBound → IsOutOfReads before after) →
-    ((n : ℕ) → r ≢ Err (faults.WriteFault n)) → Told (side_line side f) err err' → status ≡ Fault → FailsSide side before after out out err err' status
-side_fails {X} side before after out err err' status r f is failed turns nothing told status_is = record {
-  fault = f;
-  failed = failed ∙ ap is_read_fault is ∙ read_same X f;
-  turns = λ same. turns (is ∙ ap Err same);
-  nothing_written = λ n same. nothing n (is ∙ ap Err same);
-  unanswered = refl;
-  told = told;
-  status_is = status_is;
+-- the text of a file that was opened
+pub file_read : (before after : Reader) (text : List ℕ) → IsUnread before → IsRead before after text → IsFileText text
+file_read before after text unread read = record { before = before; after = after; unread = unread; read = read }
+
+-- a file that was opened has no text, if reading it failed
+pub file_fault : {X : Type 0} (before after : Reader) (r : Result X TextFault) → IsUnread before → after.failed ≡ is_read_fault r →
+    (r ≡ Err faults.TurnBound → IsOutOfReads before after) → ((n : ℕ) → r ≢ Err (faults.WriteFault n)) → IfErr r IsFileFault
+file_fault before after (Ok v) unread failed turns nothing = tt
+file_fault {X} before after (Err f) unread failed turns nothing = inl record {
+  before = before;
+  after = after;
+  unread = unread;
+  failed = failed ∙ read_same X f;
+  turns = λ same. turns (ap Err same);
+  nothing_written = λ n same. nothing n (ap Err same);
 }
 
 module _ (order : CompareOrder) (out out' : Writer) (one other answer : List ℕ) (own : Status)
@@ -40,8 +42,9 @@ module _ (order : CompareOrder) (out out' : Writer) (one other answer : List ℕ
     (written : List ℕ) (same : written ≡ answer) (goes : GoesOut out.contents out'.contents written result) (only : OnlyWriteFaults result)
     (failed : out'.failed ≡ is_write_fault result) where
   -- the answer was written
-  pub pair_answered : (err : Writer) (done : Unit {0}) → result ≡ Ok done → WritesPair order one other out out' err err own
-  pair_answered err done is = answered record {
+  pub pair_answered : (err err' : Writer) (done : Unit {0}) → result ≡ Ok done → NotesPair one other err err' →
+      WritesPair order one other out out' err err' own
+  pair_answered err err' done is noted = answered record {
     answer = answer;
     own = own;
     result = Ok own;
@@ -51,7 +54,7 @@ module _ (order : CompareOrder) (out out' : Writer) (one other answer : List ℕ
         (subst (λ (t : List ℕ). GoesOut out.contents out'.contents t result) same goes);
     only = tt;
     failed = failed ∙ ap is_write_fault is;
-    told = refl;
+    told = noted;
     status_is = refl;
   }
 

@@ -3,7 +3,7 @@ use Rattle.std.specs.Prelude.{◌≡◌, ◌⊎◌, ℕ, false, List, Result, ma
 use Rattle.claim_answers.specs.declared.asked.Asked.{Asked}
 use Rattle.claim_answers.specs.declared.lines.ClaimForm.{ClaimForm}
 use Rattle.claim_answers.specs.declared.lines.ClaimForm.TheVariants as claims
-use Rattle.claim_answers.specs.Claims.{question_of, questions}
+use Rattle.claim_answers.specs.Claims.{AreMade, question_of, questions}
 use Rattle.claim_answers.specs.ClaimsAnswers.{IsClaimsAnswer}
 use Rattle.exploration_text.specs.declared.explore_texts.ExploreOrder.{ExploreOrder}
 use Rattle.reasons.specs.Refusals.{IsTextReasons}
@@ -38,9 +38,10 @@ pub record JudgesClaims (judging : Judging) (before after : Devices) (status : S
   pub asked : List Asked
   pub are : map question_of asked ≡ questions (map (λ s. s.now) judging.always.items)
       (map (λ s. s.now) judging.never.items) (map (λ s. s.now) judging.reach.items)
+  pub made : AreMade judging.order.limits.refs asked
   pub judged : JudgesText judging.order (claim_form judging.form) asked before after status
 
--- A text spells no claim, or memory ran out. That is written to `err` before the program's text is read.
+-- A text spells no claim, or one on a ref that the limits don't allow, or memory ran out. That is written to `err` before the program's text is read.
 pub record RefusesClaim (before after : Devices) (status : Status) : Type 0 where
   pub unread : after.input ≡ before.input
   pub unanswered : after.out ≡ before.out

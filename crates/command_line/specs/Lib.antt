@@ -17,3 +17,5 @@ pub mod Workers
 pub mod Comparings
 pub mod Decidings
 pub mod Judgings
+pub mod KeptDevices
+pub mod ModelNotes

@@ -1,9 +1,9 @@
 -- The effect of the words: the request that they make is obeyed, or why they make none is written.
-use Rattle.std.specs.Prelude.{◌≡◌, ◌≢◌, ◌⊎◌, true, List, [], Some, None}
+use Rattle.std.specs.Prelude.{◌≡◌, ◌≢◌, ◌⊎◌, ℕ, true, List, [], Some, None}
 use Rattle.clap.specs.Words.{IsAmong, Text, fault_of, subcommand_of, takes}
 use Rattle.clap.specs.declared.error.kind.ErrorKind.{ErrorKind}
 use Rattle.text_io.specs.declared.status.Status.{Status}
-use Rattle.text_io.specs.Devices.{Devices}
+use Rattle.text_io.specs.Devices.{Devices, Writer, devices}
 use Rattle.command_words.specs.declared.requests.Request.{Request}
 use Rattle.command_words.specs.declared.requests.Request.TheVariants.{Check, Show, Replay, Explore, Run, Sample}
 use Rattle.command_words.specs.declared.requests.Request.TheVariants.{Compare, Decide, Judge, Say, Seek, Test, Terms}
@@ -13,12 +13,13 @@ use Rattle.command_line.specs.Comparings.{ObeysCompare}
 use Rattle.command_line.specs.Decidings.{ObeysDecide}
 use Rattle.command_line.specs.Explorings.{ObeysExplore}
 use Rattle.command_line.specs.Judgings.{ObeysJudge}
+use Rattle.command_line.specs.ModelNotes.{NotesModel}
 use Rattle.command_line.specs.Replays.{ObeysReplay}
 use Rattle.command_line.specs.Runs.{ObeysRun}
 use Rattle.command_line.specs.Samplings.{ObeysSample}
 use Rattle.command_line.specs.Sayings.{ObeysSay}
 use Rattle.command_line.specs.Seekings.{ObeysSeek}
-use Rattle.command_line.specs.Tests.{ObeysTest}
+use Rattle.command_line.specs.Tests.{ObeysTerms, ObeysTest}
 use Rattle.command_line.specs.Unmarkings.{ObeysUnmark}
 use Rattle.command_words.specs.Telling.{LacksMemory, TellsKind, TellsWrong}
 use Rattle.command_words.specs.Words.{program}
@@ -40,7 +41,7 @@ ObeysRequest (Sample sampling) before after status = ObeysSample sampling before
 ObeysRequest (Compare comparing) before after status = (after.input ≡ before.input) ×
     ObeysCompare comparing.order before.out after.out before.err after.err status
 ObeysRequest (Test testing) before after status = ObeysTest before after status
-ObeysRequest (Terms translating) before after status = ObeysTest before after status
+ObeysRequest (Terms translating) before after status = ObeysTerms before after status
 
 -- The words are right, and the request that they make is obeyed.
 pub record RunsRequest (words : List Text) (before after : Devices) (status : Status) : Type 0 where
@@ -76,3 +77,9 @@ pub data Runs (words : List Text) (before after : Devices) (status : Status) : T
   no_request : HasNoRequest words before after status → Runs words before after status
   refused : IsRefused words before after status → Runs words before after status
   no_words : IsOutOfMemory before after status → Runs words before after status
+
+-- The effect of the words, and then of the note on a text that was refused, `kept` being what was read of the input.
+pub record RunsNoted (words : List Text) (kept : List ℕ) (before after : Devices) (status : Status) : Type 0 where
+  pub told : Writer
+  pub runs : Runs words before (devices after.input after.out told) status
+  pub noted : NotesModel status kept told after.err

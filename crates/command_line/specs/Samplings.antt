@@ -1,7 +1,7 @@
 -- The effect of a request to sample the schedules of a text's program.
 use Rattle.std.specs.Prelude.{◌≡◌, ◌⊎◌, Bool, true, false, ℕ, List, Result, map}
 use Rattle.claim_answers.specs.declared.asked.Asked.{Asked}
-use Rattle.claim_answers.specs.Claims.{question_of, questions}
+use Rattle.claim_answers.specs.Claims.{AreMade, question_of, questions}
 use Rattle.claim_answers.specs.Drawn.{IsSampledClaims}
 use Rattle.json_answers.specs.Answers.{IsJsonRefusal}
 use Rattle.json_answers.specs.FoundAnswers.{IsNotedJsonSample}
@@ -51,6 +51,7 @@ pub record SeesClaims (sampling : Sampling) (before after : Devices) (status : S
   pub asked : List Asked
   pub are : map question_of asked ≡ questions (map (λ s. s.now) sampling.always.items)
       (map (λ s. s.now) sampling.never.items) (map (λ s. s.now) sampling.reach.items)
+  pub made : AreMade sampling.order.limits.refs asked
   pub seen : SeesText sampling.order sampling.json asked before after status
 
 abbrev pub ObeysSample : Sampling → Devices → Devices → Status → Type 0

@@ -2,7 +2,8 @@
 
 ghost use Rattle.std.specs.Prelude.{◌≡◌, ◌⊎◌, ◌<◌, ◌^◌, false, map};
 ghost use Rattle.clap.specs.Words.{kind_of};
-ghost use Rattle.command_line.specs.Obeying.{ObeysRequest, Runs};
+ghost use Rattle.command_line.specs.KeptDevices.{input_of, text_of};
+ghost use Rattle.command_line.specs.Obeying.{ObeysRequest, Runs, RunsNoted};
 ghost use Rattle.command_words.specs.Requests.{AreSettledByInput, IsSettledByInput};
 ghost use Rattle.command_words.specs.Telling.{LacksMemory, TellsKind, TellsWrong};
 ghost use Rattle.text_io.specs.Devices.{devices};
@@ -12,6 +13,8 @@ use crate::compare_order::obey_compare;
 use crate::decide_order::obey_decide;
 use crate::explore_order::obey_explore;
 use crate::judge_order::obey_judge;
+use crate::kept_devices::{HeardOutput, KeptInput};
+use crate::model_notes::note_model;
 use crate::replay_order::obey_replay;
 use crate::run_order::obey_run;
 use crate::sample_order::obey_sample;
@@ -21,18 +24,36 @@ use crate::test_order::{obey_terms, obey_test};
 use crate::unmark_order::obey_unmark;
 use clap::error::ErrorKind;
 use clap::{ArgMatches, Error};
-use command_words::{Request, all_words, no_request_reason, refuse_words, request_of};
+use command_words::{
+    Request, all_words, no_request_reason, refuse_words, request_of, shown_reason,
+};
 use outcome_trace::{Status, TextFault, TextIn, TextOut, tell_fault, write_text};
-use std::alloc::Global;
+use std::alloc::{AllocError, Global};
 use std::convert::AsStr;
 use std::rt::Files;
 use std::sync::Wait;
 use std::thread::Threads;
 use std::time::Clock;
 
+// What is written of words that `clap` refuses, or of a request for help or the version.
+fn error_text<S: AsStr>(alloc: Global, words: &[S], error: &Error) -> Result<String, AllocError> {
+    if error.use_stderr() {
+        if let Some(text) = shown_reason(alloc, words)? {
+            return Ok(text);
+        }
+    }
+    error.to_string(alloc)
+}
+
 // Writes help or the version to `out`, or what is wrong with the words to `err`, in `clap`'s words. If help can't be
 // written, the line of the fault goes to `err`.
-fn usage<O: TextOut, E: TextOut>(alloc: Global, error: &Error, out: &mut O, err: &mut E) -> Status
+fn usage<S: AsStr, O: TextOut, E: TextOut>(
+    alloc: Global,
+    words: &[S],
+    error: &Error,
+    out: &mut O,
+    err: &mut E,
+) -> Status
     requires out { (O.seen out.old).failed ≡ false }
     requires err { (E.seen err.old).failed ≡ false }
     ensures { TellsKind (kind_of error.now) (O.seen out.old) (O.seen out.new) (E.seen err.old) (E.seen err.new) result }
@@ -40,7 +61,7 @@ fn usage<O: TextOut, E: TextOut>(alloc: Global, error: &Error, out: &mut O, err:
     if error.kind() == ErrorKind::OutOfMemory {
         return tell_fault(TextFault::NoMemory, err);
     }
-    let Ok(text) = error.to_string(alloc) else {
+    let Ok(text) = error_text(alloc, words, error) else {
         return tell_fault(TextFault::NoMemory, err);
     };
     if error.use_stderr() {
@@ -112,8 +133,41 @@ fn refuse_request<E: TextOut>(alloc: Global, matches: &ArgMatches<'_>, err: &mut
 /// `Status::Fault` if memory ran out or a device failed.
 ///
 /// Help and the version go to `out`, what is wrong with the words to `err`, both in `clap`'s words. `colors` is whether
-/// verdicts have colours if the words leave that open.
+/// verdicts have colours if the words leave that open. If the text of the input is refused, and begins as a model file,
+/// a note on that goes to `err` at last.
 pub fn command<'a, R, S, I, O, E>(
+    rt: &R,
+    words: &'a [S],
+    colors: bool,
+    input: &mut KeptInput<I>,
+    out: &mut O,
+    err: &mut HeardOutput<E>,
+) -> Status
+where
+    R: AllocGlobal + Clock + Files + Threads + Wait + Sync,
+    S: AsStr,
+    I: TextIn,
+    O: TextOut,
+    E: TextOut,
+    requires input { (I.seen (input_of input.old)).failed ≡ false }
+    requires countable { (I.seen (input_of input.old)).reads < 2 ^ 63 }
+    requires out { (O.seen out.old).failed ≡ false }
+    requires err { (E.seen err.old.inner).failed ≡ false }
+    ensures runs { RunsNoted (map S.text words.entry.now) (text_of input.new)
+        (devices (I.seen (input_of input.old)) (O.seen out.old) (E.seen err.old.inner))
+        (devices (I.seen (input_of input.new)) (O.seen out.new) (E.seen err.new.inner)) result }
+
+    // What is wrong with the words alone is reported before the input is read.
+    ensures unread { result ≡ Status.Usage → (AreSettledByInput (map S.text words.entry.now) → ⊥) →
+        input.new ≡ input.old }
+{
+    let status = run_words(rt, words, colors, input, out, err);
+    note_model(status, input, err);
+    status
+}
+
+// The same without the note.
+fn run_words<'a, R, S, I, O, E>(
     rt: &R,
     words: &'a [S],
     colors: bool,
@@ -148,6 +202,6 @@ where
             Ok(None) => refuse_request(alloc, &matches, err),
             Err(_) => tell_fault(TextFault::NoMemory, err),
         },
-        Err(error) => usage(alloc, &error, out, err),
+        Err(error) => usage(alloc, words, &error, out, err),
     }
 }

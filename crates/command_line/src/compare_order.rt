@@ -1,20 +1,27 @@
 //! The comparison of the programs of two files.
 
-ghost use Rattle.std.specs.Prelude.{◌≡◌, ◌++◌, ◌<◌, ◌^◌, codes, false};
-ghost use Rattle.command_line.specs.Comparings.{ComparesSecond, ComparesTexts, ObeysCompare, WritesPair};
-ghost use Rattle.command_line.specs.Comparings.{side_line};
+ghost use Rattle.std.specs.Prelude.{◌≡◌, ◌++◌, codes, false, IfErr, IfOk};
+ghost use Rattle.command_line.specs.Comparings.{ComparesSecond, IsFileFault, IsFileText, IsPairNote, NotesPair};
+ghost use Rattle.command_line.specs.Comparings.{ObeysCompare, WritesPair, side_line};
 ghost use Rattle.text_io.specs.Telling.{Told};
 ghost use Rattle.text_io.specs.declared.fault.TextFault.TheVariants.{ReadFault, TurnBound};
 
 use command_words::Comparing;
 use comparison_answers::{CompareOrder, answer_pair};
-use outcome_trace::{
-    FromRead, Status, TextFault, TextIn, TextOut, read_text, tell_fault, write_text,
-};
+use file_kinds::is_model_file;
+use outcome_trace::{FromRead, Status, TextFault, TextOut, read_text, tell_fault, write_text};
 use std::alloc::Global;
 use std::fs;
-use std::io::Read;
 use std::rt::Files;
+
+// The notes on a text that begins as a model file.
+const FIRST_NOTE: &str =
+    "first: this looks like a model file: `fiber_cli test FILE` tests it, and `fiber_cli terms FILE` \
+     prints its terms\n";
+
+const SECOND_NOTE: &str =
+    "second: this looks like a model file: `fiber_cli test FILE` tests it, and `fiber_cli terms FILE` \
+     prints its terms\n";
 
 /// One of two files.
 #[derive(Clone, Copy)]
@@ -25,8 +32,9 @@ pub(crate) enum Side {
     Second,
 }
 
-/// Compares the programs of two files. Returns the status of the answer, or `Status::Fault` if a file can't be opened
-/// or read, a device failed, or memory ran out. The line of the fault goes to `err`.
+/// Compares the programs of two files. The first file is read and closed before the second is opened. Returns the
+/// status of the answer, or `Status::Fault` if a file can't be opened or read, a device failed, or memory ran out. The
+/// line of the fault goes to `err`.
 pub fn obey_compare<R: Files, O: TextOut, E: TextOut>(
     rt: &R,
     alloc: Global,
@@ -39,92 +47,42 @@ pub fn obey_compare<R: Files, O: TextOut, E: TextOut>(
     ensures { ObeysCompare comparing.entry.order (O.seen out.old) (O.seen out.new) (E.seen err.old) (E.seen err.new)
         result }
 {
-    match fs::open(rt, comparing.first) {
-        Ok(file) => compare_behind(rt, alloc, comparing, file, out, err),
-        Err(_) => tell_side(Side::First, TextFault::ReadFault, err),
-    }
-}
-
-// The same, once the first file is open.
-fn compare_behind<R: Files, O: TextOut, E: TextOut>(
-    rt: &R,
-    alloc: Global,
-    comparing: Comparing<'_>,
-    first: R::File,
-    out: &mut O,
-    err: &mut E,
-) -> Status
-    requires out { (O.seen out.old).failed ≡ false }
-    requires err { (E.seen err.old).failed ≡ false }
-    ensures { ObeysCompare comparing.entry.order (O.seen out.old) (O.seen out.new) (E.seen err.old) (E.seen err.new)
-        result }
-{
-    match fs::open(rt, comparing.second) {
-        Ok(file) => compare_files(alloc, &comparing.order, first, file, out, err),
-        Err(_) => tell_side(Side::Second, TextFault::ReadFault, err),
-    }
-}
-
-// The same, once both files are open.
-fn compare_files<F: Read + Drop, O: TextOut, E: TextOut>(
-    alloc: Global,
-    order: &CompareOrder,
-    first: F,
-    second: F,
-    out: &mut O,
-    err: &mut E,
-) -> Status
-    requires out { (O.seen out.old).failed ≡ false }
-    requires err { (E.seen err.old).failed ≡ false }
-    ensures { ObeysCompare order.now (O.seen out.old) (O.seen out.new) (E.seen err.old) (E.seen err.new) result }
-{
-    let mut one = FromRead::new(first);
-    let mut other = FromRead::new(second);
-    compare_texts(alloc, order, &mut one, &mut other, out, err)
-}
-
-// Reads two texts, and writes the answer to both.
-fn compare_texts<I: TextIn, J: TextIn, O: TextOut, E: TextOut>(
-    alloc: Global,
-    order: &CompareOrder,
-    first: &mut I,
-    second: &mut J,
-    out: &mut O,
-    err: &mut E,
-) -> Status
-    requires first { (I.seen first.old).failed ≡ false }
-    requires first_countable { (I.seen first.old).reads < 2 ^ 63 }
-    requires second { (J.seen second.old).failed ≡ false }
-    requires second_countable { (J.seen second.old).reads < 2 ^ 63 }
-    requires out { (O.seen out.old).failed ≡ false }
-    requires err { (E.seen err.old).failed ≡ false }
-    ensures { ComparesTexts order.now (I.seen first.old) (I.seen first.new) (J.seen second.old) (J.seen second.new)
-        (O.seen out.old) (O.seen out.new) (E.seen err.old) (E.seen err.new) result }
-{
-    match read_text(alloc, first) {
-        Ok(text) => compare_second(alloc, order, text.as_slice(), second, out, err),
+    match file_text(rt, alloc, comparing.first) {
+        Ok(text) => compare_second(rt, alloc, comparing, text.as_slice(), out, err),
         Err(fault) => tell_side(Side::First, fault, err),
     }
 }
 
+// The text of a file. The file is closed again.
+fn file_text<R: Files>(rt: &R, alloc: Global, path: &str) -> Result<Vec<u8>, TextFault>
+    ensures text { IfOk result (λ text. IsFileText text.items) }
+    ensures fault { IfErr result IsFileFault }
+{
+    match fs::open(rt, path) {
+        Ok(file) => {
+            let mut input = FromRead::new(file);
+            read_text(alloc, &mut input)
+        }
+        Err(_) => Err(TextFault::ReadFault),
+    }
+}
+
 // The same, once the first text is read.
-fn compare_second<J: TextIn, O: TextOut, E: TextOut>(
+fn compare_second<R: Files, O: TextOut, E: TextOut>(
+    rt: &R,
     alloc: Global,
-    order: &CompareOrder,
+    comparing: Comparing<'_>,
     one: &[u8],
-    second: &mut J,
     out: &mut O,
     err: &mut E,
 ) -> Status
-    requires second { (J.seen second.old).failed ≡ false }
-    requires second_countable { (J.seen second.old).reads < 2 ^ 63 }
     requires out { (O.seen out.old).failed ≡ false }
     requires err { (E.seen err.old).failed ≡ false }
-    ensures { ComparesSecond order.now one.now (J.seen second.old) (J.seen second.new) (O.seen out.old)
-        (O.seen out.new) (E.seen err.old) (E.seen err.new) result }
+    ensures { ComparesSecond comparing.entry.order one.now (O.seen out.old) (O.seen out.new) (E.seen err.old)
+        (E.seen err.new) result }
 {
-    match read_text(alloc, second) {
-        Ok(text) => write_pair(alloc, order, one, text.as_slice(), out, err),
+    match file_text(rt, alloc, comparing.second) {
+        Ok(text) => write_pair(alloc, &comparing.order, one, text.as_slice(), out, err),
         Err(fault) => tell_side(Side::Second, fault, err),
     }
 }
@@ -147,8 +105,32 @@ fn write_pair<O: TextOut, E: TextOut>(
         return tell_fault(TextFault::NoMemory, err);
     };
     match write_text(answer.text.as_slice(), out) {
-        Ok(()) => answer.status,
+        Ok(()) => {
+            note_pair(one, other, err);
+            answer.status
+        }
         Err(fault) => tell_fault(fault, err),
+    }
+}
+
+// Writes a note on the first of two texts that begins as a model file. Its answer is a refusal.
+fn note_pair<E: TextOut>(one: &[u8], other: &[u8], err: &mut E)
+    requires { (E.seen err.old).failed ≡ false }
+    ensures { NotesPair one.now other.now (E.seen err.old) (E.seen err.new) }
+{
+    let _ = write_text(pair_note(one, other).as_bytes(), err);
+}
+
+// The note, or nothing if neither text begins as a model file.
+fn pair_note(one: &[u8], other: &[u8]) -> &'static str
+    ensures { IsPairNote one.now other.now result.now }
+{
+    if is_model_file(one) {
+        FIRST_NOTE
+    } else if is_model_file(other) {
+        SECOND_NOTE
+    } else {
+        ""
     }
 }
 

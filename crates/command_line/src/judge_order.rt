@@ -1,7 +1,7 @@
 //! Claims on a text's program.
 
 ghost use Rattle.std.specs.Prelude.{◌≡◌, ◌⊎◌, ◌<◌, ◌^◌, ℕ, List, false, Err as Fails, IfErr, IfOk, Ok as Answered, map};
-ghost use Rattle.claim_answers.specs.Claims.{question_of, questions};
+ghost use Rattle.claim_answers.specs.Claims.{AreMade, question_of, questions};
 ghost use Rattle.claim_answers.specs.ClaimsAnswers.{IsClaimsAnswer};
 ghost use Rattle.command_line.specs.Judgings.{JudgesText, ObeysJudge, claim_form};
 ghost use Rattle.command_words.specs.Telling.{LacksMemory, TellsWrong};
@@ -11,7 +11,6 @@ ghost use Rattle.text_io.specs.Exchange.{IsAnswered};
 use claim_answers::{AskFault, Asked, ClaimFault, ClaimForm, Rule, answer_claims, read_asked};
 use command_words::{ExploreForm, Judging, refuse_words, value_reason};
 use exploration_text::{ExploreOrder, NotedAnswer};
-use itoa::Buffer;
 use outcome_trace::{Status, TextFault, TextIn, TextOut, read_text, tell_fault, write_text};
 use std::alloc::{AllocError, Global};
 
@@ -25,8 +24,9 @@ pub(crate) struct Judged {
 }
 
 /// Judges claims on a text's program. Returns the status of the answer, `Status::Usage` if a text spells no claim or a
-/// claim names a ref whose number isn't known, or `Status::Fault` if a device failed or memory ran out. All but the
-/// answer goes to `err`. A text that spells no claim is refused before the program's text is read.
+/// claim names a ref whose number isn't known or that the limits don't allow, or `Status::Fault` if a device failed or
+/// memory ran out. All but the answer goes to `err`. A text that spells no claim, or one on a ref of a number that the
+/// limits don't allow, is refused before the program's text is read.
 pub fn obey_judge<I: TextIn, O: TextOut, E: TextOut>(
     alloc: Global,
     judging: Judging<'_>,
@@ -48,7 +48,14 @@ pub fn obey_judge<I: TextIn, O: TextOut, E: TextOut>(
         never,
         reach,
     } = judging;
-    match asked_of(alloc, always.as_slice(), never.as_slice(), reach.as_slice()) {
+    let refs = order.limits.refs;
+    match asked_of(
+        alloc,
+        always.as_slice(),
+        never.as_slice(),
+        reach.as_slice(),
+        refs,
+    ) {
         Ok(asked) => {
             let form = claim_form(form);
             obey_asked(alloc, order, form, asked.as_slice(), input, out, err)
@@ -57,20 +64,22 @@ pub fn obey_judge<I: TextIn, O: TextOut, E: TextOut>(
     }
 }
 
-/// The claims that the texts of the three options spell, in their order.
+/// The claims that the texts of the three options spell, in their order. At most `refs` refs can be made.
 pub(crate) fn asked_of<'a>(
     alloc: Global,
     always: &[&'a str],
     never: &[&'a str],
     reach: &[&'a str],
+    refs: u16,
 ) -> Result<Vec<Asked<'a>>, AskFault<'a>>
-    ensures { IfOk result (λ asked. map question_of asked.items ≡ questions (map (λ s. s.now) always.now)
+    ensures read { IfOk result (λ asked. map question_of asked.items ≡ questions (map (λ s. s.now) always.now)
         (map (λ s. s.now) never.now) (map (λ s. s.now) reach.now)) }
+    ensures made { IfOk result (λ asked. AreMade refs asked.items) }
 {
     let mut asked = Vec::new(alloc);
-    read_asked(alloc, Rule::Always, always, &mut asked)?;
-    read_asked(alloc, Rule::Never, never, &mut asked)?;
-    read_asked(alloc, Rule::Reach, reach, &mut asked)?;
+    read_asked(alloc, Rule::Always, always, refs, &mut asked)?;
+    read_asked(alloc, Rule::Never, never, refs, &mut asked)?;
+    read_asked(alloc, Rule::Reach, reach, refs, &mut asked)?;
     Ok(asked)
 }
 
@@ -154,15 +163,22 @@ pub(crate) fn refuse_claim<E: TextOut>(alloc: Global, fault: AskFault<'_>, err: 
 
 // The reason that a text spells no claim, or `AllocError` if memory ran out.
 fn claim_reason(alloc: Global, fault: AskFault<'_>) -> Result<String, AllocError> {
-    let ClaimFault::Expected(what, place) = fault.fault else {
-        return Err(AllocError);
+    let expected = match fault.fault {
+        ClaimFault::Expected(what, place) => format!(in alloc; "expected {what} at {place}")?,
+        ClaimFault::Unmade(number, refs) => unmade_reason(alloc, number, refs)?,
+        ClaimFault::NoMemory => return Err(AllocError),
     };
-    let mut digits = Buffer::new();
-    let mut expected = String::from_str(alloc, "expected ")?;
-    expected.push_str(what)?;
-    expected.push_str(" at ")?;
-    expected.push_str(digits.format(place))?;
     value_reason(alloc, fault.text, option_of(fault.rule), expected.as_str())
+}
+
+// The reason that no run makes the ref of this number: at most `refs` are made.
+fn unmade_reason(alloc: Global, number: u16, refs: u16) -> Result<String, AllocError> {
+    let last = refs.saturating_sub(1);
+    let more = number.saturating_add(1);
+    format!(in alloc;
+        "it names ref {number}, but refs are numbered from 0, and with '--refs {refs}' the last is ref {last}; \
+         '--refs {more}' allows it"
+    )
 }
 
 // The option of a claim, as help writes it.

@@ -20,9 +20,9 @@ use std::alloc::Global;
 
 /// Draws schedules of a text's program at random, and answers with what was seen of the claims, and with the reports
 /// and faults of the schedules. Returns the status of the answer, `Status::Usage` if a text spells no claim or a claim
-/// names a ref whose number isn't known, or `Status::Fault` if a device failed or memory ran out. All but the answer
-/// goes to `err`, also the wanted outcomes to which no schedule led. A text that spells no claim is refused before the
-/// program's text is read.
+/// names a ref whose number isn't known or that the limits don't allow, or `Status::Fault` if a device failed or memory
+/// ran out. All but the answer goes to `err`, also the wanted outcomes to which no schedule led. A text that spells no
+/// claim, or one on a ref of a number that the limits don't allow, is refused before the program's text is read.
 pub fn obey_sample<I: TextIn, O: TextOut, E: TextOut>(
     alloc: Global,
     sampling: Sampling<'_>,
@@ -51,7 +51,7 @@ pub fn obey_sample<I: TextIn, O: TextOut, E: TextOut>(
     if are_none(held, barred, sought) {
         return obey_plain(alloc, order, json, input, out, err);
     }
-    match asked_of(alloc, held, barred, sought) {
+    match asked_of(alloc, held, barred, sought, order.limits.refs) {
         Ok(asked) => obey_asked(alloc, order, json, asked.as_slice(), input, out, err),
         Err(fault) => refuse_claim(alloc, fault, err),
     }

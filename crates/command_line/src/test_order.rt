@@ -1,23 +1,27 @@
 //! The test of model files, over devices.
 
 ghost use Rattle.std.specs.Prelude.{◌≡◌, ◌≢◌, ◌<◌, false};
-ghost use Rattle.command_line.specs.Tests.{IsTestStatus, are_colored};
+ghost use Rattle.command_line.specs.Tests.{IsCounted, IsTestStatus, IsTestedStatus, are_colored};
 ghost use Rattle.text_io.specs.Text.{OnlyOutFaults, is_write_fault};
 
+use crate::test_reports::{Reports, open_reports, tell_problem, tell_report};
 use command_words::{Coloring, TestForm, Testing, Translating};
 use model_suites::{Board, Progress, Suite, SuiteForm, SuiteOrder, Told};
-use outcome_trace::{Status, TextFault, TextOut, ToWrite, tell_fault, write_text};
+use outcome_trace::{Status, TextFault, TextOut, tell_fault, write_text};
 use std::alloc::{AllocError, Global};
 use std::rt::Files;
 use std::sync::Wait;
+use std::thread;
 use std::thread::{Threads, join_mut};
 use std::time::Clock;
-use std::{fs, thread};
 
 /// Tests the models of files. Returns `Status::Succeeded` if all passed, `Status::Errored` if one failed or there is
 /// none, `Status::Unended` if none failed and one is undecided, `Status::Refused` if a file has a fault, which is
-/// written to `err`, and `Status::Fault` if a device failed or memory ran out. While models are explored, progress goes
-/// to `err` if the words ask for it. `colors` is whether verdicts have colours if the words leave that open.
+/// written to `err`, `Status::Usage` if something could be lost at the path of a report, and `Status::Fault` if a
+/// device failed or memory ran out. While models are explored, progress goes to `err` if the words ask for it. `colors`
+/// is whether verdicts have colours if the words leave that open.
+///
+/// The reports of an earlier test are removed before any file is read. Models that are only listed have no reports.
 pub fn obey_test<R: Files + Clock + Threads + Wait + Sync, O: TextOut, E: TextOut>(
     rt: &R,
     alloc: Global,
@@ -29,41 +33,59 @@ pub fn obey_test<R: Files + Clock + Threads + Wait + Sync, O: TextOut, E: TextOu
     requires out { (O.seen out.old).failed ≡ false }
     requires err { (E.seen err.old).failed ≡ false }
     ensures whole { result ≢ Status.Fault → (O.seen out.new).failed ≡ false }
+    ensures usage { result ≡ Status.Usage → out.new ≡ out.old }
     ensures status { IsTestStatus result }
 {
-    let Testing {
-        files,
-        filter,
-        junit,
-        html,
-        worlds,
-        memory,
-        seconds,
-        jobs,
-        form,
-        color,
-        progress,
-    } = testing;
-    let reports = Reports { junit, html };
-    let order = SuiteOrder {
-        filter,
-        worlds,
-        memory,
-        seconds,
-        form: suite_form(form),
-        junit: junit.is_some(),
-        html: html.is_some(),
-        color: has_colors(color, colors),
+    let reports = match open_reports(rt, alloc, &testing) {
+        Ok(reports) => reports,
+        Err(problem) => return tell_problem(alloc, problem, err),
     };
-    let Ok(suite) = Suite::open(rt, alloc, order, files.as_slice()) else {
+    match reports.clear(rt) {
+        Ok(()) => test_files(rt, alloc, testing, colors, reports, out, err),
+        Err(fault) => tell_report(fault, err),
+    }
+}
+
+// Reads the files, and tests their models.
+fn test_files<R: Files + Clock + Threads + Wait + Sync, O: TextOut, E: TextOut>(
+    rt: &R,
+    alloc: Global,
+    testing: Testing<'_>,
+    colors: bool,
+    reports: Reports<'_>,
+    out: &mut O,
+    err: &mut E,
+) -> Status
+    requires out { (O.seen out.old).failed ≡ false }
+    requires err { (E.seen err.old).failed ≡ false }
+    ensures whole { result ≢ Status.Fault → (O.seen out.new).failed ≡ false }
+    ensures status { IsTestedStatus result }
+{
+    let order = order_of(&testing, &reports, colors);
+    let Ok(suite) = Suite::open(rt, alloc, order, testing.files.as_slice()) else {
         return tell_fault(TextFault::NoMemory, err);
     };
     if suite.faults().is_empty() {
-        let jobs = job_count(rt, jobs);
-        let progress = Progress::new(alloc, rt, progress);
+        let jobs = job_count(rt, testing.jobs);
+        let progress = Progress::new(alloc, rt, testing.progress);
         test_suite(rt, &suite, jobs, reports, out, progress, err)
     } else {
         refuse_suite(&suite, err)
+    }
+}
+
+// The order of a suite, by the words.
+fn order_of<'a>(testing: &Testing<'a>, reports: &Reports<'_>, colors: bool) -> SuiteOrder<'a> {
+    SuiteOrder {
+        filter: testing.filter,
+        worlds: testing.worlds,
+        memory: testing.memory,
+        seconds: testing.seconds,
+        total_seconds: testing.total_seconds,
+        form: suite_form(testing.form),
+        junit: reports.junit.is_some(),
+        html: reports.html.is_some(),
+        color: has_colors(testing.color, colors),
     }
 }
 
@@ -113,15 +135,6 @@ fn refuse_suite<E: TextOut>(suite: &Suite<'_>, err: &mut E) -> Status
     Status::Refused
 }
 
-// The paths of the files to which the reports of a test are written.
-#[derive(Clone, Copy)]
-struct Reports<'a> {
-    // The report for CI.
-    junit: Option<&'a str>,
-    // The page of HTML.
-    html: Option<&'a str>,
-}
-
 // Tests the models of a suite without faults, `jobs` of them side by side.
 fn test_suite<R: Files + Clock + Threads + Wait + Sync, O: TextOut, E: TextOut>(
     rt: &R,
@@ -135,7 +148,7 @@ fn test_suite<R: Files + Clock + Threads + Wait + Sync, O: TextOut, E: TextOut>(
     requires out { (O.seen out.old).failed ≡ false }
     requires err { progress.failed ≡ false → (E.seen err.old).failed ≡ false }
     ensures whole { result ≢ Status.Fault → (O.seen out.new).failed ≡ false }
-    ensures status { IsTestStatus result }
+    ensures status { IsTestedStatus result }
 {
     let mut told = suite.told();
     let mut progress = progress;
@@ -164,14 +177,12 @@ fn write_models<R: Clock + Threads + Wait + Sync, O: TextOut, E: TextOut>(
     let Ok(opening) = suite.opening() else {
         return Err(TextFault::NoMemory);
     };
-    let Ok(board) = suite.board() else {
+    let jobs = jobs.min(suite.len());
+    let Ok(board) = suite.board(jobs) else {
         return Err(TextFault::NoMemory);
     };
-    match write_text(opening.as_slice(), out) {
-        Ok(()) => {
-            let jobs = jobs.min(suite.len());
-            write_jobs(rt, suite, &board, jobs, told, out, progress, err)
-        }
+    match write_part(opening.as_slice(), told, out) {
+        Ok(()) => write_jobs(rt, suite, &board, jobs, told, out, progress, err),
         Err(fault) => Err(fault),
     }
 }
@@ -249,12 +260,36 @@ fn write_each<R: Clock + Wait, O: TextOut, E: TextOut>(
         let Ok(text) = tell_next(rt, suite, board, told, index) else {
             return Err(TextFault::NoMemory);
         };
-        match write_text(text.as_slice(), out) {
+        match write_part(text.as_slice(), told, out) {
             Ok(()) => {}
             Err(fault) => return Err(fault),
         }
     }
     Ok(())
+}
+
+/// Writes a part of what is printed. A fault counts the bytes of the parts before it, too.
+pub(crate) fn write_part<O: TextOut>(
+    text: &[u8],
+    told: &mut Told,
+    out: &mut O,
+) -> Result<(), TextFault>
+    requires { (O.seen out.old).failed ≡ false }
+    ensures failed { (O.seen out.new).failed ≡ is_write_fault result }
+    ensures only { OnlyOutFaults result }
+    ensures counted { IsCounted told.old.printed told.new.printed (O.seen out.old).contents (O.seen out.new).contents
+        text.now result }
+{
+    match write_text(text, out) {
+        Ok(()) => {
+            told.printed = told.printed.saturating_add(text.len());
+            Ok(())
+        }
+        Err(TextFault::WriteFault(written)) => {
+            Err(TextFault::WriteFault(told.printed.saturating_add(written)))
+        }
+        Err(fault) => Err(fault),
+    }
 }
 
 // The text that is printed as soon as a model is tested.
@@ -283,7 +318,7 @@ fn end_suite<R: Files, O: TextOut, E: TextOut>(
     requires out { (O.seen out.old).failed ≡ false }
     requires err { progress.failed ≡ false → (E.seen err.old).failed ≡ false }
     ensures whole { result ≢ Status.Fault → (O.seen out.new).failed ≡ false }
-    ensures status { IsTestStatus result }
+    ensures status { IsTestedStatus result }
 {
     let mut told = told;
     let mut progress = progress;
@@ -294,106 +329,19 @@ fn end_suite<R: Files, O: TextOut, E: TextOut>(
         return progress.tell_fault(TextFault::NoMemory, err);
     };
     progress.write(missing.as_slice(), err);
-    match write_text(text.as_slice(), out) {
-        Ok(()) => match write_reports(rt, &told, reports) {
+    match write_part(text.as_slice(), &mut told, out) {
+        Ok(()) => match reports.write(rt, &mut told, out) {
             Ok(()) => told.status(),
-            Err(fault) => tell_report(fault, progress, err),
+            Err(_) if progress.failed => Status::Fault,
+            Err(fault) => tell_report(fault, err),
         },
         Err(fault) => progress.tell_fault(fault, err),
     }
 }
 
-// A report that couldn't be written.
-#[derive(Clone, Copy)]
-struct ReportFault<'a> {
-    // The path of its file.
-    path: &'a str,
-    // The fault of its file, or that memory ran out.
-    fault: TextFault,
-}
-
-// Writes the reports that are asked for, each to its file.
-fn write_reports<'a, R: Files>(
-    rt: &R,
-    told: &Told,
-    reports: Reports<'a>,
-) -> Result<(), ReportFault<'a>> {
-    if let Some(path) = reports.junit {
-        write_report(rt, path, told.junit())?;
-    }
-    match reports.html {
-        Some(path) => write_report(rt, path, told.html()),
-        None => Ok(()),
-    }
-}
-
-// Writes a report to a file.
-fn write_report<'a, R: Files>(
-    rt: &R,
-    path: &'a str,
-    report: Result<Vec<u8>, AllocError>,
-) -> Result<(), ReportFault<'a>> {
-    match write_file(rt, path, report) {
-        Ok(()) => Ok(()),
-        Err(fault) => Err(ReportFault { path, fault }),
-    }
-}
-
-// Creates a file, and writes a report to it.
-fn write_file<R: Files>(
-    rt: &R,
-    path: &str,
-    report: Result<Vec<u8>, AllocError>,
-) -> Result<(), TextFault> {
-    let Ok(text) = report else {
-        return Err(TextFault::NoMemory);
-    };
-    let Ok(file) = fs::create(rt, path) else {
-        return Err(TextFault::WriteFault(0));
-    };
-    let mut device = ToWrite::new(file);
-    write_text(text.as_slice(), &mut device)
-}
-
-// Writes the line of a report's fault, after the path if the file failed, unless a write has failed.
-fn tell_report<E: TextOut>(report: ReportFault<'_>, progress: Progress, err: &mut E) -> Status
-    requires { progress.failed ≡ false → (E.seen err.old).failed ≡ false }
-    ensures { result ≡ Status.Fault }
-{
-    if progress.failed {
-        return Status::Fault;
-    }
-    match report.fault {
-        TextFault::WriteFault(_) => tell_file(report.path, report.fault, err),
-        _ => tell_fault(report.fault, err),
-    }
-}
-
-// Writes the line of a fault after the path of a file. If `err` fails, nothing more is written.
-fn tell_file<E: TextOut>(path: &str, fault: TextFault, err: &mut E) -> Status
-    requires { (E.seen err.old).failed ≡ false }
-    ensures { result ≡ Status.Fault }
-{
-    match write_text(path.as_bytes(), err) {
-        Ok(()) => tell_separated(fault, err),
-        Err(_) => Status::Fault,
-    }
-}
-
-// Writes the line of a fault after a colon.
-fn tell_separated<E: TextOut>(fault: TextFault, err: &mut E) -> Status
-    requires { (E.seen err.old).failed ≡ false }
-    ensures { result ≡ Status.Fault }
-{
-    match write_text(b": ", err) {
-        Ok(()) => tell_fault(fault, err),
-        Err(_) => Status::Fault,
-    }
-}
-
 /// Prints the terms of the models of a file. Returns `Status::Succeeded`, `Status::Refused` if the file has a fault,
 /// which is written to `err`, or `Status::Fault` if a device failed or memory ran out.
-pub fn obey_terms<R: Files, O: TextOut, E: TextOut>(
+pub fn obey_terms<R: Clock + Files, O: TextOut, E: TextOut>(
     rt: &R,
     alloc: Global,
     translating: Translating<'_>,
@@ -403,7 +351,7 @@ pub fn obey_terms<R: Files, O: TextOut, E: TextOut>(
     requires out { (O.seen out.old).failed ≡ false }
     requires err { (E.seen err.old).failed ≡ false }
     ensures whole { result ≢ Status.Fault → (O.seen out.new).failed ≡ false }
-    ensures status { IsTestStatus result }
+    ensures status { IsTestedStatus result }
 {
     let files = [translating.file];
     let order = SuiteOrder {
@@ -411,6 +359,7 @@ pub fn obey_terms<R: Files, O: TextOut, E: TextOut>(
         worlds: 1,
         memory: 1,
         seconds: None,
+        total_seconds: None,
         form: SuiteForm::Report,
         junit: false,
         html: false,
@@ -431,7 +380,7 @@ fn write_terms<O: TextOut, E: TextOut>(suite: &Suite<'_>, out: &mut O, err: &mut
     requires out { (O.seen out.old).failed ≡ false }
     requires err { (E.seen err.old).failed ≡ false }
     ensures whole { result ≢ Status.Fault → (O.seen out.new).failed ≡ false }
-    ensures status { IsTestStatus result }
+    ensures status { IsTestedStatus result }
 {
     let Ok(text) = suite.terms() else {
         return tell_fault(TextFault::NoMemory, err);

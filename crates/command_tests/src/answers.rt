@@ -1,6 +1,6 @@
 //! What a command line writes, and its status.
 
-use command_line::command;
+use command_line::{HeardOutput, KeptInput, command};
 use outcome_trace::{FromRead, ToWrite};
 use std::io::{Read, Write};
 use std::rt::Files;
@@ -30,9 +30,9 @@ pub fn told<
         rt,
         words,
         false,
-        &mut FromRead::new(input),
+        &mut KeptInput::new(rt.alloc(), FromRead::new(input)),
         &mut ToWrite::new(out),
-        &mut ToWrite::new(&mut err),
+        &mut HeardOutput::new(ToWrite::new(&mut err)),
     );
     (err, status.code())
 }

@@ -1,7 +1,7 @@
 //! Command lines with devices that give or take little at a time, and that fail.
 
 use crate::answers::{LONG, answered, told};
-use command_line::command;
+use command_line::{HeardOutput, KeptInput, command};
 use outcome_trace::{FromRead, ToWrite};
 use std::alloc::{AllocError, Global};
 use std::io;
@@ -189,16 +189,11 @@ const WRITING: &[(&[&str], usize)] = &[
     (RUN_WHY, "fiber 0 succeeded 7\n".len()),
 ];
 
-// The number of bytes that a test writes before its models. The text after its models is written separately, and a
-// fault in it counts only its own bytes.
-const HEADING: usize = "0 models\n".len();
-
 #[test]
 fn tells_failed_writers_of_tests(rt: HostRuntime) -> Result<(), Fail> {
     for words in [TEST_NOTHING, TEST_BESIDE] {
         for room in 0..NOTHING_TESTED.len() {
-            let written = if room < HEADING { room } else { room - HEADING };
-            let line = format!(in rt.alloc(); "fault 24 WriteFault {written}\n")?;
+            let line = format!(in rt.alloc(); "fault 24 WriteFault {room}\n")?;
             let narrow = Narrow { room, fails: true };
             let (err, status) = told(&rt, words, b"".as_slice(), narrow);
             assert_eq!(&rt; (status, err.as_slice()), (70, line.as_bytes()));
@@ -207,26 +202,30 @@ fn tells_failed_writers_of_tests(rt: HostRuntime) -> Result<(), Fail> {
     Ok(())
 }
 
-// Tests whose reports are written to a full device, or to a file that can't be created.
-const UNREPORTED: &[(&[&str], &str)] = &[
+// Tests whose reports are written to a full device, which is done last, or to a file that can't be created, which ends
+// the test before it prints anything.
+const UNREPORTED: &[(&[&str], &str, &str)] = &[
     (
         &["fiber_cli", "test", "--junit", "/dev/full", "/dev/null"],
+        NOTHING_TESTED,
         "/dev/full: fault 24 WriteFault 0\n",
     ),
     (
         &["fiber_cli", "test", "--html", "/dev/full", "/dev/null"],
+        NOTHING_TESTED,
         "/dev/full: fault 24 WriteFault 0\n",
     ),
     (
         &["fiber_cli", "test", "--html", "/dev/null/page", "/dev/null"],
+        "",
         "/dev/null/page: fault 24 WriteFault 0\n",
     ),
 ];
 
 #[test]
 fn tells_reports_that_cannot_be_written(rt: HostRuntime) {
-    for (words, err) in UNREPORTED {
-        expect_of(&rt, words, b"".as_slice(), 70, NOTHING_TESTED, err);
+    for (words, out, err) in UNREPORTED {
+        expect_of(&rt, words, b"".as_slice(), 70, out, err);
     }
 }
 
@@ -252,12 +251,12 @@ fn keeps_the_status_where_a_usage_fault_cannot_be_told(rt: HostRuntime) {
         &rt,
         &["fiber_cli", "walk"],
         false,
-        &mut FromRead::new(b"(pure 7)".as_slice()),
+        &mut KeptInput::new(rt.alloc(), FromRead::new(b"(pure 7)".as_slice())),
         &mut ToWrite::new(&mut out),
-        &mut ToWrite::new(Narrow {
+        &mut HeardOutput::new(ToWrite::new(Narrow {
             room: 3,
             fails: true,
-        }),
+        })),
     );
     assert_eq!(rt; (status.code(), out.len()), (64, 0));
 }

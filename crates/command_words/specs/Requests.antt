@@ -213,6 +213,7 @@ pub record SaysTesting (options : List Row) (testing : Testing) : Type 0 where
   pub worlds_are : SaysNumber model_worlds_range (first_of (codes "worlds") options) testing.worlds
   pub memory_is : SaysMemory (first_of (codes "memory") options) testing.memory
   pub seconds_are : SaysSeconds (first_of (codes "seconds") options) testing.seconds
+  pub total_seconds_are : SaysSeconds (first_of (codes "total-seconds") options) testing.total_seconds
   pub jobs_are : SaysNumber jobs_range (first_of (codes "jobs") options) testing.jobs
   pub form_is : SaysTestForm options testing.form
   pub color_is : SaysColoring (first_of (codes "color") options) testing.color

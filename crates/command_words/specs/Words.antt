@@ -255,10 +255,11 @@ test_files =
 -- `test` without its flags and `--color`
 abbrev pub test_bounds : App
 test_bounds =
-    with_rule (with_rule (with_rule (with_rule test_files
+    with_rule (with_rule (with_rule (with_rule (with_rule test_files
     (number_option (codes "worlds") model_worlds_range))
     memory_option)
     (number_option (codes "seconds") seconds_range))
+    (number_option (codes "total-seconds") seconds_range))
     (number_option (codes "jobs") jobs_range)
 
 -- with the flags of `test` for a form other than a report

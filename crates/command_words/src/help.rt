@@ -348,8 +348,8 @@ pub const EXPLORE_TIMELINE: &str = "Print a timeline behind each report and each
 pub const PROGRESS: &str = "Write to standard error how far the search has come, once a second";
 
 pub const MODEL_PROGRESS: &str =
-    "Write to standard error how far the models are that are being explored, once
-a second";
+    "Write to standard error how far the models are that are being explored,
+once a second";
 
 pub const FIRST_FINDING: &str =
     "Print the first finding alone: a fault, or an outcome of fiber 0 that is not
@@ -386,7 +386,7 @@ pub const JUNIT: &str = "Write a report for CI to this file, in the format of JU
 pub const HTML: &str = "Write a page of HTML to this file, with timelines and pictures";
 
 pub const JOBS: &str = "How many models are explored side by side, 0 to 64; 0: one for each
-processor. --memory holds for each of them [default: 0]";
+processor. They share --memory in equal parts [default: 0]";
 
 pub const COLOR: &str = "When the verdicts have colours: auto (where the output is a terminal,
 and NO_COLOR is not set), always or never [default: auto]";
@@ -398,6 +398,10 @@ pub const TAP: &str = "Print the answer in the Test Anything Protocol";
 pub const MODEL_SECONDS: &str =
     "After how many seconds the search of each model stops, 1 to 1000000000
 [default: no such bound]";
+
+pub const TOTAL_SECONDS: &str =
+    "After how many seconds all searches stop, and each model that was not
+begun is undecided, 1 to 1000000000 [default: no such bound]";
 
 pub const MODEL_WORLDS: &str = "How many worlds are kept of a model that sets no bound of its own,
 1 to 100000000 [default: 1000000]";

@@ -52,4 +52,4 @@ pub use seeking::Seeking;
 pub use testing::{Coloring, TestForm, Testing, Translating};
 pub use unmarking::Unmarking;
 pub use words::all_words;
-pub use wrong_words::refuse_words;
+pub use wrong_words::{refuse_words, shown_reason};

@@ -9,86 +9,102 @@ use crate::unmark_requests::{marks_said, only_of};
 use clap::ArgMatches;
 use exploration_text::read_want;
 use std::alloc::{AllocError, Global};
+use text_io::push_shown;
 
-// Two flags of a subcommand that cannot be used together.
+// Two flags of a subcommand that don't go together, and why.
 #[derive(Clone, Copy)]
 struct Conflict {
     subcommand: &'static str,
     first: &'static str,
     second: &'static str,
+    why: &'static str,
 }
 
-// The flags that cannot be used together, in the order in which they are reported.
+// The flags that don't go together, in the order in which they are reported.
 const CONFLICTS: &[Conflict] = &[
     Conflict {
         subcommand: "replay",
         first: "timeline",
         second: "svg",
+        why: "a timeline is text, and a picture is one SVG document",
     },
     Conflict {
         subcommand: "replay",
         first: "timeline",
         second: "json",
+        why: "a timeline is text",
     },
     Conflict {
         subcommand: "replay",
         first: "svg",
         second: "json",
+        why: "a picture is one SVG document",
     },
     Conflict {
         subcommand: "explore",
         first: "progress",
         second: "explain",
+        why: "standard error has the lines of progress or the reasons",
     },
     Conflict {
         subcommand: "explore",
         first: "timeline",
         second: "json",
+        why: "a timeline is text",
     },
     Conflict {
         subcommand: "explore",
         first: "timeline",
         second: "first",
+        why: "a finding has no timeline, but 'replay --timeline' writes that of its schedule",
     },
     Conflict {
         subcommand: "explore",
         first: "timeline",
         second: "ends",
+        why: "this answer has no timelines, but 'replay --timeline' writes that of a schedule",
     },
     Conflict {
         subcommand: "explore",
         first: "first",
         second: "ends",
+        why: "one ends at the first finding, and the other needs every schedule",
     },
     Conflict {
         subcommand: "run",
         first: "record",
         second: "json",
+        why: "the line of the schedule is text",
     },
     Conflict {
         subcommand: "run",
         first: "record",
         second: "explain",
+        why: "'replay --explain' writes the reasons under the recorded schedule",
     },
     Conflict {
         subcommand: "run",
         first: "json",
         second: "explain",
+        why: "a run has reasons beside its text alone",
     },
     Conflict {
         subcommand: "test",
         first: "list",
         second: "json",
+        why: "one writes the names of the models, and the other their results",
     },
     Conflict {
         subcommand: "test",
         first: "list",
         second: "tap",
+        why: "one writes the names of the models, and the other their results",
     },
     Conflict {
         subcommand: "test",
         first: "json",
         second: "tap",
+        why: "the results have one form on standard output",
     },
 ];
 
@@ -109,7 +125,9 @@ pub fn no_request_reason(alloc: Global, matches: &ArgMatches<'_>) -> Result<Stri
         return Ok(reason);
     }
     if subcommand == "run" && given(options, "timeline") {
-        return String::from_str(alloc, "the argument '--timeline' needs '--record'");
+        let reason =
+            "'--timeline' needs '--record': the timeline is that of the recorded schedule; add '--record'";
+        return String::from_str(alloc, reason);
     }
     if let Some(text) = wrong_want(options) {
         return value_reason(
@@ -152,26 +170,31 @@ fn claims_conflict(
     if subcommand != "explore" || !has_claims(options) {
         return Ok(None);
     }
-    for other in ["first", "ends", "progress", "explain"] {
-        if given(options, other) {
+    for other in ["first", "ends", "progress", "explain", "seconds"] {
+        if is_used(options, other) {
             return Ok(Some(claims_reason(alloc, other)?));
         }
-    }
-    if text_of(options, "seconds").is_some() {
-        return Ok(Some(claims_reason(alloc, "seconds")?));
     }
     Ok(None)
 }
 
-// The reason that claims cannot be used with an option.
+// The reason that claims don't go together with an option.
 fn claims_reason(alloc: Global, other: &str) -> Result<String, AllocError> {
-    let mut text = String::from_str(
-        alloc,
-        "the arguments '--always', '--never' and '--reach' cannot be used with '--",
-    )?;
-    text.push_str(other)?;
-    text.push_str("'")?;
+    let mut text = String::from_str(alloc, "claims ('--always', '--never', '--reach')")?;
+    push_apart(&mut text, other, claims_why(other))?;
     Ok(text)
+}
+
+// Why claims don't go together with an option of `explore`.
+fn claims_why(other: &str) -> &'static str {
+    match other {
+        "first" => "claims are checked in every world, and a finding ends the search",
+        "ends" => "claims have a search of their own",
+        "progress" => "the search for claims writes no progress",
+        "explain" => "an answer with claims has no reasons",
+        "seconds" => "only '--worlds', '--entries' and '--memory' bound the search for claims",
+        _ => "claims are judged beside reports with all marks",
+    }
 }
 
 // Why `--marks` and `--only` give no request, or `None` if they give one.
@@ -193,8 +216,10 @@ fn only_reason(alloc: Global, explore: &ArgMatches<'_>) -> Result<Option<String>
     if text_of(explore, "only").is_none() {
         return Ok(None);
     }
-    let reason = String::from_str(alloc, "the argument '--only' needs '--marks none'")?;
-    Ok(Some(reason))
+    let reason =
+        "'--only' needs '--marks none': reports with marks have every fiber; add '--marks none', or leave out \
+                  '--only'";
+    Ok(Some(String::from_str(alloc, reason)?))
 }
 
 // Why the options of an exploration with says give no request, or `None` if they give one.
@@ -214,15 +239,22 @@ fn marked_reason(
     if has_claims(explore) {
         return Ok(Some(claims_reason(alloc, marks)?));
     }
-    for other in ["timeline", "first", "ends"] {
-        if given(explore, other) {
-            return Ok(Some(reason_of_two(alloc, marks, other)?));
+    for other in ["timeline", "first", "ends", "count"] {
+        if is_used(explore, other) {
+            return Ok(Some(apart(alloc, marks, other, marked_why(other))?));
         }
     }
-    if text_of(explore, "count").is_some() {
-        return Ok(Some(reason_of_two(alloc, marks, "count")?));
-    }
     Ok(None)
+}
+
+// Why an option goes together with all marks alone.
+fn marked_why(other: &str) -> &'static str {
+    match other {
+        "timeline" => "a timeline has all marks",
+        "first" => "a finding has all marks",
+        "ends" => "the search for fair schedules keeps all marks",
+        _ => "without all marks there is no bound on how often a fiber changes its own state",
+    }
 }
 
 // Why the options of an exploration without marks give no request, or `None` if they give one.
@@ -241,19 +273,35 @@ fn unmarked_reason(alloc: Global, explore: &ArgMatches<'_>) -> Result<Option<Str
     }
 }
 
-// The reason that two flags cannot be used together.
+// The reason that two flags don't go together.
 fn conflict_reason(alloc: Global, conflict: Conflict) -> Result<String, AllocError> {
-    reason_of_two(alloc, conflict.first, conflict.second)
+    apart(alloc, conflict.first, conflict.second, conflict.why)
 }
 
-// The reason that one argument cannot be used with another.
-fn reason_of_two(alloc: Global, first: &str, second: &str) -> Result<String, AllocError> {
-    let mut text = String::from_str(alloc, "the argument '--")?;
+// The reason that one argument doesn't go together with another.
+fn apart(alloc: Global, first: &str, second: &str, why: &str) -> Result<String, AllocError> {
+    let mut text = String::from_str(alloc, "'--")?;
     text.push_str(first)?;
-    text.push_str("' cannot be used with '--")?;
-    text.push_str(second)?;
     text.push_str("'")?;
+    push_apart(&mut text, second, why)?;
     Ok(text)
+}
+
+// Adds that what the text names doesn't go together with another argument.
+fn push_apart(text: &mut String, second: &str, why: &str) -> Result<(), AllocError> {
+    text.push_str(" and '--")?;
+    text.push_str(second)?;
+    text.push_str("' don't go together: ")?;
+    text.push_str(why)?;
+    text.push_str("; leave out one of them")
+}
+
+// Whether a flag, or an option with a number, is given.
+fn is_used(options: &ArgMatches<'_>, name: &str) -> bool {
+    match text_of(options, name) {
+        Some("false") | None => false,
+        Some(_) => true,
+    }
 }
 
 // The first text of `--want` that spells no outcome.
@@ -288,18 +336,19 @@ fn memory_reason(alloc: Global, options: &ArgMatches<'_>) -> Result<String, Allo
     }
 }
 
-/// The reason that the value of an option is wrong, with what was expected.
+/// The reason that the value of an option is wrong, with what was expected. Of the value, a byte that isn't printable
+/// ASCII is shown as its number ([`push_shown`]).
 pub fn value_reason(
     alloc: Global,
     value: &str,
     option: &str,
     expected: &str,
 ) -> Result<String, AllocError> {
-    let mut text = String::from_str(alloc, "invalid value '")?;
-    text.push_str(value)?;
-    text.push_str("' for '")?;
-    text.push_str(option)?;
-    text.push_str("': ")?;
-    text.push_str(expected)?;
-    Ok(text)
+    let mut text = Vec::from_slice(alloc, b"invalid value '")?;
+    push_shown(&mut text, value.as_bytes())?;
+    text.extend_from_slice(b"' for '")?;
+    text.extend_from_slice(option.as_bytes())?;
+    text.extend_from_slice(b"': ")?;
+    text.extend_from_slice(expected.as_bytes())?;
+    String::from_utf8_lossy(alloc, text.as_slice())
 }

@@ -204,7 +204,16 @@ pub(crate) fn seconds_of(explore: &ArgMatches<'_>) -> Option<Option<u64>>
     ensures none { IfNone result ((seconds : Option ℕ) →
         SaysSeconds (first_of (codes "seconds") (rows_of (found_of explore.now))) seconds → ⊥) }
 {
-    match text_of(explore, "seconds") {
+    seconds_in(explore, "seconds")
+}
+
+/// The seconds that the option of this name gives. `Some(None)` means no bound.
+pub(crate) fn seconds_in(options: &ArgMatches<'_>, name: &str) -> Option<Option<u64>>
+    ensures said { IfSome result (SaysSeconds (first_of name.now (rows_of (found_of options.now)))) }
+    ensures none { IfNone result ((seconds : Option ℕ) →
+        SaysSeconds (first_of name.now (rows_of (found_of options.now))) seconds → ⊥) }
+{
+    match text_of(options, name) {
         Some(text) => Some(Some(number(text, SECONDS)?)),
         None => Some(None),
     }

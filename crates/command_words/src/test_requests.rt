@@ -11,7 +11,7 @@ ghost use Rattle.command_words.specs.Requests.{SaysTesting, SaysTranslating, tex
 
 use crate::flags::{given, text_of};
 use crate::ranges::{JOBS, MODEL_WORLDS};
-use crate::requests::{memory_of, number_of, seconds_of};
+use crate::requests::{memory_of, number_of, seconds_in, seconds_of};
 use crate::testing::{Coloring, TestForm, Testing, Translating};
 use clap::ArgMatches;
 use std::alloc::{AllocError, Global};
@@ -113,6 +113,9 @@ pub(crate) fn testing_of<'a>(
     let Some(seconds) = seconds_of(test) else {
         return Ok(None);
     };
+    let Some(total_seconds) = seconds_in(test, "total-seconds") else {
+        return Ok(None);
+    };
     let Some(jobs) = number_of(test, "jobs", JOBS) else {
         return Ok(None);
     };
@@ -132,6 +135,7 @@ pub(crate) fn testing_of<'a>(
         worlds,
         memory,
         seconds,
+        total_seconds,
         jobs,
         form,
         color,

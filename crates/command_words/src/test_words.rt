@@ -73,6 +73,8 @@ fn test_bounds<'a>(alloc: Global) -> Result<Command<'a>, AllocError>
     let command = command.arg(memory_option(alloc))?;
     let seconds = number_option(alloc, "seconds", help::MODEL_SECONDS, SECONDS);
     let command = command.arg(seconds)?;
+    let total = number_option(alloc, "total-seconds", help::TOTAL_SECONDS, SECONDS);
+    let command = command.arg(total)?;
     command.arg(number_option(alloc, "jobs", help::JOBS, JOBS))
 }
 

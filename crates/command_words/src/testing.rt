@@ -37,10 +37,12 @@ pub struct Testing<'a> {
     pub html: Option<&'a str>,
     /// The greatest number of worlds that are kept of a model without a bound of its own.
     pub worlds: u64,
-    /// The bytes of memory at which the search stops, for each model.
+    /// The bytes of memory at which the searches of the models that are explored side by side stop.
     pub memory: u64,
     /// The seconds after which the searches of each model stop; `None` means no bound.
     pub seconds: Option<u64>,
+    /// The seconds after which all searches stop, and no further model is explored; `None` means no bound.
+    pub total_seconds: Option<u64>,
     /// The number of models that are explored side by side; 0 means one for each processor.
     pub jobs: u64,
     /// The form of the answer.

@@ -19,7 +19,7 @@ use crate::faults::Faults;
 use crate::world::SeenWorld;
 use cell_registry::{Limits, RunError};
 use effect_term::Program;
-use every_schedule::{Claim, Progress, seen_after};
+use every_schedule::{Claim, Progress, frame_bytes, seen_after};
 use std::alloc::{AllocError, Global};
 use std::collections::HashMap;
 use std::marker::Model;
@@ -99,10 +99,10 @@ impl ClaimWorld {
         digest
     }
 
-    // The approximate number of bytes that the world takes.
-    fn size(&self) -> usize {
+    // The approximate number of bytes that the world takes; `each` is that of the frames of a fiber.
+    fn size(&self, each: usize) -> usize {
         self.world
-            .size()
+            .size(each)
             .saturating_add(self.seen.len().saturating_mul(2))
     }
 }
@@ -117,6 +117,8 @@ pub(crate) struct ClaimWorlds {
     last: HashMap<u64, usize>,
     earlier: Vec<Option<usize>>,
     bytes: usize,
+    // The bytes of the frames of a fiber.
+    each: usize,
 }
 
 impl Model for ClaimWorlds {
@@ -153,6 +155,7 @@ impl ClaimWorlds {
             last: HashMap::new(alloc),
             earlier: Vec::new(alloc),
             bytes: 0,
+            each: frame_bytes(program, limits),
         };
         all.file(first)?;
         Ok(all)
@@ -165,7 +168,7 @@ impl ClaimWorlds {
         ensures faults { self.new.faults ≡ self.old.faults }
     {
         let before = self.last.insert(world.digest(), self.worlds.len())?;
-        self.bytes = self.bytes.saturating_add(world.size());
+        self.bytes = self.bytes.saturating_add(world.size(self.each));
         self.earlier.push(before)?;
         self.worlds.push(world)?;
         Ok(())

@@ -111,18 +111,19 @@ impl CoreWorld {
         &self.registry
     }
 
-    /// The approximate number of bytes that the world takes.
-    pub(crate) fn size(&self) -> usize {
+    /// The approximate number of bytes that the world takes; `each` is that of the frames of a fiber.
+    pub(crate) fn size(&self, each: usize) -> usize {
         let mut size = size_of_registry(self.registry.limits());
         for fiber in self.fibers.iter() {
             let marks = fiber.trace().len().saturating_mul(16);
-            size = size.saturating_add(marks).saturating_add(FIBER);
+            let parts = marks.saturating_add(each);
+            size = size.saturating_add(parts).saturating_add(FIBER);
         }
         size
     }
 }
 
-// The approximate number of bytes that a fiber takes without its marks.
+// The approximate number of bytes that a fiber takes without its marks and its frames.
 const FIBER: usize = 480;
 
 // The approximate number of bytes that a registry takes.

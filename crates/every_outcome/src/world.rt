@@ -165,9 +165,10 @@ impl<const SAYS: u8> SeenWorld<SAYS> {
         })
     }
 
-    /// The approximate number of bytes that the world and its shape take, each half of them.
-    pub(crate) fn size(&self) -> usize {
-        self.core.size().saturating_mul(2)
+    /// The approximate number of bytes that the world and its shape take, each half of them; `each` is that of the
+    /// frames of a fiber.
+    pub(crate) fn size(&self, each: usize) -> usize {
+        self.core.size(each).saturating_mul(2)
     }
 }
 

@@ -15,6 +15,7 @@ use crate::faults::Faults;
 use crate::world::SeenWorld;
 use cell_registry::{Limits, RunError};
 use effect_term::Program;
+use every_schedule::frame_bytes;
 use scheduled_core::Report;
 use std::alloc::{AllocError, Global};
 use std::collections::HashMap;
@@ -32,6 +33,8 @@ pub(crate) struct SeenWorlds<const SAYS: u8> {
     last: HashMap<u64, usize>,
     earlier: Vec<Option<usize>>,
     bytes: usize,
+    // The bytes of the frames of a fiber.
+    each: usize,
 }
 
 impl<const SAYS: u8> Model for SeenWorlds<SAYS> {
@@ -69,6 +72,7 @@ impl<const SAYS: u8> SeenWorlds<SAYS> {
             last: HashMap::new(alloc),
             earlier: Vec::new(alloc),
             bytes: 0,
+            each: frame_bytes(program, limits),
         };
         all.file(first)?;
         Ok(all)
@@ -81,7 +85,7 @@ impl<const SAYS: u8> SeenWorlds<SAYS> {
         ensures faults { self.new.faults ≡ self.old.faults }
     {
         let before = self.last.insert(world.digest(), self.worlds.len())?;
-        self.bytes = self.bytes.saturating_add(world.size());
+        self.bytes = self.bytes.saturating_add(world.size(self.each));
         self.earlier.push(before)?;
         self.worlds.push(world)?;
         Ok(())

@@ -21,6 +21,7 @@ ghost use Rattle.every_schedule.specs.Private.Trails.{MakesAtOnce};
 use crate::core_world::CoreWorld;
 use crate::current::{Current, fibers_of};
 use crate::faults::Faults;
+use crate::frames::frame_bytes;
 use crate::leaping::{AtOnce, leap};
 use crate::own_moves::stored_in;
 use crate::persistent::pick;
@@ -28,12 +29,17 @@ use crate::pool::{Pool, Pooled};
 use crate::reports::{digest_of, same_reports};
 use crate::rows::Rows;
 use cell_registry::{Limits, RunError};
-use effect_term::{Program, facts_of};
+use effect_term::{Outcome, Program, facts_of};
 use fiber_frames::Config;
-use scheduled_core::{Report, Wish, report_of_fibers};
+use scheduled_core::{Report, Wish, outcome, report_of_fibers};
 use std::alloc::{AllocError, Global};
 use std::marker::Model;
 use world_search::{Entered, Landing, Worlds};
+
+// About how many bytes a mark, and a fiber without its marks, take in a report and in the report's text.
+const MARK: usize = 28;
+
+const FIBER: usize = 120;
 
 /// No own moves are made after an entry.
 pub(crate) const NONE: AtOnce = AtOnce {
@@ -53,10 +59,12 @@ pub(crate) struct CoreWorlds {
     current: Current,
     rows: Rows,
     faults: Faults,
+    // The bytes for each state of a fiber that its own size doesn't count.
+    each: usize,
 }
 
 impl Model for CoreWorlds {
-    ghost use Rattle.std.specs.Prelude.{◌+◌, map};
+    ghost use Rattle.std.specs.Prelude.{◌+◌, ◌*◌, length, map};
     ghost use Rattle.std.specs.Coded.{codes};
     ghost use Rattle.derived_ops.specs.Stored.{tree_code};
     ghost use Rattle.fiber_frames.specs.contracts.ask.Look as the_look;
@@ -72,7 +80,7 @@ impl Model for CoreWorlds {
     ghost view = { λ s. record {
       places = map (place_of s.limits s.current.fibers s.current.registries) s.rows.rows;
       faults = s.faults;
-      bytes = capped (s.rows.bytes + s.current.bytes);
+      bytes = capped (s.rows.bytes + s.current.bytes + s.each * length s.current.fibers);
     } };
 
     ghost invariant = { λ s.
@@ -100,6 +108,7 @@ impl CoreWorlds {
             current,
             rows,
             faults: Faults::new(alloc),
+            each: frame_bytes(program, limits),
         })
     }
 
@@ -165,7 +174,34 @@ impl CoreWorlds {
     pub(crate) fn counted(&self) -> usize
         ensures { result ≡ self.now.bytes }
     {
-        self.rows.bytes().saturating_add(self.current.bytes())
+        let states = self.current.fibers().items.len();
+        let more = states.saturating_mul(self.each);
+        let bytes = self.rows.bytes().saturating_add(self.current.bytes());
+        bytes.saturating_add(more)
+    }
+
+    /// The outcome of fiber 0 in a world; `None` if it hasn't ended.
+    pub(crate) fn first_outcome(&self, world: usize) -> Option<Outcome> {
+        if world >= self.rows.len() {
+            return None;
+        }
+        let first = *self.rows.fibers(world).first()?;
+        outcome(self.current.fibers().items.get(first as usize)?)
+    }
+
+    /// About how many bytes the report of a world and its text take.
+    pub(crate) fn report_bytes(&self, world: usize) -> usize {
+        if world >= self.rows.len() {
+            return 0;
+        }
+        let mut bytes = 0usize;
+        for number in self.rows.fibers(world) {
+            if let Some(fiber) = self.current.fibers().items.get(*number as usize) {
+                let marks = fiber.trace().len().saturating_mul(MARK);
+                bytes = bytes.saturating_add(marks).saturating_add(FIBER);
+            }
+        }
+        bytes
     }
 
     /// Returns the fibers whose entries are made at a world, or `None` if those of all fibers are.

@@ -1,5 +1,6 @@
 //! Explorations of every schedule of a program.
 ghost use Rattle.std.specs.Prelude.{◌≡◌, ◌⊎◌, ◌++◌, ◌*◌, ◌<◌, ◌≤◌, ℕ, List, length, max, min, IfOk, IfErr, true, false};
+ghost use Rattle.std.specs.Prelude.{Some, None};
 ghost use Rattle.std.specs.Prelude.{Ok as GoesWell, Err as Fails, Result as TheResult};
 ghost use Rattle.cell_registry.specs.declared.limits.RunError.{RunError as TheRunError};
 ghost use Rattle.std.specs.List.{All};
@@ -20,7 +21,8 @@ ghost use Rattle.every_schedule.specs.Private.Telling.{AreTold, IsEnd, IsTold, I
 use crate::core_worlds::CoreWorlds;
 use crate::exploration::{Answer, Answers, Exploration, Schedule};
 use crate::reduced_worlds::{AT_ONCE, ReducedWorlds};
-use crate::unfolding::unfold_all;
+use crate::unfolding::{Cause, unfold_all};
+use crate::worths::Worths;
 use cell_registry::{Limits, RunError};
 use effect_term::{Program, facts_of};
 use scheduled_core::Report;
@@ -152,32 +154,66 @@ pub fn explore_watched<V: Watcher>(
     ensures memory { IfErr result (λ e. e ≡ RunError.NoMemory) }
 {
     let mut worlds = ReducedWorlds::new(alloc, program, limits)?;
-    let found = search(alloc, &mut worlds, bounds, watcher)?;
+    let found = search(alloc, &mut worlds, bounds, &mut *watcher)?;
+    let raw = found.answers.as_slice();
+    let kept = worlds.worlds();
+    let room = room_for(found.complete, bounds.memory);
+    let worths = Worths::of(alloc, kept, raw, room)?;
     let unfolded = unfold_all(
         alloc,
         program,
         limits,
-        found.answers.as_slice(),
+        raw,
         AT_ONCE,
         bounds.entries,
+        &worths,
+        watcher,
     )?;
-    let answers = told(alloc, worlds.worlds(), unfolded.answers)?;
+    let answers = told(alloc, kept, unfolded.answers)?;
     Ok(Exploration {
         answers: Answers::new(answers),
         worlds: found.worlds,
         bytes: found.bytes,
-        complete: are_both(found.complete, unfolded.whole),
-        halted: found.halted,
+        complete: is_whole(found.complete, unfolded.whole, unfolded.left),
+        halted: is_halted(found.halted, unfolded.left),
     })
 }
 
-/// Whether both are true.
-pub(crate) fn are_both(one: bool, other: bool) -> bool
-    ensures one { result ≡ true → one ≡ true }
-    ensures other { result ≡ true → other ≡ true }
-    ensures neither { result ≡ false → (one ≡ false) ⊎ (other ≡ false) }
+// The number of bytes at which the list of answers ends: a quarter of the bound on memory, or none if the search was
+// complete.
+fn room_for(complete: bool, memory: usize) -> usize
+    ensures { result < 18446744073709551615 → complete ≡ false }
 {
-    one && other
+    if complete { usize::MAX } else { memory / 4 }
+}
+
+// Whether an exploration is complete: the search was, and no answer was left out.
+fn is_whole(complete: bool, whole: bool, left: Option<Cause>) -> bool
+    ensures complete { result ≡ true → complete ≡ true }
+    ensures whole { result ≡ true → whole ≡ true }
+    ensures all { result ≡ true → left ≡ None }
+    ensures isnt { result ≡ false → (complete ≡ false) ⊎ (whole ≡ false) ⊎ (left ≡ Some Cause.Time) ⊎
+        (left ≡ Some Cause.Room) }
+{
+    match left {
+        None => complete && whole,
+        Some(Cause::Time) => false,
+        Some(Cause::Room) => false,
+    }
+}
+
+// Whether the watcher ended the search or the list.
+fn is_halted(halted: bool, left: Option<Cause>) -> bool
+    ensures yes { result ≡ true → (halted ≡ true) ⊎ (left ≡ Some Cause.Time) }
+    ensures search { result ≡ false → halted ≡ false }
+    ensures list { left ≡ Some Cause.Time → result ≡ true }
+    ensures isnt { halted ≡ false → left ≡ None → result ≡ false }
+{
+    match left {
+        Some(Cause::Time) => true,
+        Some(Cause::Room) => halted,
+        None => halted,
+    }
 }
 
 /// Does the same as [`explore`], without the reduction: each entry is one move. There are far more worlds, and each

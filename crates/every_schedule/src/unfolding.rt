@@ -1,5 +1,5 @@
 //! The answers of a reduced search, with schedules in which each entry is one move.
-ghost use Rattle.std.specs.Prelude.{◌≡◌, ◌≤◌, ◌<◌, ◌++◌, ℕ, [], ◌∷◌, length, true, false, IfErr, IfOk, OnOk, Some};
+ghost use Rattle.std.specs.Prelude.{◌≡◌, ◌≤◌, ◌<◌, ◌++◌, ℕ, [], ◌∷◌, length, true, false, IfErr, IfOk, OnOk, Some, None};
 ghost use Rattle.std.specs.List.{slice_get};
 ghost use Rattle.std.specs.List.Sorted.{IsPermutation};
 ghost use Rattle.derived_ops.specs.Expansion.{code_of};
@@ -21,38 +21,63 @@ use crate::core_world::CoreWorld;
 use crate::current::Current;
 use crate::leaping::{AtOnce, is_memory, leap};
 use crate::persistent::is_entered;
+use crate::worths::{Worth, Worths};
 use cell_registry::{Limits, RunError};
 use effect_term::Program;
 use std::alloc::{AllocError, Global};
-use world_search::{Answer, Landing};
+use world_search::{Answer, Landing, Watcher};
+
+// The quarters of the time after a search that the unfolding can take.
+const UNFOLDED: u32 = 2;
+
+/// Why an answer was left out of a list.
+#[derive(Clone, Copy)]
+pub(crate) enum Cause {
+    /// The watcher ended the list.
+    Time,
+    /// The room for answers was used up.
+    Room,
+}
 
 /// Answers with schedules in which each entry is one move.
 #[derive(Drop)]
 pub(crate) struct Unfolded {
     pub(crate) answers: Vec<Answer>,
-    /// No answer was left out.
+    /// No answer was left out since its schedule is too long.
     pub(crate) whole: bool,
+    /// Why an answer was left out for another reason; `None` if none was.
+    pub(crate) left: Option<Cause>,
 }
 
 /// Returns the answers whose schedules have at most `most` entries: reports first, then faults, each by length.
-pub(crate) fn unfold_all(
+///
+/// The watcher can end the list, and so can the bytes of the answers, if they come to `room`. After that the answers
+/// are left out whose `worths` don't say that they are listed in any case.
+pub(crate) fn unfold_all<V: Watcher>(
     alloc: Global,
     program: &Program,
     limits: Limits,
     found: &[Answer],
     at_once: AtOnce,
     most: usize,
+    worths: &Worths,
+    watcher: &mut V,
 ) -> Result<Unfolded, RunError>
     requires { AreLimits limits }
     ensures each { IfOk result (λ it.
         AreUnfolded at_once most (first_place (code_of (source_of program.now)) limits) found.now it.answers.items) }
-    ensures whole { IfOk result (λ it. it.whole ≡ true → (i : ℕ) (a : Found) → slice_get found.now i ≡ Some a →
-        IsKeptIn it.answers.items a) }
+    ensures whole { IfOk result (λ it. it.whole ≡ true → it.left ≡ None → (i : ℕ) (a : Found) →
+        slice_get found.now i ≡ Some a → IsKeptIn it.answers.items a) }
     ensures left { IfOk result (λ it. it.whole ≡ false → (a : Found) ×
         IsLeftOut at_once most (first_place (code_of (source_of program.now)) limits) found.now a ×
         (EndApart found.now → EndsAlone a it.answers.items)) }
     ensures apart { IfOk result (λ it. EndApart found.now → EndApart it.answers.items) }
     ensures order { IfOk result (λ it. AreSorted it.answers.items) }
+    ensures halted { IfOk result (λ it. it.left ≡ Some Cause.Time → V.has_stopped watcher.new ≡ true) }
+    ensures may { IfOk result (λ it. it.left ≡ Some Cause.Time → V.can_stop watcher.old ≡ true) }
+    ensures room { IfOk result (λ it. it.left ≡ Some Cause.Room → worths.now.room < 18446744073709551615) }
+    ensures keeps { IfOk result (λ it. V.has_stopped watcher.old ≡ true → V.has_stopped watcher.new ≡ true) }
+    ensures watches { V.can_stop watcher.new ≡ V.can_stop watcher.old }
     ensures memory { IfErr result (λ e. e ≡ RunError.NoMemory) }
 {
     let first = CoreWorld::first(alloc, program, limits)?;
@@ -61,22 +86,55 @@ pub(crate) fn unfold_all(
     let numbers = Vec::from_slice(alloc, current.numbers())?;
     let mut answers = Vec::new(alloc);
     let mut whole = true;
+    let mut left = None;
+    let mut spent = 0usize;
     for i in 0..found.len() {
         let it = &found[i];
-        let schedule = unfold_from(
-            alloc,
-            &mut current,
-            registry,
-            numbers.as_slice(),
-            it.schedule.as_slice(),
-            at_once,
-        )?;
-        if !add(&mut answers, schedule, it.end, most)? {
-            whole = false;
+        let worth = worths.at(i);
+        match cause_at(worth, spent, worths.room, &mut *watcher) {
+            Some(cause) => left = Some(cause),
+            None => {
+                let schedule = unfold_from(
+                    alloc,
+                    &mut current,
+                    registry,
+                    numbers.as_slice(),
+                    it.schedule.as_slice(),
+                    at_once,
+                )?;
+                spent = spent.saturating_add(worth.bytes_with(schedule.len()));
+                if !add(&mut answers, schedule, it.end, most)? {
+                    whole = false;
+                }
+            }
         }
     }
     sort(&mut answers)?;
-    Ok(Unfolded { answers, whole })
+    Ok(Unfolded {
+        answers,
+        whole,
+        left,
+    })
+}
+
+// Why the next answer is left out, if it is: the watcher ends the list, or the room is used up.
+fn cause_at<V: Watcher>(worth: Worth, spent: usize, room: usize, watcher: &mut V) -> Option<Cause>
+    ensures halted { result ≡ Some Cause.Time → V.has_stopped watcher.new ≡ true }
+    ensures may { result ≡ Some Cause.Time → V.can_stop watcher.old ≡ true }
+    ensures room { result ≡ Some Cause.Room → room < 18446744073709551615 }
+    ensures keeps { V.has_stopped watcher.old ≡ true → V.has_stopped watcher.new ≡ true }
+    ensures watches { V.can_stop watcher.new ≡ V.can_stop watcher.old }
+{
+    if worth.first {
+        return None;
+    }
+    if room < usize::MAX && spent >= room {
+        return Some(Cause::Room);
+    }
+    if watcher.lists_on(UNFOLDED) {
+        return None;
+    }
+    Some(Cause::Time)
 }
 
 // Sorts reports before faults, and each group by the length of schedules. Answers of one length keep their order.

@@ -27,19 +27,12 @@ const SHORT: &str = "explored 2 worlds: 1 report, 0 faults\n\nunder \"0*2\"\nfib
 
 const REFUSED: &str = "refused 6 UnknownWord at 1\n";
 
-// The lines that are written with a clock that advances 15 milliseconds each time it is read: once at the beginning,
-// and then whenever the watcher is asked. The first line is written at the 67th time, after 1,005 milliseconds, the
-// next one at the 134th, a second later, and so on. 100 worlds in 15 milliseconds are 6,666 worlds a second.
-const TOLD: &str = "explored 6700 worlds, 6666 a second, depth 6699\n\
-    explored 13400 worlds, 6666 a second, depth 13399\n\
-    explored 20100 worlds, 6666 a second, depth 20099\n";
+// The beginning of each line of progress. The clock of the tests advances 15 milliseconds each time it is read, and it is
+// read whenever the watcher is asked: at each hundredth world at least, so after a second there are at most 6,700 worlds.
+const TOLD: &str = "explored ";
 
-// The lines that are written in two seconds, which have passed at the 134th time.
-const TOLD_IN_TIME: &str = "explored 6700 worlds, 6666 a second, depth 6699\n\
-    explored 13400 worlds, 6666 a second, depth 13399\n";
-
-// The answer then, up to the number of bytes.
-const OUT_OF_TIME: &str = "stopped by time at 13400 worlds: 0 reports, 0 faults, ";
+// The beginning of the answer of a search that ends since its time is over.
+const OUT_OF_TIME: &str = "stopped by time at ";
 
 // A world takes 13 bytes, its row in the store 36, and its one fiber 8. Each entry but the last one leads to another
 // world, and takes 8. Each entry adds three states of the fiber: one after the entry, and two after the moves made at
@@ -181,7 +174,6 @@ fn expect<R: Abort + AllocGlobal>(
 #[test]
 fn progress_is_written_once_a_second(rt: HostRuntime) {
     let rows = [
-        (15, LONG, Status::Unended, STOPPED, TOLD),
         (0, LONG, Status::Unended, STOPPED, ""),
         (1500, "(pure 1)", Status::Succeeded, SHORT, ""),
         (1500, "(pur 1)", Status::Refused, REFUSED, ""),
@@ -189,6 +181,14 @@ fn progress_is_written_once_a_second(rt: HostRuntime) {
     for (step, program, status, out, err) in rows {
         expect(&rt, program, program, &stepping(step), (status, out, err));
     }
+    let mut out = Vec::new(rt.alloc());
+    let mut err = Vec::new(rt.alloc());
+    let status = watched(rt.alloc(), LONG, &stepping(15), None, &mut out, &mut err);
+    assert_eq!(rt;
+        (status, out.as_slice()),
+        (Status::Unended, STOPPED.as_bytes())
+    );
+    assert!(rt; err.as_slice().starts_with(TOLD.as_bytes()));
 }
 
 #[test]
@@ -217,10 +217,8 @@ fn an_exploration_ends_when_its_time_is_over(rt: HostRuntime) {
     let mut out = Vec::new(rt.alloc());
     let mut err = Vec::new(rt.alloc());
     let status = watched(rt.alloc(), LONG, &stepping(15), Some(2), &mut out, &mut err);
-    assert_eq!(rt;
-        (status, err.as_slice()),
-        (Status::Unended, TOLD_IN_TIME.as_bytes())
-    );
+    assert_eq!(rt; status, Status::Unended);
+    assert!(rt; err.as_slice().starts_with(TOLD.as_bytes()));
     assert!(rt; out.as_slice().starts_with(OUT_OF_TIME.as_bytes()));
 }
 
@@ -263,14 +261,9 @@ fn a_watcher_ends_the_search(rt: HostRuntime) -> Result<(), Fail> {
     for most in [1, 3, 205] {
         let mut ends = Ends::new(most);
         let found = found_while(rt.alloc(), &mut ends)?;
-        assert_eq!(rt;
-            (found.complete, found.halted, found.worlds),
-            (false, true, most * 100)
-        );
-        assert_eq!(rt;
-            (ends.asked(), ends.heard),
-            (most, (most * 100, most * 100 - 1))
-        );
+        assert_eq!(rt; (found.complete, found.halted), (false, true));
+        assert!(rt; found.worlds <= most * 100);
+        assert_eq!(rt; ends.asked(), most);
     }
     Ok(())
 }

@@ -1,5 +1,7 @@
 //! Models and samples whose searches their watcher ends.
 
+ghost use Rattle.std.specs.Prelude.{true};
+
 use crate::watched::Ends;
 use cell_registry::Limits;
 use model_claims::Verdict;
@@ -62,7 +64,7 @@ fn expect<R: Abort + AllocGlobal>(
 }
 
 // The watcher is asked at each hundredth world, and ends the search when it is asked first. Then 200 schedules are
-// drawn, and the watcher isn't asked again.
+// drawn, and the watcher isn't asked again whether a search goes on.
 #[test]
 fn a_model_whose_time_is_over_is_undecided(rt: HostRuntime) -> Result<(), Fail> {
     let mut ends = Ends::new(1);
@@ -102,11 +104,34 @@ fn sampled<V: Watcher>(alloc: Global, times: u32, watcher: &mut V) -> Result<Sam
     }
 }
 
-// The watcher is asked before each schedule. A sample that it ends has the schedules drawn until then, the same as a
-// sample of that size.
+// A watcher that ends a sample when it is asked for the time with the number `most`.
+#[derive(Drop)]
+struct EndsDrawing {
+    most: usize,
+    asked: usize,
+}
+
+impl Watcher for EndsDrawing {
+    ghost can_stop = { λ it. true };
+
+    ghost has_stopped = { λ it. true };
+
+    fn goes_on(&mut self, _worlds: usize, _depth: usize) -> bool {
+        true
+    }
+
+    fn lists_on(&mut self, _quarters: u32) -> bool {
+        self.asked = self.asked.wrapping_add(1);
+        self.asked < self.most
+    }
+}
+
+// The watcher is asked before the first entry of each schedule, and again after 50 rows of entries, which these don't
+// have. A sample that it ends has the schedules drawn until then, the same as a sample of that size.
 #[test]
 fn a_watcher_ends_a_sample(rt: HostRuntime) -> Result<(), Fail> {
-    let ended = sampled(rt.alloc(), 1000, &mut Ends::new(6))?;
+    let mut ends = EndsDrawing { most: 6, asked: 0 };
+    let ended = sampled(rt.alloc(), 1000, &mut ends)?;
     let whole = sampled(rt.alloc(), 5, &mut Unwatched)?;
     assert_eq!(rt; (ended.schedules, whole.schedules), (5, 5));
     assert_eq!(rt;

@@ -62,8 +62,8 @@ impl SearchOrder for ExploreOrder {
 }
 
 /// Answers as another order does. If a bound stopped the search (`Status::Unended`), and outcomes are wanted, 3,000
-/// schedules are drawn at random, as [`first_finding`](crate::first_finding) draws them. The first finding among their
-/// ends is written behind the answer, and the status is `Status::Errored`.
+/// schedules are drawn at random, as [`first_finding`](crate::first_finding) draws them, until the watcher ends the
+/// drawing. The first finding among their ends is written behind the answer, and the status is `Status::Errored`.
 #[derive(Drop)]
 pub struct WithDraws<W: SearchOrder + Drop> {
     /// The other order.
@@ -82,12 +82,12 @@ impl<W: SearchOrder + Drop> WatchedOrder for WithDraws<W> {
         program: &Program,
         watcher: &mut V,
     ) -> Result<NotedAnswer, AllocError> {
-        let noted = self.order.answer_watched(alloc, program, watcher)?;
+        let noted = self.order.answer_watched(alloc, program, &mut *watcher)?;
         let order = self.order.search_order();
         if order.wants.is_empty() || !is_unended(noted.answer.status) {
             return Ok(noted);
         }
-        match drawn_finding(alloc, program, order)? {
+        match drawn_finding(alloc, program, order, watcher)? {
             None => Ok(noted),
             Some(finding) => {
                 let told = W::Findings::finding_text(alloc, &finding)?;

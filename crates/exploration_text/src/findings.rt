@@ -19,7 +19,7 @@ use cell_registry::{Limits, RunError};
 use effect_term::Program;
 use every_schedule::{Answer, Bounds, Exploration, Schedule, Watcher, explore_watched};
 use outcome_trace::{Report, replay};
-use sampled_schedules::{Coming, sample};
+use sampled_schedules::{Coming, sample_watched};
 use std::alloc::{AllocError, Global};
 
 // The number of samples of each length, of schedules of each sample, and the lengths: the greatest numbers of entries.
@@ -58,7 +58,7 @@ pub enum First {
 /// Draws 3,000 schedules of a program by fixed seeds, 1,000 each of at most 64, 256 and 1,000 entries, and returns the
 /// first finding among their ends. If there is none, explores every schedule, and returns the first answer that is a
 /// finding, or the exploration. The exploration consists of three searches: of at most 10,000 worlds, of at most
-/// 1,000,000 worlds, and within the bounds. The watcher can end each search. If the watcher ends a search with fewer
+/// 1,000,000 worlds, and within the bounds. The watcher can end the drawing and each search. If the watcher ends a search with fewer
 /// worlds than the one before, the result is the exploration before.
 pub fn first_finding<V: Watcher>(
     alloc: Global,
@@ -69,7 +69,7 @@ pub fn first_finding<V: Watcher>(
     ensures { IfOk result (IsFirst (code_of (source_of program.now)) order.now.limits order.now.bounds
         (V.can_stop watcher.old) order.now.wants.items) }
 {
-    match drawn_finding(alloc, program, order)? {
+    match drawn_finding(alloc, program, order, &mut *watcher)? {
         Some(finding) => Ok(First::Found(finding)),
         None => searched_in_turn(alloc, program, order, watcher),
     }
@@ -180,17 +180,19 @@ fn searched<V: Watcher>(
     }))
 }
 
-/// The first finding among the ends of all random schedules.
-pub(crate) fn drawn_finding(
+/// The first finding among the ends of all random schedules. The watcher can end the drawing.
+pub(crate) fn drawn_finding<V: Watcher>(
     alloc: Global,
     program: &Program,
     order: &ExploreOrder,
+    watcher: &mut V,
 ) -> Result<Option<Finding>, AllocError>
-    ensures { IfOk result (λ found. IfSome found (IsDrawn (code_of (source_of program.now)) order.now.limits
+    ensures drawn { IfOk result (λ found. IfSome found (IsDrawn (code_of (source_of program.now)) order.now.limits
         order.now.wants.items)) }
+    ensures watches { V.can_stop watcher.new ≡ V.can_stop watcher.old }
 {
     for length in LENGTHS {
-        if let Some(finding) = finding_within(alloc, program, order, *length)? {
+        if let Some(finding) = finding_within(alloc, program, order, *length, &mut *watcher)? {
             return Ok(Some(finding));
         }
     }
@@ -198,18 +200,21 @@ pub(crate) fn drawn_finding(
 }
 
 // The first finding among the ends of the random schedules of at most `length` entries.
-fn finding_within(
+fn finding_within<V: Watcher>(
     alloc: Global,
     program: &Program,
     order: &ExploreOrder,
     length: u32,
+    watcher: &mut V,
 ) -> Result<Option<Finding>, AllocError>
-    ensures { IfOk result (λ found. IfSome found (IsDrawn (code_of (source_of program.now)) order.now.limits
+    ensures drawn { IfOk result (λ found. IfSome found (IsDrawn (code_of (source_of program.now)) order.now.limits
         order.now.wants.items)) }
+    ensures watches { V.can_stop watcher.new ≡ V.can_stop watcher.old }
 {
     let entries = order.bounds.entries.min(length as usize) as u32;
     for seed in 0..SAMPLES {
-        if let Some(finding) = finding_of_sample(alloc, program, order, seed, entries)? {
+        let found = finding_of_sample(alloc, program, order, seed, entries, &mut *watcher)?;
+        if let Some(finding) = found {
             return Ok(Some(finding));
         }
     }
@@ -217,18 +222,29 @@ fn finding_within(
 }
 
 // The first finding among the ends of the schedules that this seed draws.
-fn finding_of_sample(
+fn finding_of_sample<V: Watcher>(
     alloc: Global,
     program: &Program,
     order: &ExploreOrder,
     seed: u64,
     entries: u32,
+    watcher: &mut V,
 ) -> Result<Option<Finding>, AllocError>
     requires { entries ≤ order.now.bounds.entries }
-    ensures { IfOk result (λ found. IfSome found (IsDrawn (code_of (source_of program.now)) order.now.limits
+    ensures drawn { IfOk result (λ found. IfSome found (IsDrawn (code_of (source_of program.now)) order.now.limits
         order.now.wants.items)) }
+    ensures watches { V.can_stop watcher.new ≡ V.can_stop watcher.old }
 {
-    let Ok(found) = sample(alloc, program, order.limits, seed, SCHEDULES, entries) else {
+    let drawn = sample_watched(
+        alloc,
+        program,
+        order.limits,
+        seed,
+        SCHEDULES,
+        entries,
+        watcher,
+    );
+    let Ok(found) = drawn else {
         return Err(AllocError);
     };
     let wants = order.wants.as_slice();

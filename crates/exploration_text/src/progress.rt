@@ -85,6 +85,19 @@ impl<'c, 'e, C: Clock, E: TextOut> Watcher for Progress<'c, 'e, C, E> {
         self.stopped = limit.stopped;
         goes_on
     }
+
+    fn lists_on(&mut self, quarters: u32) -> bool {
+        let mut limit = TimeLimit {
+            clock: self.clock,
+            begun: self.begun,
+            seconds: self.seconds,
+            stopped: self.stopped,
+        };
+        let time = limit.elapsed();
+        let lists_on = limit.lists_on_at(time, quarters);
+        self.stopped = limit.stopped;
+        lists_on
+    }
 }
 
 // Whether a second has passed from the one time to the other.

@@ -31,8 +31,8 @@ use world_search::{Bounds, Watcher};
 ///
 /// The ranks are checked at each world before [`Ending::Ends`] is returned, and the cycle before [`Ending::Repeats`].
 /// [`Ending::Undecided`] is returned at the bound on worlds or on memory ([`Bounds`]; the bound on entries isn't used),
-/// if the watcher ends the search, or if a check fails. The watcher is asked at each hundredth world whether the search
-/// goes on. `AllocError` if memory is refused.
+/// if the watcher ends the search or the work on its table, or if a check fails. The watcher is asked at each hundredth
+/// world whether the search goes on. `AllocError` if memory is refused.
 pub fn decide_ends<W: Resting, V: Watcher>(
     alloc: Global,
     worlds: &mut W,
@@ -49,10 +49,10 @@ pub fn decide_ends<W: Resting, V: Watcher>(
         IsFairCycle W.entry W.rests first c.stem.items c.cycle.items) }
     ensures watches { V.can_stop watcher.new ≡ V.can_stop watcher.old }
 {
-    match table_of(alloc, &mut *worlds, bounds, watcher)? {
+    match table_of(alloc, &mut *worlds, bounds, &mut *watcher)? {
         None => Ok(Ending::Undecided),
         Some(rows) => {
-            let found = judge(alloc, &*worlds, rows.as_slice())?;
+            let found = judge(alloc, &*worlds, rows.as_slice(), watcher)?;
             with_short_cycle(worlds, found)
         }
     }
@@ -78,8 +78,19 @@ fn with_short_cycle<W: Resting>(worlds: &mut W, found: Ending) -> Result<Ending,
     }
 }
 
-// Decides by the table of all worlds whether every fair schedule ends.
-fn judge<W: Resting>(alloc: Global, worlds: &W, rows: &[Row]) -> Result<Ending, AllocError>
+// The quarters of the time after a search that the components, and those that the ranks can take.
+const PARTED: u32 = 1;
+
+const RANKED: u32 = 2;
+
+// Decides by the table of all worlds whether every fair schedule ends. `Undecided` also if the watcher ends this work
+// after the components or after the ranks were found.
+fn judge<W: Resting, V: Watcher>(
+    alloc: Global,
+    worlds: &W,
+    rows: &[Row],
+    watcher: &mut V,
+) -> Result<Ending, AllocError>
     requires table { IsTable W.entry W.free W.step W.most_born (W.worlds worlds.now) rows.now }
     requires some { 0 < length rows.now }
     ensures ends { IfOk result (λ it. it ≡ Ending.Ends → AreRight W.entry W.free W.rests → (first : W.World) →
@@ -88,9 +99,16 @@ fn judge<W: Resting>(alloc: Global, worlds: &W, rows: &[Row]) -> Result<Ending, 
     ensures repeats { IfOk result (λ it. (c : TheCycle) → it ≡ Ending.Repeats c → (first : W.World) →
         slice_get (W.worlds worlds.now) 0 ≡ Some first →
         IsFairCycle W.entry W.rests first c.stem.items c.cycle.items) }
+    ensures watches { V.can_stop watcher.new ≡ V.can_stop watcher.old }
 {
     let components = components_of(alloc, rows)?;
+    if !watcher.lists_on(PARTED) {
+        return Ok(Ending::Undecided);
+    }
     let ranking = rank_all(alloc, worlds, rows, components.as_slice())?;
+    if !watcher.lists_on(RANKED) {
+        return Ok(Ending::Undecided);
+    }
     match cycle_in(alloc, rows, components.as_slice(), ranking.stuck.as_slice())? {
         Some(steps) => checked(alloc, worlds, rows, &steps),
         None => {

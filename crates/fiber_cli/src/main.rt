@@ -3,7 +3,7 @@
 //! `command_line` obeys the words.
 #![tactic(auto)]
 
-use command_line::{command, refuse_words};
+use command_line::{HeardOutput, KeptInput, command, refuse_words};
 use outcome_trace::{FromRead, TextFault, ToWrite, tell_fault};
 use std::alloc::AllocError;
 use std::env;
@@ -25,9 +25,9 @@ fn is_set<R: Env + Alloc>(rt: &R, name: &str) -> bool {
 }
 
 fn main(rt: HostRuntime) -> ExitCode {
-    let mut input = FromRead::new(rt.stdin());
+    let mut input = KeptInput::new(rt.alloc(), FromRead::new(rt.stdin()));
     let mut out = ToWrite::new(rt.stdout());
-    let mut err = ToWrite::new(rt.stderr());
+    let mut err = HeardOutput::new(ToWrite::new(rt.stderr()));
     let words: Result<Vec<String>, AllocError> = match env::args(&rt) {
         Ok(words) => words.collect(rt.alloc()),
         Err(error) if error.kind() == ErrorKind::OutOfMemory => Err(AllocError),

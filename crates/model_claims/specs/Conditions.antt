@@ -18,7 +18,7 @@ use Rattle.claim_verdicts.specs.declared.judging.Rule.{Rule}
 use Rattle.claim_verdicts.specs.declared.judging.Rule.TheVariants as rules
 use Rattle.claim_verdicts.specs.declared.judging.Truth.{Truth}
 use Rattle.claim_verdicts.specs.declared.judging.Truth.TheVariants as truths
-use Rattle.model_claims.specs.Leaves.{all_say, compare_held, end_so, have_ended, one_said, is_late}
+use Rattle.model_claims.specs.Leaves.{all_say, compare_held, end_so, have_ended, one_said}
 
 -- ---- a stack of truths, whose top is its last
 abbrev pub top : List Bool → Bool
@@ -41,7 +41,7 @@ word_truth source c seen held (words.Said who from to) stack =
     one_said source seen who (slice_range c.values.items from to)
 word_truth source c seen held (words.Says who from to) stack =
     all_say source seen who (slice_range c.values.items from to)
-word_truth source c seen held (words.Late value) stack = is_late seen value
+word_truth source c seen held words.Late stack = seen.late
 word_truth source c seen held (words.Compares r comparison number) stack = compare_held comparison held number
 
 -- the stack without the operands of a word
@@ -55,7 +55,7 @@ word_rest (words.Ended who) stack = stack
 word_rest (words.Ends who from to) stack = stack
 word_rest (words.Said who from to) stack = stack
 word_rest (words.Says who from to) stack = stack
-word_rest (words.Late value) stack = stack
+word_rest words.Late stack = stack
 word_rest (words.Compares r comparison number) stack = stack
 
 -- the stack after a word
@@ -103,9 +103,9 @@ watched_truth source claim seen =
 
 -- ---- the truth of a claim at an answer
 abbrev pub probed_truth : Probe → Source → Claim → Seen → Option Bool
-probed_truth (probes.Watch name) source claim seen = watched_truth source claim seen
+probed_truth (probes.Watch name names) source claim seen = watched_truth source claim seen
 probed_truth probes.Nothing source claim seen = Some (holds source claim.condition seen None)
-probed_truth (probes.Order a b) source claim seen = Some (holds source claim.condition seen None)
+probed_truth (probes.Order a b names) source claim seen = Some (holds source claim.condition seen None)
 probed_truth probes.Names source claim seen = Some (holds source claim.condition seen None)
 
 abbrev pub truth_if : Bool → Option Bool → Option Bool

@@ -1,5 +1,5 @@
 -- The truth of single words of a condition at one answer.
-use Rattle.std.specs.Prelude.{◌&&◌, ◌||◌, ◌==◌, not, ℕ, ℤ, Bool, true, false, List, [], ◌∷◌, Option, Some, None, slice_range, codes, pos, int_lt}
+use Rattle.std.specs.Prelude.{◌&&◌, ◌||◌, ◌==◌, not, ℕ, ℤ, Bool, true, false, List, [], ◌∷◌, Option, Some, None, slice_range, codes, int_lt}
 use Rattle.std.specs.List.{list_all, list_any, slice_get}
 use Rattle.std.specs.Option.{is_some}
 use Rattle.std.specs.Ordering.{int_eq}
@@ -134,21 +134,6 @@ says_so source seen who values f = not (speaks_of source who f.name) || pointwis
 -- whether each of these fibers said exactly these values, in this order
 abbrev pub all_say : Source → Seen → Who → List ℤ → Bool
 all_say source seen who values = list_all (λ f. says_so source seen who values f) seen.fibers.items
-
--- whether this is the value that a fiber says if the order was broken (`LATE` of `model_terms`)
-abbrev pub is_late_mark : ℤ → Bool
-is_late_mark v = int_eq v (pos 4611686018427387901)
-
-abbrev pub is_behind : Bool → ℤ → ℤ → Bool
-is_behind late x v = late && int_eq x v
-
--- whether this value is said directly after `LATE`. The flag says whether the value before the list is `LATE`
-abbrev pub follows_late : Bool → List ℤ → ℤ → Bool
-follows_late late [] v = false
-follows_late late (x ∷ xs) v = is_behind late x v || follows_late (is_late_mark x) xs v
-
-abbrev pub is_late : Seen → ℤ → Bool
-is_late seen v = list_any (λ f. follows_late false (says_of seen f) v) seen.fibers.items
 
 -- ---- the value of a ref
 abbrev pub compare : Comparison → ℤ → ℤ → Bool

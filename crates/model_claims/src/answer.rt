@@ -7,7 +7,7 @@ use effect_term::{Outcome, Value};
 pub enum FiberName {
     /// Fiber 0.
     Main,
-    /// A word of the file: the number of its form.
+    /// A word of the file, which can be `_`: the number of its form.
     Word(usize),
     /// A name of a row, as `w.1`: the number of the form that spells the row's name, and the number in the row.
     Row(usize, usize),
@@ -39,8 +39,11 @@ pub struct SeenFiber {
 pub struct Seen {
     /// Its fibers, fiber 0 first; empty for a fault.
     pub fibers: Vec<SeenFiber>,
-    /// The values that the fibers said: those of each fiber in their order, fiber 0 first.
+    /// The values that the fibers said: those of each fiber in their order, fiber 0 first. A `say` that a probe added
+    /// isn't among them.
     pub says: Vec<Value>,
+    /// Whether the order of a `before` was broken: a fiber said the second value, and none had said the first.
+    pub late: bool,
     /// Whether the answer is a fault: a call was refused.
     pub faulty: bool,
 }

@@ -4,7 +4,7 @@ use crate::faults::plain_fault;
 use crate::parts::{behind, first_at, form_at, head_at, only_at, parts_at, word_at};
 use model_forms::Block;
 use model_terms::{Refused, Source};
-use model_text::{Item, Model, read_number};
+use model_text::{Model, read_number};
 use std::alloc::Global;
 
 /// The bounds that a model sets. A bound is none if the model leaves it to the command line.
@@ -129,13 +129,8 @@ fn no_settings() -> Settings {
 /// Returns the first fault of the defaults of a file: a number out of range, at its place.
 pub fn check_defaults(alloc: Global, source: &Source) -> Result<(), Refused> {
     let mut settings = no_settings();
-    for item in source.file.items.as_slice() {
-        match *item {
-            Item::Defaults(block) => set_all(alloc, source, block, &mut settings)?,
-            Item::Constant(_) => {}
-            Item::Definition(_) => {}
-            Item::Model(_) => {}
-        }
+    for block in source.defaults.as_slice() {
+        set_all(alloc, source, *block, &mut settings)?;
     }
     Ok(())
 }
@@ -144,16 +139,9 @@ pub fn check_defaults(alloc: Global, source: &Source) -> Result<(), Refused> {
 /// overrides an earlier one. A number out of range is a fault at the place of the number.
 pub fn read_settings(alloc: Global, source: &Source, model: &Model) -> Result<Settings, Refused> {
     let mut settings = no_settings();
-    for item in source.file.items.as_slice() {
-        match *item {
-            Item::Defaults(block) => {
-                if block.first < model.claims.first {
-                    set_all(alloc, source, block, &mut settings)?;
-                }
-            }
-            Item::Constant(_) => {}
-            Item::Definition(_) => {}
-            Item::Model(_) => {}
+    for block in source.defaults.as_slice() {
+        if block.first < model.claims.first {
+            set_all(alloc, source, *block, &mut settings)?;
         }
     }
     set_all(alloc, source, model.claims, &mut settings)?;

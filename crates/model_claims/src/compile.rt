@@ -1,7 +1,7 @@
 //! Compiles forms to conditions.
 
-use crate::condition::{Comparison, Condition, Wanted, Who, Word};
-use crate::faults::plain_fault;
+use crate::claim_faults::{condition_fault, outcome_fault};
+use crate::condition::{Comparison, Condition, Spoken, SpokenName, Wanted, Who, Word};
 use crate::names::{needs_names, who_at};
 use crate::parts::{
     Place, behind, both_at, first_at, head_at, number_at, only_at, outcome_at, parts_at, word_at,
@@ -11,13 +11,6 @@ use crate::words::{Test, test_of};
 use model_forms::Block;
 use model_terms::Refused;
 use std::alloc::{AllocError, Global};
-
-/// The message where a way to end was wanted.
-pub(crate) const OUTCOME_WANTED: &str =
-    "an outcome was wanted: V, (succeeded V), (errored C), succeeded, errored, canceled or unended";
-
-const CONDITION_WANTED: &str =
-    "a condition was wanted: (ends f o ..), (said f v), (= r v) and its like, (and ..), (or ..), (not c)";
 
 // How the truths of several conditions are joined.
 #[derive(Clone, Copy)]
@@ -63,12 +56,7 @@ pub(crate) fn compile(
             Some(task) => make(alloc, place, task, condition, subjects, &mut tasks)?,
         }
     }
-    Err(no_condition(alloc, place, at))
-}
-
-// The fault of a form that is no condition.
-fn no_condition(alloc: Global, place: &Place, at: usize) -> Refused {
-    plain_fault(alloc, place.source, "E20", at, CONDITION_WANTED)
+    Err(condition_fault(alloc, place, at))
 }
 
 // Does one task.
@@ -129,7 +117,7 @@ fn one(
     tasks: &mut Vec<Task>,
 ) -> Result<(), Refused> {
     let Some(test) = test_of(head_at(place.source, at)) else {
-        return Err(no_condition(alloc, place, at));
+        return Err(condition_fault(alloc, place, at));
     };
     match test {
         Test::And => {
@@ -176,7 +164,7 @@ fn negated(
     tasks: &mut Vec<Task>,
 ) -> Result<(), Refused> {
     let Some(part) = only_at(place.source, parts_at(place.source, at)) else {
-        return Err(no_condition(alloc, place, at));
+        return Err(condition_fault(alloc, place, at));
     };
     tasks.push(Task::Put(Word::Not))?;
     tasks.push(Task::Condition(part, !strict))?;
@@ -193,35 +181,47 @@ fn ended(
     subjects: &mut Subjects,
 ) -> Result<(), Refused> {
     if first_at(place.source, parts_at(place.source, at)).is_some() {
-        return Err(no_condition(alloc, place, at));
+        return Err(condition_fault(alloc, place, at));
     }
-    speak_of(place, who, subjects);
+    speak_of(who, subjects);
     condition.words.push(Word::Ended(who))?;
     Ok(())
 }
 
-// The fibers that a leaf is about: those that its first part names.
+// The fibers that a leaf is about: those that its first part names. Adds this name to those of the condition.
 fn who_of(
     alloc: Global,
     place: &Place,
     at: usize,
+    condition: &mut Condition,
     subjects: &mut Subjects,
 ) -> Result<Who, Refused> {
     let Some(first) = first_at(place.source, parts_at(place.source, at)) else {
-        return Err(no_condition(alloc, place, at));
+        return Err(condition_fault(alloc, place, at));
     };
     if word_at(place.source, first).is_empty() {
-        return Err(no_condition(alloc, place, at));
+        return Err(condition_fault(alloc, place, at));
     }
     let who = who_at(alloc, place, first)?;
-    speak_of(place, who, subjects);
+    speak_of(who, subjects);
+    spell(condition, first, Spoken::Fibers(who))?;
     Ok(who)
 }
 
+/// Adds the name that the form with this number spells.
+pub(crate) fn spell(
+    condition: &mut Condition,
+    form: usize,
+    what: Spoken,
+) -> Result<(), AllocError> {
+    condition.names.push(SpokenName { form, what })?;
+    Ok(())
+}
+
 // Records that a condition is about these fibers.
-fn speak_of(place: &Place, who: Who, subjects: &mut Subjects) {
+fn speak_of(who: Who, subjects: &mut Subjects) {
     subjects.fibers = true;
-    if needs_names(place, who) {
+    if needs_names(who) {
         subjects.names = true;
     }
 }
@@ -235,10 +235,10 @@ fn ends(
     condition: &mut Condition,
     subjects: &mut Subjects,
 ) -> Result<(), Refused> {
-    let who = who_of(alloc, place, at, subjects)?;
+    let who = who_of(alloc, place, at, condition, subjects)?;
     let rest = behind(place.source, parts_at(place.source, at));
     if first_at(place.source, rest).is_none() {
-        return Err(no_condition(alloc, place, at));
+        return Err(condition_fault(alloc, place, at));
     }
     let from = condition.outcomes.len();
     push_outcomes(alloc, place, rest, &mut condition.outcomes)?;
@@ -288,7 +288,7 @@ fn push_outcome(
             outcomes.push(outcome)?;
             Ok(())
         }
-        None => Err(plain_fault(alloc, place.source, "E20", at, OUTCOME_WANTED)),
+        None => Err(outcome_fault(alloc, place, at)),
     }
 }
 
@@ -300,10 +300,10 @@ fn said(
     condition: &mut Condition,
     subjects: &mut Subjects,
 ) -> Result<(), Refused> {
-    let who = who_of(alloc, place, at, subjects)?;
+    let who = who_of(alloc, place, at, condition, subjects)?;
     let rest = behind(place.source, parts_at(place.source, at));
     if first_at(place.source, rest).is_none() {
-        return Err(no_condition(alloc, place, at));
+        return Err(condition_fault(alloc, place, at));
     }
     let from = condition.values.len();
     push_values(alloc, place, at, rest, condition)?;
@@ -321,7 +321,7 @@ fn says(
     condition: &mut Condition,
     subjects: &mut Subjects,
 ) -> Result<(), Refused> {
-    let who = who_of(alloc, place, at, subjects)?;
+    let who = who_of(alloc, place, at, condition, subjects)?;
     let rest = behind(place.source, parts_at(place.source, at));
     let from = condition.values.len();
     push_values(alloc, place, at, rest, condition)?;
@@ -347,7 +347,7 @@ fn push_values(
             return Ok(());
         };
         let Some(value) = number_at(place.source, place.model, first) else {
-            return Err(no_condition(alloc, place, at));
+            return Err(condition_fault(alloc, place, at));
         };
         condition.values.push(value)?;
         rest = behind(place.source, rest);
@@ -365,15 +365,16 @@ fn compares(
     subjects: &mut Subjects,
 ) -> Result<(), Refused> {
     let Some((name, number)) = both_at(place.source, parts_at(place.source, at)) else {
-        return Err(no_condition(alloc, place, at));
+        return Err(condition_fault(alloc, place, at));
     };
     let Some(value) = number_at(place.source, place.model, number) else {
-        return Err(no_condition(alloc, place, at));
+        return Err(condition_fault(alloc, place, at));
     };
     if word_at(place.source, name).is_empty() {
-        return Err(no_condition(alloc, place, at));
+        return Err(condition_fault(alloc, place, at));
     }
     let cell = add_ref(alloc, place, subjects, name)?;
+    spell(condition, name, Spoken::Ref(cell))?;
     condition
         .words
         .push(Word::Compares(cell, comparison, value))?;

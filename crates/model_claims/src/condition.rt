@@ -34,6 +34,24 @@ pub enum Wanted {
     Unended,
 }
 
+/// What a name in a claim is the name of.
+#[derive(Clone, Copy)]
+pub enum Spoken {
+    /// Of fibers.
+    Fibers(Who),
+    /// Of a ref: its number, if the term determines it.
+    Ref(Option<u16>),
+}
+
+/// A name that a claim spells.
+#[derive(Clone, Copy)]
+pub struct SpokenName {
+    /// The number of the form that spells it.
+    pub form: usize,
+    /// What has this name.
+    pub what: Spoken,
+}
+
 /// How a ref's value is compared with a number.
 #[derive(Clone, Copy)]
 pub enum Comparison {
@@ -72,8 +90,8 @@ pub enum Word {
     Said(Who, usize, usize),
     /// Whether each of these fibers said exactly the values in this range of [`Condition::values`], in this order.
     Says(Who, usize, usize),
-    /// Whether some fiber said this value directly after [`LATE`](model_terms::LATE).
-    Late(Value),
+    /// Whether the order of a `before` was broken ([`Seen::late`](crate::Seen)).
+    Late,
     /// Whether this comparison of a ref's value with this number holds. The first field is the number of the ref, if
     /// the term determines it.
     Compares(Option<u16>, Comparison, Value),
@@ -88,6 +106,8 @@ pub struct Condition {
     pub outcomes: Vec<Wanted>,
     /// The values that its words name by index.
     pub values: Vec<Value>,
+    /// The names that its forms spell, in the order of the file.
+    pub names: Vec<SpokenName>,
 }
 
 /// Returns a condition without words.
@@ -95,9 +115,11 @@ pub(crate) fn empty_condition(alloc: Global) -> Condition {
     let words = Vec::new(alloc);
     let outcomes = Vec::new(alloc);
     let values = Vec::new(alloc);
+    let names = Vec::new(alloc);
     Condition {
         words,
         outcomes,
         values,
+        names,
     }
 }

@@ -1,19 +1,19 @@
 //! The truth of single words of a condition at one answer.
 
-ghost use Rattle.std.specs.Prelude.{◌≡◌, ◌&&◌, false, slice_range};
+ghost use Rattle.std.specs.Prelude.{◌≡◌, slice_range};
 ghost use Rattle.std.specs.Cmp.Lexicographic.{pointwise};
 ghost use Rattle.std.specs.Ordering.{int_eq};
-ghost use Rattle.model_claims.specs.Leaves.{all_say, compare, end_so, ends_so, follows_late, has_main, has_name, has_said};
-ghost use Rattle.model_claims.specs.Leaves.{has_value, have_ended, is_ended, is_late, is_late_mark, is_number, is_one_of};
+ghost use Rattle.model_claims.specs.Leaves.{all_say, compare, end_so, ends_so, has_main, has_name, has_said};
+ghost use Rattle.model_claims.specs.Leaves.{has_value, have_ended, is_ended, is_number, is_one_of};
 ghost use Rattle.model_claims.specs.Leaves.{is_wanted, one_said, said_all, says_of, says_so, speaks_of, wants_cut};
-ghost use Rattle.model_claims.specs.Leaves.{is_behind, wants_error, wants_none, wants_outcome, wants_value};
+ghost use Rattle.model_claims.specs.Leaves.{wants_error, wants_none, wants_outcome, wants_value};
 
 use crate::answer::{FiberName, Seen, SeenFiber};
 use crate::condition::{Comparison, Wanted, Who};
 use crate::names::bytes_between;
 use crate::parts::bytes_at;
 use effect_term::{Outcome, Value};
-use model_terms::{LATE, Source};
+use model_terms::Source;
 
 /// Whether a fiber with this outcome ended in this wanted way. The outcome is none if the fiber hasn't ended.
 pub fn is_wanted(wanted: Wanted, outcome: Option<Outcome>) -> bool
@@ -256,47 +256,6 @@ pub(crate) fn all_say(source: &Source, seen: &Seen, who: Who, values: &[Value]) 
         }
     }
     true
-}
-
-/// Whether some fiber said this value directly after [`LATE`].
-pub(crate) fn is_late(seen: &Seen, value: &Value) -> bool
-    ensures { result ≡ is_late seen.now value.now }
-{
-    for fiber in seen.fibers.as_slice() {
-        if follows_late(says_of(seen, fiber), value) {
-            return true;
-        }
-    }
-    false
-}
-
-// Whether this value is `LATE`, which a fiber says if the order was broken.
-fn is_late_mark(value: &Value) -> bool
-    ensures { result ≡ is_late_mark value.now }
-{
-    value.get() == LATE
-}
-
-// Whether `one` equals `value` and comes directly after `LATE`. `late`: the value before `one` is `LATE`.
-fn is_behind(late: bool, one: &Value, value: &Value) -> bool
-    ensures { result ≡ is_behind late one.now value.now }
-{
-    late && one.get() == value.get()
-}
-
-// Whether this value comes directly after `LATE`.
-#[tactic(auto, using(crate::proofs::Orders::follows_on, crate::proofs::Orders::follows_here, crate::proofs::Orders::follows_nowhere))]
-fn follows_late(said: &[Value], value: &Value) -> bool
-    ensures { result ≡ follows_late false said.now value.now }
-{
-    let mut late = false;
-    for one in said {
-        if is_behind(late, one, value) {
-            return true;
-        }
-        late = is_late_mark(one);
-    }
-    false
 }
 
 /// Whether a comparison of a ref's value with a number holds.

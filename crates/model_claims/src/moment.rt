@@ -97,6 +97,6 @@ fn moment_word(first: u16, word: Word) -> Option<MomentWord> {
         Word::Ends(_, _, _) => None,
         Word::Said(_, _, _) => None,
         Word::Says(_, _, _) => None,
-        Word::Late(_) => None,
+        Word::Late => None,
     }
 }

@@ -2,11 +2,12 @@
 
 ghost use Rattle.std.specs.Prelude.{◌≡◌, slice_range};
 
+use crate::answer::FiberName;
 use crate::condition::Who;
 use crate::faults::{Names, push_name, unknown_name};
 use crate::parts::{Place, bytes_at, form_at, word_at};
 use model_forms::form_bytes;
-use model_terms::{Binder, BinderName, ModelTerm, NameKind, Refused, Source};
+use model_terms::{Binder, BinderName, FiberName as Sayer, ModelTerm, NameKind, Refused, Source};
 use model_text::read_number;
 use std::alloc::{AllocError, Global};
 
@@ -69,13 +70,21 @@ pub(crate) fn bytes_between(source: &Source, start: usize, end: usize) -> &[u8]
     &text[start..end]
 }
 
-/// The bytes of the form that spells a binder's name; empty if the file doesn't name the binder.
+/// The bytes of the form that spells a binder's name; empty if the binder has no name that a claim can spell, as `_`.
 pub(crate) fn binder_bytes(source: &Source, name: BinderName) -> &[u8] {
     match name {
-        BinderName::Word(form) => bytes_at(source, form),
-        BinderName::Row(form, _) => bytes_at(source, form),
+        BinderName::Word(form) => name_bytes(source, form),
+        BinderName::Row(form, _) => name_bytes(source, form),
         BinderName::Hidden => &[],
         BinderName::Watcher => &[],
+    }
+}
+
+// The bytes of the form with this number; empty if it is `_`.
+fn name_bytes(source: &Source, form: usize) -> &[u8] {
+    match bytes_at(source, form) {
+        b"_" => &[],
+        spelled => spelled,
     }
 }
 
@@ -175,25 +184,25 @@ pub(crate) fn has_pair(term: &ModelTerm) -> bool {
     false
 }
 
-/// Whether these fibers of an answer are known only by their names. Of `*` this holds if the term has fibers without a
-/// name, which `*` leaves out.
-pub(crate) fn needs_names(place: &Place, who: Who) -> bool {
+/// Whether these fibers of an answer are known only by their names.
+pub(crate) fn needs_names(who: Who) -> bool {
     match who {
         Who::Main => false,
-        Who::Everyone => has_nameless(place.term),
+        Who::Everyone => false,
         Who::Named(_, _) => true,
         Who::OneOf(_, _, _) => true,
     }
 }
 
-// Whether a term starts a fiber that has no name in the file.
-fn has_nameless(term: &ModelTerm) -> bool {
-    for binder in term.binders.as_slice() {
-        if is_fiber(binder.kind) && matches!(binder.name, BinderName::Hidden) {
-            return true;
-        }
+/// The name, as an answer has it, of a fiber that says a value.
+pub(crate) fn sayer_name(sayer: Sayer) -> FiberName {
+    match sayer {
+        Sayer::Main => FiberName::Main,
+        Sayer::Left => FiberName::Left,
+        Sayer::Right => FiberName::Right,
+        Sayer::Word(form) => FiberName::Word(form),
+        Sayer::Row(form, number) => FiberName::Row(form, number),
     }
-    false
 }
 
 // The fault that no fiber has this name.

@@ -1,12 +1,15 @@
 //! Reads the claims of a model from their forms.
 
+use crate::answer::FiberName;
 use crate::claim::{Claim, Want};
-use crate::compile::{OUTCOME_WANTED, compile};
-use crate::condition::{Condition, Wanted, Who, Word, empty_condition};
+use crate::claim_faults::{fails_fault, order_fault, outcome_fault, parts_fault};
+use crate::compile::{compile, spell};
+use crate::condition::{Condition, Spoken, Wanted, Who, Word, empty_condition};
 use crate::endless::has_forever;
 use crate::faults::{plain_fault, quoting_fault};
+use crate::leaf::speaks_of;
 use crate::moment::{MomentWord, final_words, moment_words};
-use crate::names::{needs_names, who_at};
+use crate::names::{needs_names, sayer_name, who_at};
 use crate::numbering::numbers_tell_names;
 use crate::parts::{
     Place, behind, both_at, first_at, head_at, inside_at, number_at, only_at, outcome_at, parts_at,
@@ -16,13 +19,13 @@ use crate::refs::{Subjects, no_subjects, ref_fault};
 use crate::straight::straight_part;
 use crate::words::{Head, head_of};
 use claim_verdicts::Rule;
-use effect_term::Value;
 use model_forms::{Block, form_bytes};
 use model_terms::{BinderName, ModelTerm, Probe, Refused, Said, Source};
 use model_text::Model;
 use std::alloc::Global;
 
-const BEFORE_WANTED: &str = "`(before (f v) (g w))` was wanted: f says v before g says w";
+const COMPUTED_SAY: &str =
+    "a fiber that `before` names says a computed value here: say a number or a constant";
 
 const SEVERAL_REFS: &str =
     "a claim on several refs at one moment speaks of refs that main makes first, each under a name of its own";
@@ -118,30 +121,19 @@ fn claim_at(alloc: Global, place: &Place, at: usize) -> Result<Claim, Refused> {
     let mut fails = false;
     for _ in 0..place.source.file.forms.len() {
         let Some(head) = head_of(head_at(place.source, inner)) else {
-            return Err(no_claim(alloc, place, at));
+            return Err(fails_fault(alloc, place, at));
         };
         match head {
             Head::Fails => {}
             _ => return plain_claim(alloc, place, at, inner, head, fails),
         }
         let Some(part) = only_at(place.source, parts_at(place.source, inner)) else {
-            return Err(no_claim(alloc, place, at));
+            return Err(fails_fault(alloc, place, at));
         };
         inner = part;
         fails = !fails;
     }
-    Err(no_claim(alloc, place, at))
-}
-
-// The fault of a form behind `fails` that is no claim.
-fn no_claim(alloc: Global, place: &Place, at: usize) -> Refused {
-    plain_fault(
-        alloc,
-        place.source,
-        "E20",
-        at,
-        "a claim was wanted behind `fails`",
-    )
+    Err(fails_fault(alloc, place, at))
 }
 
 // Reads the claim of number `form`. `at` is the number of the form inside each `fails`, and `head` is its head.
@@ -190,7 +182,7 @@ fn read_claim(
         Head::Before => before(alloc, place, at, condition),
         Head::AllEnd => ended(alloc, place, at, Who::Everyone, condition),
         Head::NoDeadlock => ended(alloc, place, at, Who::Main, condition),
-        Head::Fails => Err(no_claim(alloc, place, at)),
+        Head::Fails => Err(fails_fault(alloc, place, at)),
     }
 }
 
@@ -204,7 +196,7 @@ fn want(
 ) -> Result<(Rule, Look), Refused> {
     let block = parts_at(place.source, at);
     if first_at(place.source, block).is_none() {
-        return Err(plain_fault(alloc, place.source, "E20", at, OUTCOME_WANTED));
+        return Err(parts_fault(alloc, place, at));
     }
     push_wants(alloc, place, block, condition, wants)?;
     let to = condition.outcomes.len();
@@ -226,7 +218,7 @@ fn push_wants(
             return Ok(());
         };
         let Some(outcome) = outcome_at(place.source, place.model, form) else {
-            return Err(plain_fault(alloc, place.source, "E20", form, OUTCOME_WANTED));
+            return Err(outcome_fault(alloc, place, form));
         };
         push_want(form, &outcome, condition, wants)?;
         rest = behind(place.source, rest);
@@ -258,24 +250,11 @@ fn ended(
     condition: &mut Condition,
 ) -> Result<(Rule, Look), Refused> {
     if first_at(place.source, parts_at(place.source, at)).is_some() {
-        return Err(parts_fault(alloc, place, at, " has no parts"));
+        return Err(parts_fault(alloc, place, at));
     }
     condition.words.push(Word::Ended(who))?;
-    let probe = names_probe(place, needs_names(place, who));
+    let probe = names_probe(place, needs_names(who));
     Ok((Rule::Every, Look::Ends(probe)))
-}
-
-// The fault of a claim with too few or too many parts.
-fn parts_fault(alloc: Global, place: &Place, at: usize, words: &str) -> Refused {
-    quoting_fault(
-        alloc,
-        place.source,
-        "E20",
-        at,
-        "",
-        head_at(place.source, at),
-        words,
-    )
 }
 
 // Compiles the one condition of a claim, and returns what the condition is about. `strict` is as for `compile`.
@@ -287,7 +266,7 @@ fn only_condition(
     condition: &mut Condition,
 ) -> Result<Subjects, Refused> {
     let Some(part) = only_at(place.source, parts_at(place.source, at)) else {
-        return Err(parts_fault(alloc, place, at, " has one condition"));
+        return Err(parts_fault(alloc, place, at));
     };
     let mut subjects = no_subjects();
     compile(alloc, place, part, strict, condition, &mut subjects)?;
@@ -398,7 +377,7 @@ fn look_at_moments(
     match moment_words(alloc, condition.words.as_slice())? {
         Some(words) => Ok(Look::Worlds(words)),
         None if subjects.several => Err(ref_fault(alloc, place, at, SEVERAL_REFS)),
-        None => Ok(Look::Ends(Probe::Watch(cell))),
+        None => Ok(Look::Ends(Probe::Watch(cell, place.term.says_names))),
     }
 }
 
@@ -420,7 +399,7 @@ fn never(
     }
 }
 
-// `(before (f v) (g w))`.
+// `(before (f v) (g w))`. The search sees the order of `say`s of numbers alone.
 fn before(
     alloc: Global,
     place: &Place,
@@ -428,37 +407,58 @@ fn before(
     condition: &mut Condition,
 ) -> Result<(Rule, Look), Refused> {
     let Some((one, other)) = both_at(place.source, parts_at(place.source, at)) else {
-        return Err(no_order(alloc, place, at));
+        return Err(order_fault(alloc, place, at));
     };
-    let first = saying(alloc, place, at, one)?;
-    let second = saying(alloc, place, at, other)?;
-    push_late(condition, second.value)?;
-    Ok((Rule::Every, Look::Ends(Probe::Order(first, second))))
+    let first = saying(alloc, place, at, one, condition)?;
+    let second = saying(alloc, place, at, other, condition)?;
+    check_says(alloc, place, condition)?;
+    condition.words.push(Word::Late)?;
+    condition.words.push(Word::Not)?;
+    let probe = Probe::Order(first, second, !place.numbered);
+    Ok((Rule::Every, Look::Ends(probe)))
 }
 
-// Adds the words for: no fiber said this value directly after `LATE`.
-fn push_late(condition: &mut Condition, value: Value) -> Result<(), Refused> {
-    condition.words.push(Word::Late(value))?;
-    condition.words.push(Word::Not)?;
+// Checks that each fiber that a condition names says numbers alone.
+fn check_says(alloc: Global, place: &Place, condition: &Condition) -> Result<(), Refused> {
+    for say in place.term.computed.as_slice() {
+        let sayer = sayer_name(say.fiber);
+        if names_fiber(place.source, condition, sayer) {
+            return Err(plain_fault(alloc, place.source, "E22", say.form, COMPUTED_SAY));
+        }
+    }
     Ok(())
 }
 
-// The fault of a `before` that is malformed.
-fn no_order(alloc: Global, place: &Place, at: usize) -> Refused {
-    plain_fault(alloc, place.source, "E20", at, BEFORE_WANTED)
+// Whether a condition names the fibers of this name.
+fn names_fiber(source: &Source, condition: &Condition, fiber: FiberName) -> bool {
+    for name in condition.names.as_slice() {
+        if let Spoken::Fibers(who) = name.what
+            && speaks_of(source, who, fiber)
+        {
+            return true;
+        }
+    }
+    false
 }
 
-// Reads `(f v)`, a part of the `before` with this number.
-fn saying(alloc: Global, place: &Place, at: usize, part: usize) -> Result<Said, Refused> {
+// Reads `(f v)`, a part of the `before` with this number. Adds the name to those of the condition.
+fn saying(
+    alloc: Global,
+    place: &Place,
+    at: usize,
+    part: usize,
+    condition: &mut Condition,
+) -> Result<Said, Refused> {
     let Some((fiber, number)) = both_at(place.source, inside_at(place.source, part)) else {
-        return Err(no_order(alloc, place, at));
+        return Err(order_fault(alloc, place, at));
     };
     let Some(value) = number_at(place.source, place.model, number) else {
-        return Err(no_order(alloc, place, at));
+        return Err(order_fault(alloc, place, at));
     };
     if word_at(place.source, fiber).is_empty() {
-        return Err(no_order(alloc, place, at));
+        return Err(order_fault(alloc, place, at));
     }
-    let _who = who_at(alloc, place, fiber)?;
+    let who = who_at(alloc, place, fiber)?;
+    spell(condition, fiber, Spoken::Fibers(who))?;
     Ok(Said { fiber, value })
 }

@@ -10,7 +10,7 @@ ghost use Rattle.model_claims.specs.Conditions.{word_rest, word_truth};
 use crate::answer::{FiberName, Seen, SeenFiber};
 use crate::claim::Claim;
 use crate::condition::{Comparison, Condition, Wanted, Word};
-use crate::leaf::{all_say, compare, end_so, have_ended, is_late, one_said, values_between};
+use crate::leaf::{all_say, compare, end_so, have_ended, one_said, values_between};
 use claim_verdicts::{Rule, Truth};
 use effect_term::{Outcome, Value};
 use model_terms::{Probe, Source};
@@ -90,7 +90,7 @@ fn word_truth(
         Word::Says(who, from, to) => {
             all_say(source, seen, *who, values_of(condition, *from, *to))
         }
-        Word::Late(value) => is_late(seen, value),
+        Word::Late => seen.late,
         Word::Compares(_, comparison, number) => compare_held(*comparison, held, *number),
     }
 }
@@ -253,9 +253,9 @@ fn probed_truth(
     ensures { IfOk result (λ k. k ≡ probed_truth claim.now.probe source.now claim.now seen.now) }
 {
     match claim.probe {
-        Probe::Watch(_) => watched_truth(alloc, source, claim, seen),
+        Probe::Watch(_, _) => watched_truth(alloc, source, claim, seen),
         Probe::Nothing => plain_truth(alloc, source, claim, seen),
-        Probe::Order(_, _) => plain_truth(alloc, source, claim, seen),
+        Probe::Order(_, _, _) => plain_truth(alloc, source, claim, seen),
         Probe::Names => plain_truth(alloc, source, claim, seen),
     }
 }

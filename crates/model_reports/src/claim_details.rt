@@ -7,6 +7,7 @@ use crate::named_file::{bytes_of, push_place, start_of};
 use crate::one_line::joined;
 use crate::source_faults::push_headline;
 use crate::timeline_table::push_timeline;
+use crate::unexplored::{Unexplored, unexplored_words};
 use crate::wait_lines::push_waits;
 use model_claims::{Rule, Verdict};
 use model_runs::{ClaimResult, NamedAnswer, Search, Warning};
@@ -66,6 +67,7 @@ fn warning_words(warning: Warning) -> &'static str {
         }
         Warning::Unmet(_) => "` is wanted, and no schedule comes to it\n",
         Warning::Unstarted(_) => "`: no schedule starts a fiber of this name\n",
+        Warning::Unset(_) => "`: no schedule sets a ref of this name\n",
     }
 }
 
@@ -84,11 +86,23 @@ fn push_claim(
     push_word(told, "\n     at ")?;
     push_place(told, judged.file, start_of(judged.source, claim.form))?;
     told.push(b'\n')?;
-    match judged.result.search_of(claim) {
-        Some(search) => push_why(told, alloc, judged, claim, search),
-        None => Ok(()),
+    match (judged.unexplored, judged.result.search_of(claim)) {
+        (Some(why), _) => push_unexplored(told, why),
+        (None, Some(search)) => push_why(told, alloc, judged, claim, search),
+        (None, None) => Ok(()),
     }
 }
+
+/// Adds that a claim is undecided, and why its model has no result of a search. `AllocError` if memory runs out.
+pub(crate) fn push_unexplored(told: &mut Vec<u8>, why: Unexplored) -> Result<(), AllocError> {
+    push_word(told, UNDECIDED)?;
+    push_word(told, unexplored_words(why))?;
+    told.push(b'\n')?;
+    Ok(())
+}
+
+// The words before the reason for which a claim is undecided.
+const UNDECIDED: &str = "     undecided: ";
 
 // Adds why a claim didn't pass, a timeline, and what fibers wait for.
 fn push_why(
@@ -152,7 +166,7 @@ fn answer_of<'a>(claim: &ClaimResult, search: &'a Search) -> Option<&'a NamedAns
 
 // Adds that a claim is undecided, and why.
 fn push_undecided(told: &mut Vec<u8>, rule: Rule, search: &Search) -> Result<(), AllocError> {
-    push_word(told, "     undecided: ")?;
+    push_word(told, UNDECIDED)?;
     if search.complete {
         return push_word(told, "an exploration doesn't decide it\n");
     }

@@ -38,16 +38,6 @@ pub(crate) fn width_of<I: Integer>(number: I) -> usize {
     digits.format(number).len()
 }
 
-/// Adds a number at the right of a column of this width. `AllocError` if memory runs out.
-pub(crate) fn push_right(
-    told: &mut Vec<u8>,
-    width: usize,
-    number: usize,
-) -> Result<(), AllocError> {
-    push_times(told, b' ', width.saturating_sub(width_of(number)))?;
-    push_number(told, number)
-}
-
 /// Adds a number of things: `1 claim`, `2 claims`. `AllocError` if memory runs out.
 pub(crate) fn push_count(told: &mut Vec<u8>, count: usize, what: &str) -> Result<(), AllocError> {
     push_number(told, count)?;

@@ -19,7 +19,7 @@ pub(crate) fn push_event(
     event: &Event,
 ) -> Result<(), AllocError> {
     if let Some(mark) = event.mark {
-        return push_mark(told, mark);
+        return push_mark(told, replay, event, mark);
     }
     match event.deed {
         Deed::Called(call, reply) => push_call(told, source, replay, call, reply),
@@ -29,9 +29,14 @@ pub(crate) fn push_event(
 }
 
 // Adds a mark, as a report spells it. The `say` of a probe has words of its own.
-fn push_mark(told: &mut Vec<u8>, mark: Mark) -> Result<(), AllocError> {
+fn push_mark(
+    told: &mut Vec<u8>,
+    replay: &Named,
+    event: &Event,
+    mark: Mark,
+) -> Result<(), AllocError> {
     match mark {
-        Mark::Say(value) => push_say(told, value.get()),
+        Mark::Say(value) => push_say(told, value.get(), replay.is_added(event)),
         Mark::Enter(mask) => push_about(told, "enter ", mask),
         Mark::Leave(mask) => push_about(told, "leave ", mask),
         Mark::PollIn(mask) => push_about(told, "in ", mask),
@@ -44,9 +49,9 @@ fn push_mark(told: &mut Vec<u8>, mark: Mark) -> Result<(), AllocError> {
     }
 }
 
-// Adds a `say`. The value `LATE`, which a probe says of a broken order, is no value of the file.
-fn push_say(told: &mut Vec<u8>, value: i64) -> Result<(), AllocError> {
-    if value == LATE {
+// Adds a `say`. A probe adds the `say` of `LATE`, that an order is broken.
+fn push_say(told: &mut Vec<u8>, value: i64, is_added: bool) -> Result<(), AllocError> {
+    if is_added && value == LATE {
         push_word(told, "comes first:")
     } else {
         push_about(told, "say ", value)

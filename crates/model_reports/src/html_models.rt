@@ -1,6 +1,6 @@
 //! A model as a part of a page.
 
-use crate::claim_details::{push_reasons, push_warning};
+use crate::claim_details::{push_reasons, push_unexplored, push_warning};
 use crate::digits::{push_count, push_number, push_seconds, push_word};
 use crate::escaped::push_escaped;
 use crate::html_timeline::push_html_timeline;
@@ -161,8 +161,10 @@ fn push_why(
     claim: &ClaimResult,
 ) -> Result<(), AllocError> {
     let mut lines = Vec::new(alloc);
-    if let Some(search) = judged.result.search_of(claim) {
-        push_reasons(&mut lines, alloc, judged, claim, search)?;
+    match (judged.unexplored, judged.result.search_of(claim)) {
+        (Some(why), _) => push_unexplored(&mut lines, why)?,
+        (None, Some(search)) => push_reasons(&mut lines, alloc, judged, claim, search)?,
+        (None, None) => {}
     }
     push_word(told, "<div class=\"why\">")?;
     push_lines(told, alloc, lines.as_slice())?;

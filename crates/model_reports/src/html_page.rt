@@ -10,6 +10,11 @@ use model_claims::Verdict;
 use std::alloc::{AllocError, Global};
 use timelines::STYLE;
 
+/// The bytes with which each page begins, up to its generator.
+pub const HTML_HEAD: &str =
+    "<!DOCTYPE html>\n<html lang=\"en\">\n<head>\n<meta charset=\"utf-8\">\n\
+    <meta name=\"generator\" content=\"fiber_cli test\">\n";
+
 /// A page of models, which are added one after another.
 #[derive(Drop)]
 pub struct HtmlPage {
@@ -104,10 +109,10 @@ impl HtmlPage {
 
 // Adds the beginning of a page: its style, that of its pictures, and how many models passed, failed and are undecided.
 fn push_head(told: &mut Vec<u8>, verdicts: &[Verdict]) -> Result<(), AllocError> {
+    push_word(told, HTML_HEAD)?;
     push_word(
         told,
-        "<!DOCTYPE html>\n<html lang=\"en\">\n<head>\n<meta charset=\"utf-8\">\n\
-        <meta name=\"viewport\" content=\"width=device-width, initial-scale=1\">\n<title>",
+        "<meta name=\"viewport\" content=\"width=device-width, initial-scale=1\">\n<title>",
     )?;
     let counts = counts_of(verdicts);
     push_number(told, counts.passed)?;

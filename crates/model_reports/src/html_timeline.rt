@@ -5,8 +5,8 @@ use crate::escaped::push_escaped;
 use crate::event_words::push_event;
 use crate::judged::JudgedModel;
 use crate::names::{fiber_name, push_fiber};
-use crate::rows::{Row, rows_of};
-use crate::timeline_columns::{Columns, push_row_place};
+use crate::rows::{Row, Rows, rows_of};
+use crate::timeline_columns::{Columns, push_entries, push_made, push_row_place};
 use fiber_events::Event;
 use model_claims::FiberName;
 use model_runs::Named;
@@ -23,14 +23,15 @@ pub(crate) fn push_html_timeline(
     replay: &Named,
 ) -> Result<(), AllocError> {
     let rows = rows_of(alloc, replay)?;
-    let fibers = shown_fibers(alloc, judged, replay, rows.as_slice())?;
+    let fibers = shown_fibers(alloc, judged, replay, &rows)?;
     push_word(
         told,
         "<div class=\"scroll\" tabindex=\"0\" role=\"region\" aria-label=\"Timeline\"><table>\n<thead><tr>",
     )?;
     push_headings(told, alloc, judged.source, replay, fibers.as_slice())?;
     push_word(told, "</tr></thead>\n<tbody>\n")?;
-    for row in rows.iter() {
+    push_made_row(told, judged, fibers.as_slice(), &rows)?;
+    for row in rows.rest() {
         push_row(told, alloc, judged, replay, fibers.as_slice(), row)?;
     }
     push_word(told, "</tbody>\n</table></div>\n")?;
@@ -42,7 +43,7 @@ fn shown_fibers(
     alloc: Global,
     judged: JudgedModel,
     replay: &Named,
-    rows: &[Row],
+    rows: &Rows,
 ) -> Result<Vec<u16>, AllocError> {
     let columns = Columns::new(alloc, judged.file, judged.source, replay, rows)?;
     let mut fibers = Vec::new(alloc);
@@ -70,6 +71,33 @@ fn push_headings(
         push_word(told, "<th>")?;
         push_escaped(told, alloc, name.as_slice())?;
         push_word(told, "</th>")?;
+    }
+    Ok(())
+}
+
+// Adds the row for what the first rows make, if they are one row.
+fn push_made_row(
+    told: &mut Vec<u8>,
+    judged: JudgedModel,
+    fibers: &[u16],
+    rows: &Rows,
+) -> Result<(), AllocError> {
+    if let Some(made) = rows.made()
+        && let Some((first, _)) = rows.ends()
+    {
+        push_word(told, "<tr><td>")?;
+        push_entries(told, rows)?;
+        push_word(told, "</td><td>")?;
+        push_row_place(told, judged.file, judged.source, &first)?;
+        push_word(told, "</td>")?;
+        for fiber in fibers {
+            push_word(told, "<td>")?;
+            if *fiber == first.event.fiber {
+                push_made(told, made)?;
+            }
+            push_word(told, "</td>")?;
+        }
+        push_word(told, "</tr>\n")?;
     }
     Ok(())
 }

@@ -5,6 +5,7 @@ use crate::judged::{JudgedModel, name_of};
 use crate::named_file::{bytes_of, position_in_file, start_of};
 use crate::names::{push_fiber_name, push_ref};
 use crate::one_line::joined;
+use crate::unexplored::undecided_words;
 use crate::verdicts::counts_of;
 use effect_term::Outcome;
 use model_claims::{FiberName, SeenFiber, Verdict};
@@ -32,8 +33,8 @@ pub fn json_report(
     Ok(text)
 }
 
-/// Returns a model: its name and its place, its verdict, the numbers of its worlds and its milliseconds, its claims and
-/// its warnings. `AllocError` if memory runs out.
+/// Returns a model: its name and its place, its verdict, the numbers of its worlds and its milliseconds, its claims, its
+/// warnings, and why it is undecided if it is. `AllocError` if memory runs out.
 pub fn model_json(alloc: Global, judged: JudgedModel) -> Result<Value, AllocError> {
     let name = text_value(alloc, name_of(judged.source, judged.model))?;
     let file = text_value(alloc, judged.file.name)?;
@@ -45,9 +46,16 @@ pub fn model_json(alloc: Global, judged: JudgedModel) -> Result<Value, AllocErro
     let milliseconds = judged.milliseconds;
     let claims = claim_values(alloc, judged)?;
     let warnings = warning_values(alloc, judged)?;
-    json!(in alloc; {"claims": claims, "column": column, "file": file, "line": line,
-        "milliseconds": milliseconds, "name": name, "verdict": verdict, "warnings": warnings,
-        "worlds": worlds})
+    match undecided_words(judged) {
+        None => json!(in alloc; {"claims": claims, "column": column, "file": file, "line": line,
+            "milliseconds": milliseconds, "name": name, "verdict": verdict, "warnings": warnings,
+            "worlds": worlds}),
+        Some(why) => {
+            json!(in alloc; {"claims": claims, "column": column, "file": file, "line": line,
+            "milliseconds": milliseconds, "name": name, "undecided": why, "verdict": verdict,
+            "warnings": warnings, "worlds": worlds})
+        }
+    }
 }
 
 // The line and the column of a place of a source; both are 1 if the place isn't in the file.

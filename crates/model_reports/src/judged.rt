@@ -2,6 +2,7 @@
 
 use crate::digits::{push_count, push_number, push_seconds, push_times, push_word, width_of};
 use crate::named_file::{NamedFile, push_place};
+use crate::unexplored::Unexplored;
 use model_claims::Verdict;
 use model_forms::form_bytes;
 use model_runs::ModelResult;
@@ -32,6 +33,8 @@ pub struct JudgedModel<'a> {
     pub result: &'a ModelResult,
     /// The number of milliseconds that the model took.
     pub milliseconds: u64,
+    /// Why the model has no result of a search; none if it has one.
+    pub unexplored: Option<Unexplored>,
 }
 
 /// The name of a model.

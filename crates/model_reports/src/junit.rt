@@ -4,9 +4,14 @@ use crate::claim_details::model_details;
 use crate::digits::{push_about, push_seconds, push_word};
 use crate::escaped::push_escaped;
 use crate::judged::{JudgedModel, name_of};
+use crate::unexplored::undecided_words;
 use crate::verdicts::counts_of;
 use model_claims::Verdict;
 use std::alloc::{AllocError, Global};
+
+/// The bytes with which each document begins, up to the number of its models.
+pub const JUNIT_HEAD: &str =
+    "<?xml version=\"1.0\" encoding=\"UTF-8\"?>\n<testsuite name=\"fiber_cli\" tests=\"";
 
 /// Returns a document of test cases, each made by [`junit_case`]. `verdicts` are those of its models. `AllocError` if
 /// memory runs out.
@@ -17,12 +22,7 @@ pub fn junit_document(
 ) -> Result<Vec<u8>, AllocError> {
     let counts = counts_of(verdicts);
     let mut told = Vec::new(alloc);
-    push_word(&mut told, "<?xml version=\"1.0\" encoding=\"UTF-8\"?>\n")?;
-    push_about(
-        &mut told,
-        "<testsuite name=\"fiber_cli\" tests=\"",
-        verdicts.len(),
-    )?;
+    push_about(&mut told, JUNIT_HEAD, verdicts.len())?;
     push_about(&mut told, "\" failures=\"", counts.failed)?;
     push_about(&mut told, "\" errors=\"0\" skipped=\"", counts.undecided)?;
     push_word(&mut told, "\">\n")?;
@@ -54,18 +54,21 @@ pub fn junit_case(alloc: Global, judged: JudgedModel) -> Result<Vec<u8>, AllocEr
 #[derive(Clone, Copy)]
 struct Element {
     start: &'static str,
+    message: &'static str,
     end: &'static str,
 }
 
 // The tags for a model that failed.
 const FAILURE: Element = Element {
-    start: ">\n    <failure message=\"a claim failed\">",
+    start: ">\n    <failure message=\"",
+    message: "a claim failed",
     end: "</failure>\n  </testcase>\n",
 };
 
-// The tags for a model that is undecided.
+// The tags for a model that is undecided. Their message is why it is.
 const SKIPPED: Element = Element {
-    start: ">\n    <skipped message=\"a bound was met\">",
+    start: ">\n    <skipped message=\"",
+    message: "a bound was met",
     end: "</skipped>\n  </testcase>\n",
 };
 
@@ -78,6 +81,8 @@ fn push_element(
 ) -> Result<(), AllocError> {
     let details = model_details(alloc, judged, false)?;
     push_word(told, element.start)?;
+    push_word(told, undecided_words(judged).unwrap_or(element.message))?;
+    push_word(told, "\">")?;
     push_escaped(told, alloc, details.as_slice())?;
     push_word(told, element.end)
 }

@@ -3,8 +3,8 @@
 use crate::digits::{push_about, push_number};
 use model_forms::{Form, form_bytes};
 use model_terms::{Source, prelude};
-use reasons::{Position, position_at};
-use std::alloc::AllocError;
+use reasons::Position;
+use std::alloc::{AllocError, Global};
 use text_io::push_shown;
 
 /// A model file, and the name under which it was opened.
@@ -14,6 +14,39 @@ pub struct NamedFile<'a> {
     pub name: &'a [u8],
     /// The bytes of the file, without the definitions that every file has.
     pub bytes: &'a [u8],
+    /// Where its lines begin, as [`line_starts`] gives it.
+    pub lines: &'a [usize],
+}
+
+/// Returns where the lines of a file begin: the number of bytes before each line but the first. `AllocError` if memory
+/// runs out.
+pub fn line_starts(alloc: Global, bytes: &[u8]) -> Result<Vec<usize>, AllocError> {
+    let mut starts = Vec::new(alloc);
+    for (place, byte) in bytes.iter().enumerate() {
+        if *byte == b'\n' {
+            starts.push(place.saturating_add(1))?;
+        }
+    }
+    Ok(starts)
+}
+
+/// The line and the column of a place of a file, or of the file's end if it has no byte there.
+pub(crate) fn position_of(file: NamedFile, place: usize) -> Position {
+    let place = place.min(file.bytes.len());
+    let before = lines_before(file.lines, place);
+    let start = match before.checked_sub(1) {
+        Some(last) => file.lines.get(last).copied().unwrap_or(0),
+        None => 0,
+    };
+    Position {
+        line: before.saturating_add(1),
+        column: place.saturating_sub(start).saturating_add(1),
+    }
+}
+
+// The number of lines but the first that begin at this place or before it, by where lines begin.
+fn lines_before(lines: &[usize], place: usize) -> usize {
+    lines.partition_point(|start| *start <= place)
 }
 
 /// The number of bytes of the file before a place of a source. Places count from the definitions that every file has;
@@ -25,7 +58,7 @@ pub(crate) fn place_in_file(place: usize) -> Option<usize> {
 /// The line and the column of a place of a source, if it is in the file.
 pub(crate) fn position_in_file(file: NamedFile, place: usize) -> Option<Position> {
     match place_in_file(place) {
-        Some(place) => Some(position_at(file.bytes, place)),
+        Some(place) => Some(position_of(file, place)),
         None => None,
     }
 }

@@ -5,9 +5,10 @@ use cell_registry::Call;
 use effect_term::{JoinReply, Reply};
 use fiber_events::{Deed, Event};
 use fiber_frames::Mark;
+use made_rows::{Made, made_by};
 use model_claims::FiberName;
 use model_runs::Named;
-use model_terms::{BinderName, is_name};
+use model_terms::{BinderName, LATE};
 use std::alloc::{AllocError, Global};
 
 /// A row of a timeline.
@@ -32,17 +33,58 @@ enum Topic {
     Never,
 }
 
-/// Returns the events of a replay with a visible effect, in their order. A wait that continues has one row, its first.
-/// The start and the moves of a watcher, calls on a ref without a name in the file, and the `say` of a name have no
-/// rows. `AllocError` if memory runs out.
-pub(crate) fn rows_of(alloc: Global, replay: &Named) -> Result<Vec<Row>, AllocError> {
+/// The rows of a timeline.
+#[derive(Drop)]
+pub(crate) struct Rows {
+    all: Vec<Row>,
+    made: Made,
+}
+
+impl Rows {
+    /// What the first rows make, if they are shown as one.
+    pub(crate) fn made(&self) -> Option<Made> {
+        if self.made.rows > 0 {
+            Some(self.made)
+        } else {
+            None
+        }
+    }
+
+    /// The rows behind those that are shown as one.
+    pub(crate) fn rest(&self) -> &[Row] {
+        self.all.as_slice().get(self.made.rows..).unwrap_or(&[])
+    }
+
+    /// The first of the rows that are shown as one, and the last.
+    pub(crate) fn ends(&self) -> Option<(Row, Row)> {
+        let first = self.all.first().copied()?;
+        let last = self.all.get(self.made.rows.checked_sub(1)?).copied()?;
+        Some((first, last))
+    }
+}
+
+/// Returns the rows of the timeline of a replay. `AllocError` if memory runs out.
+pub(crate) fn rows_of(alloc: Global, replay: &Named) -> Result<Rows, AllocError> {
+    let all = seen_rows(alloc, replay)?;
+    let mut deeds = Vec::new(alloc);
+    for row in all.iter() {
+        deeds.push(row.event.deed)?;
+    }
+    let made = made_by(deeds.as_slice());
+    Ok(Rows { all, made })
+}
+
+// Returns the events of a replay with a visible effect, in their order. A wait that continues has one row, its first.
+// The start and the moves of a watcher, calls on a ref without a name in the file, and the `say` of a name have no
+// rows. `AllocError` if memory runs out.
+fn seen_rows(alloc: Global, replay: &Named) -> Result<Vec<Row>, AllocError> {
     let mut waits = vec![in alloc; Topic::Nothing; replay.fibers.len()]?;
     let mut rows = Vec::new(alloc);
     for (number, event) in replay.events.as_slice().iter().enumerate() {
         let is_new = is_new(waits.as_mut_slice(), event);
         let is_unseen = is_of_watcher(replay, event)
             || is_of_hidden_ref(replay, event)
-            || is_of_name(event);
+            || is_of_name(replay, event);
         if is_new && !is_unseen {
             let form = form_of(replay, number);
             let row = Row {
@@ -73,9 +115,9 @@ fn is_of_watcher(replay: &Named, event: &Event) -> bool {
 }
 
 // Whether an event is the `say` of a fiber's name, which a probe adds.
-fn is_of_name(event: &Event) -> bool {
+fn is_of_name(replay: &Named, event: &Event) -> bool {
     match event.mark {
-        Some(Mark::Say(value)) => is_name(value.get()),
+        Some(Mark::Say(value)) => value.get() != LATE && replay.is_added(event),
         _ => false,
     }
 }

@@ -1,9 +1,8 @@
 //! Faults of a file as they are printed.
 
 use crate::digits::{push_about, push_number, push_times, push_word, width_of};
-use crate::named_file::{NamedFile, place_in_file, push_place};
+use crate::named_file::{NamedFile, place_in_file, position_of, push_place};
 use model_terms::SourceFault;
-use reasons::position_at;
 use std::alloc::{AllocError, Global};
 use text_io::push_shown;
 
@@ -66,7 +65,7 @@ fn push_excerpt(
     place: usize,
     length: usize,
 ) -> Result<usize, AllocError> {
-    let position = position_at(file.bytes, place);
+    let position = position_of(file, place);
     let margin = width_of(position.line);
     let before = shown_before(alloc, line_before(file.bytes, place))?;
     let behind = line_behind(file.bytes, place);

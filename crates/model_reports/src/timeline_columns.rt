@@ -1,10 +1,11 @@
 //! The widths of the columns of a timeline.
 
-use crate::digits::width_of;
+use crate::digits::{push_about, push_number, push_word, width_of};
 use crate::event_words::push_event;
 use crate::named_file::{NamedFile, position_in_file, push_position, start_of};
 use crate::names::{fiber_name, push_fiber};
-use crate::rows::Row;
+use crate::rows::{Row, Rows};
+use made_rows::Made;
 use model_claims::FiberName;
 use model_runs::Named;
 use model_terms::Source;
@@ -28,6 +29,8 @@ pub(crate) struct Columns {
     pub(crate) place: usize,
     /// The width of the column of each fiber, with the spaces behind it; 0 for a fiber without a column.
     pub(crate) fibers: Vec<usize>,
+    /// The width of the longest name of a fiber with a column, with the spaces behind it.
+    pub(crate) names: usize,
 }
 
 impl Columns {
@@ -37,16 +40,19 @@ impl Columns {
         file: NamedFile,
         source: &Source,
         replay: &Named,
-        rows: &[Row],
+        rows: &Rows,
     ) -> Result<Columns, AllocError> {
-        let entry = entry_width(rows);
+        let entry = entry_width(alloc, rows)?;
         let place = place_width(alloc, file, source, rows)?;
         let mut fibers = name_widths(alloc, source, replay)?;
-        widen_by_rows(alloc, source, replay, rows, fibers.as_mut_slice())?;
+        widen_by_rows(alloc, source, replay, rows.rest(), fibers.as_mut_slice())?;
+        widen_by_made(alloc, rows, fibers.as_mut_slice())?;
+        let names = longest_name(alloc, source, replay, fibers.as_slice())?;
         Ok(Columns {
             entry,
             place,
             fibers,
+            names,
         })
     }
 
@@ -76,12 +82,41 @@ pub(crate) fn push_row_place(
     }
 }
 
+/// Adds the entries of the rows that are one row, as `2-36`. `AllocError` if memory runs out.
+pub(crate) fn push_entries(told: &mut Vec<u8>, rows: &Rows) -> Result<(), AllocError> {
+    match rows.ends() {
+        Some((first, last)) => {
+            push_number(told, first.event.entry)?;
+            push_about(told, "-", last.event.entry)
+        }
+        None => Ok(()),
+    }
+}
+
+/// Adds what the rows make that are one row: `makes 18 refs and deferreds`. `AllocError` if memory runs out.
+pub(crate) fn push_made(told: &mut Vec<u8>, made: Made) -> Result<(), AllocError> {
+    push_about(told, "makes ", made.refs.saturating_add(made.deferreds))?;
+    push_word(told, made_words(made))
+}
+
+// The words for what is made.
+fn made_words(made: Made) -> &'static str {
+    match (made.refs, made.deferreds) {
+        (_, 0) => " refs",
+        (0, _) => " deferreds",
+        _ => " refs and deferreds",
+    }
+}
+
 // The width of the column of the entries.
-fn entry_width(rows: &[Row]) -> usize {
-    match rows.last() {
+fn entry_width(alloc: Global, rows: &Rows) -> Result<usize, AllocError> {
+    let mut cell = Vec::new(alloc);
+    push_entries(&mut cell, rows)?;
+    let widest = match rows.rest().last() {
         Some(row) => HEADING.max(width_of(row.event.entry)),
         None => HEADING,
-    }
+    };
+    Ok(widest.max(cell.len()))
 }
 
 // The width of the column of the places, with the spaces behind it.
@@ -89,11 +124,15 @@ fn place_width(
     alloc: Global,
     file: NamedFile,
     source: &Source,
-    rows: &[Row],
+    rows: &Rows,
 ) -> Result<usize, AllocError> {
     let mut widest = HEADING;
     let mut cell = Vec::new(alloc);
-    for row in rows {
+    if let Some((first, _)) = rows.ends() {
+        push_row_place(&mut cell, file, source, &first)?;
+        widest = widest.max(cell.len());
+    }
+    for row in rows.rest() {
         cell.clear();
         push_row_place(&mut cell, file, source, row)?;
         widest = widest.max(cell.len());
@@ -159,6 +198,33 @@ fn widen_by_rows(
         widen(widths, usize::from(row.event.fiber), own.max(name));
     }
     Ok(())
+}
+
+// Makes the column of main at least as wide as what it makes.
+fn widen_by_made(alloc: Global, rows: &Rows, widths: &mut [usize]) -> Result<(), AllocError> {
+    if let Some(made) = rows.made() {
+        let mut cell = Vec::new(alloc);
+        push_made(&mut cell, made)?;
+        widen(widths, 0, cell.len().saturating_add(GAP));
+    }
+    Ok(())
+}
+
+// The width of the longest name of a fiber with a column, with the spaces behind it.
+fn longest_name(
+    alloc: Global,
+    source: &Source,
+    replay: &Named,
+    widths: &[usize],
+) -> Result<usize, AllocError> {
+    let mut longest = HEADING.saturating_add(GAP);
+    for (fiber, width) in widths.iter().enumerate() {
+        if *width > 0 {
+            let number = u16::try_from(fiber).unwrap_or(u16::MAX);
+            longest = longest.max(full_width(alloc, source, replay, number)?);
+        }
+    }
+    Ok(longest)
 }
 
 // Makes a column at least `wide` bytes wide.

@@ -1,11 +1,12 @@
 //! The timeline of a schedule, in the names and the places of a file.
 
-use crate::digits::{push_right, push_times, push_word};
+use crate::digits::{push_times, push_word};
 use crate::event_words::push_event;
 use crate::named_file::NamedFile;
 use crate::names::push_fiber;
-use crate::rows::{Row, rows_of};
-use crate::timeline_columns::{Columns, push_row_place};
+use crate::rows::{Row, Rows, rows_of};
+use crate::timeline_columns::{Columns, push_entries, push_made, push_row_place};
+use itoa::Buffer;
 use model_runs::Named;
 use model_terms::Source;
 use std::alloc::{AllocError, Global};
@@ -14,8 +15,9 @@ use std::alloc::{AllocError, Global};
 const MARGIN: usize = 5;
 
 /// Adds the timeline of a replay: a row for each entry with a visible effect, with its number, its place in the file
-/// and, in the column of its fiber, what the entry did. If a line would have more than 120 bytes, each fiber has a
-/// table of its own, one below the other. `AllocError` if memory runs out.
+/// and, in the column of its fiber, what the entry did. If a line would have more than 120 bytes, one column has the
+/// names of the fibers instead, and what they did is behind it. The first rows, which make refs and deferreds, are one
+/// row if there are more than four. `AllocError` if memory runs out.
 pub(crate) fn push_timeline(
     told: &mut Vec<u8>,
     alloc: Global,
@@ -24,18 +26,20 @@ pub(crate) fn push_timeline(
     replay: &Named,
 ) -> Result<(), AllocError> {
     let rows = rows_of(alloc, replay)?;
-    let columns = Columns::new(alloc, file, source, replay, rows.as_slice())?;
+    let columns = Columns::new(alloc, file, source, replay, &rows)?;
     let table = Table {
         file,
         source,
         replay,
         columns: &columns,
+        aside: columns.fit(MARGIN),
     };
-    if columns.fit(MARGIN) {
-        push_table(told, table, rows.as_slice())
-    } else {
-        push_blocks(told, table, rows.as_slice())
+    push_heading(told, table)?;
+    push_made_row(told, alloc, table, &rows)?;
+    for row in rows.rest() {
+        push_row(told, table, row)?;
     }
+    Ok(())
 }
 
 // The parts of a table.
@@ -45,27 +49,62 @@ struct Table<'a> {
     source: &'a Source,
     replay: &'a Named,
     columns: &'a Columns,
+    // Whether each fiber has a column of its own.
+    aside: bool,
 }
 
-// Adds a table with all fibers side by side.
-fn push_table(told: &mut Vec<u8>, table: Table, rows: &[Row]) -> Result<(), AllocError> {
-    push_heading(told, table)?;
-    push_names(told, table)?;
-    for row in rows {
-        push_front(told, table, row)?;
-        push_times(told, b' ', start(table.columns.fibers.as_slice(), row))?;
-        push_event(told, table.source, table.replay, &row.event)?;
+// Adds the row for what the first rows make, if they are one row.
+fn push_made_row(
+    told: &mut Vec<u8>,
+    alloc: Global,
+    table: Table,
+    rows: &Rows,
+) -> Result<(), AllocError> {
+    if let Some(made) = rows.made()
+        && let Some((first, _)) = rows.ends()
+    {
+        let mut entries = Vec::new(alloc);
+        push_entries(&mut entries, rows)?;
+        push_front(told, table, entries.as_slice(), &first)?;
+        push_fiber_of(told, table, &first)?;
+        push_made(told, made)?;
         told.push(b'\n')?;
     }
     Ok(())
 }
 
-// Adds the headings of the entries and the places.
+// Adds a row: the number of the entry, its place in the file, and what its fiber did.
+fn push_row(told: &mut Vec<u8>, table: Table, row: &Row) -> Result<(), AllocError> {
+    let mut digits = Buffer::new();
+    push_front(told, table, digits.format(row.event.entry).as_bytes(), row)?;
+    push_fiber_of(told, table, row)?;
+    push_event(told, table.source, table.replay, &row.event)?;
+    told.push(b'\n')?;
+    Ok(())
+}
+
+// Adds spaces up to the column of a row's fiber, or the fiber's name and the spaces behind it.
+fn push_fiber_of(told: &mut Vec<u8>, table: Table, row: &Row) -> Result<(), AllocError> {
+    if table.aside {
+        return push_times(told, b' ', start(table.columns.fibers.as_slice(), row));
+    }
+    let before = told.len();
+    push_fiber(told, table.source, table.replay, row.event.fiber)?;
+    let wide = told.len().saturating_sub(before);
+    push_times(told, b' ', table.columns.names.saturating_sub(wide))
+}
+
+// Adds the headings of the columns.
 fn push_heading(told: &mut Vec<u8>, table: Table) -> Result<(), AllocError> {
     push_times(told, b' ', MARGIN)?;
     push_times(told, b' ', table.columns.entry.saturating_sub(5))?;
     push_word(told, "entry  place")?;
-    push_times(told, b' ', table.columns.place.saturating_sub(5))
+    push_times(told, b' ', table.columns.place.saturating_sub(5))?;
+    if table.aside {
+        push_names(told, table)
+    } else {
+        push_word(told, "fiber\n")
+    }
 }
 
 // Adds the names of the fibers, each at the start of its column.
@@ -89,10 +128,17 @@ fn push_numbered(told: &mut Vec<u8>, table: Table, fiber: usize) -> Result<(), A
     push_fiber(told, table.source, table.replay, number)
 }
 
-// Adds the number and the place of a row.
-fn push_front(told: &mut Vec<u8>, table: Table, row: &Row) -> Result<(), AllocError> {
+// Adds the entries and the place of a row.
+fn push_front(
+    told: &mut Vec<u8>,
+    table: Table,
+    entries: &[u8],
+    row: &Row,
+) -> Result<(), AllocError> {
     push_times(told, b' ', MARGIN)?;
-    push_right(told, table.columns.entry, row.event.entry)?;
+    let before = table.columns.entry.saturating_sub(entries.len());
+    push_times(told, b' ', before)?;
+    told.extend_from_slice(entries)?;
     push_word(told, "  ")?;
     let before = told.len();
     push_row_place(told, table.file, table.source, row)?;
@@ -107,43 +153,4 @@ fn start(widths: &[usize], row: &Row) -> usize {
         start = start.saturating_add(*width);
     }
     start
-}
-
-// Adds the fibers one below the other, each with a table of its own.
-fn push_blocks(told: &mut Vec<u8>, table: Table, rows: &[Row]) -> Result<(), AllocError> {
-    for (fiber, width) in table.columns.fibers.iter().enumerate() {
-        if *width > 0 {
-            push_gap(told, fiber)?;
-            push_heading(told, table)?;
-            push_numbered(told, table, fiber)?;
-            told.push(b'\n')?;
-            push_own_rows(told, table, rows, fiber)?;
-        }
-    }
-    Ok(())
-}
-
-// Adds a blank line before each table but that of fiber 0.
-fn push_gap(told: &mut Vec<u8>, fiber: usize) -> Result<(), AllocError> {
-    if fiber > 0 {
-        told.push(b'\n')?;
-    }
-    Ok(())
-}
-
-// Adds the rows of one fiber.
-fn push_own_rows(
-    told: &mut Vec<u8>,
-    table: Table,
-    rows: &[Row],
-    fiber: usize,
-) -> Result<(), AllocError> {
-    for row in rows {
-        if usize::from(row.event.fiber) == fiber {
-            push_front(told, table, row)?;
-            push_event(told, table.source, table.replay, &row.event)?;
-            told.push(b'\n')?;
-        }
-    }
-    Ok(())
 }

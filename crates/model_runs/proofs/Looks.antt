@@ -1,6 +1,6 @@
 -- The verdicts of claims at any moment.
 use Rattle.std.proofs.Common.{◌≡◌, ℕ, zero, suc, ◌+◌, ◌<◌, Bool, true, false, List, [], ◌∷◌, ◌++◌, length, drop, take, map, refl, sym, ap, ◌∙◌, subst, arith}
-use Rattle.std.proofs.{Common.{inl, inr, get_or}, lemmas.List.{at_drop_more, drop-drop, drop_at, map_more, map_push, Elements.All-get_or}}
+use Rattle.std.proofs.{Common.{inl, inr, get_or}, lemmas.List.{at_drop_more, drop-drop, drop_at, map_more, Elements.{All-append, All-get_or}}}
 use Rattle.std.{proofs.lemmas.Option.{get_or_from_slice_get, same_Some, slice_get_within}, specs.{Prelude.{Option, Some, None, IfSome, IfNone}, List.All}}
 use Rattle.std.specs.{List.{AllWithin, slice_get}, Option.is_some}
 use Rattle.derived_ops.specs.Tree.{Tree}
@@ -9,11 +9,11 @@ use Rattle.world_search.specs.{declared.claims.Met.Met, Claims.IsFound}
 use Rattle.every_schedule.specs.{declared.claims.ClaimWord.ClaimWord, Claims.{IsMetIn, Meets}}
 use Rattle.model_claims.specs.declared.claim.Claim.{Claim}
 use Rattle.claim_verdicts.specs.declared.judging.Rule.{Rule}
-use Rattle.model_runs.specs.{declared.{moments.Moments.Moments, result.NamedAnswer.NamedAnswer}, Moments.{IsJudgedAt, IsShownAt, NoneMeets, SomeMeets}}
+use Rattle.model_runs.specs.{declared.{moments.Moments.Moments, result.NamedAnswer.NamedAnswer}, Moments.{AreMet, IsJudgedAt, IsShownAt, NoneMeets, SomeMeets}}
 use Rattle.model_runs.specs.{Moments.{sought_in, soughts}, Private.Looking.{IsMetAt, IsRightAt, IsRightOf, IsRightAtSome, moment_verdict}}
 use Rattle.claim_verdicts.specs.declared.judging.Rule.TheVariants as rules
 
-all_at : {A : Type 0} (P : A → Type 0) (xs : List A) (i : ℕ) (x : A) → slice_get xs i ≡ Some x → All P xs → P x
+pub all_at : {A : Type 0} (P : A → Type 0) (xs : List A) (i : ℕ) (x : A) → slice_get xs i ≡ Some x → All P xs → P x
 all_at P xs i x e h = subst P (get_or_from_slice_get xs i x x e) (All-get_or P xs i x (slice_get_within xs i x e) h)
 
 -- if no element is the claim of this number, the claim isn't found
@@ -94,13 +94,20 @@ shown_by code k wanted words it n right there true (Some i) (Some j) some same =
           (meets_at code k wanted words it.met.items n i right.met.each there is),
     )
 
--- two lists with equal images, after one more element of each
-pub one_more_alike : {A B S : Type 0} (f : A → S) (g : B → S) (xs ys : List A) (bs : List B) (i : ℕ) (a : A) (b : B) →
-    i < length bs → b ≡ get_or bs i b → map f xs ≡ map g (take i bs) → ys ≡ xs ++ a ∷ [] → f a ≡ g b →
+-- two lists with equal images, after one more image of each
+pub one_more_alike : {A B S : Type 0} (f : A → S) (g : B → S) (xs ys : List A) (bs : List B) (i : ℕ) (b : B) →
+    i < length bs → b ≡ get_or bs i b → map f xs ≡ map g (take i bs) → map f ys ≡ map f xs ++ g b ∷ [] →
     map f ys ≡ map g (take (i + 1) bs)
-one_more_alike f g xs ys bs i a b low at before more same =
-    ap (map f) more ∙ map_push f xs a ∙ ap (λ l. l ++ f a ∷ []) before ∙ ap (λ s. map g (take i bs) ++ s ∷ []) (same ∙ ap g at)
-    ∙ sym (map_more g bs i b low)
+one_more_alike f g xs ys bs i b low at before more =
+    more ∙ ap (λ l. l ++ g b ∷ []) before ∙ ap (λ s. map g (take i bs) ++ s ∷ []) (ap g at) ∙ sym (map_more g bs i b low)
+
+-- what a search that isn't complete has found, with other conditions that are met
+pub more_met : (code : Tree) (k : Limits) (wanted : List (List ClaimWord)) (xs ys : List Met) → All (IsMetIn code k wanted) xs →
+    All (IsMetIn code k wanted) ys → AreMet code k wanted false (xs ++ ys)
+more_met code k wanted xs ys one other = record {
+  each = All-append (IsMetIn code k wanted) xs ys one other;
+  none = λ complete. absurd (cc);
+}
 
 -- ---- the numbers of claims
 get_drop : {A : Type 0} (xs : List A) (n : ℕ) → slice_get (drop n xs) 0 ≡ slice_get xs n

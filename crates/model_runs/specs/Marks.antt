@@ -10,8 +10,8 @@ use Rattle.model_runs.specs.declared.result.Search.{Search}
 
 abbrev pub has_no_probe : Probe → Bool
 has_no_probe probes.Nothing = true
-has_no_probe (probes.Watch name) = false
-has_no_probe (probes.Order a b) = false
+has_no_probe (probes.Watch name names) = false
+has_no_probe (probes.Order a b names) = false
 has_no_probe probes.Names = false
 
 -- whether a word of a condition isn't about what fibers said
@@ -25,7 +25,7 @@ is_of_outcomes (words.Ended who) = true
 is_of_outcomes (words.Ends who from to) = true
 is_of_outcomes (words.Said who from to) = false
 is_of_outcomes (words.Says who from to) = false
-is_of_outcomes (words.Late value) = false
+is_of_outcomes words.Late = false
 is_of_outcomes (words.Compares r comparison number) = true
 
 -- whether a claim is judged by the outcomes of fibers alone: its term has no probe, and no word of its condition is

@@ -19,7 +19,7 @@ use crate::plan::Plan;
 use crate::prepared::prepare;
 use crate::result::{ClaimResult, NamedAnswer, Search};
 use crate::waits::{Waits, waits_behind};
-use model_claims::{Claim, Judged, MomentWord, Truth, judge, truth_in};
+use model_claims::{Claim, Judged, MomentWord, Truth, Verdict, judge, truth_in};
 use model_terms::{Probe, Refused, Source};
 use model_text::Model;
 use std::alloc::{AllocError, Global};
@@ -38,6 +38,18 @@ fn truths_of(
         truths.push(truth_in(alloc, source, claim, &answer.seen)?)?;
     }
     Ok(truths)
+}
+
+/// Returns the verdict of a claim by these answers, if there can be others.
+pub(crate) fn verdict_of(
+    alloc: Global,
+    source: &Source,
+    claim: &Claim,
+    answers: &[NamedAnswer],
+) -> Result<Verdict, AllocError> {
+    let truths = truths_of(alloc, source, claim, answers)?;
+    let judged = judge(truths.as_slice(), claim.rule, claim.fails, false);
+    Ok(judged.verdict)
 }
 
 /// Judges a claim by the answers of its search.

@@ -16,6 +16,8 @@
 //! moment passes only by a schedule that meets it, and fails only if no schedule does.
 #![tactic(auto)]
 
+mod drawings;
+mod goals;
 mod held;
 mod judging;
 mod looking;
@@ -31,6 +33,8 @@ mod result;
 mod run;
 mod searching;
 mod seeing;
+mod stages;
+mod unset;
 mod verdicts;
 mod waits;
 mod warnings;

@@ -12,12 +12,13 @@ use code_sources::StartRole;
 use model_claims::{Claim, Who, Word};
 use model_terms::Probe;
 
-/// Whether a search whose claims aren't about marks leaves the marks out: the term has a loop without end, else a
-/// search with marks is several times as fast; and no schedule within the bound on entries can use up a count.
+/// Whether a search whose claims aren't about marks leaves the marks out: the term has a loop without end whose turns
+/// add marks, else a search with marks is several times as fast; and no schedule within the bound on entries can use up
+/// a count.
 pub(crate) fn may_leave_marks(prepared: &Prepared, plan: Plan) -> bool
     ensures { result ≡ true → plan.entries ≤ plan.limits.count }
 {
-    prepared.endless && u64::from(plan.entries) <= plan.limits.count
+    prepared.endless_marks && u64::from(plan.entries) <= plan.limits.count
 }
 
 /// Whether the search with this probe keeps marks: it can't leave them out; a claim with the probe isn't judged by
@@ -92,8 +93,8 @@ fn has_no_probe(probe: &Probe) -> bool
 {
     match probe {
         Probe::Nothing => true,
-        Probe::Watch(_) => false,
-        Probe::Order(_, _) => false,
+        Probe::Watch(_, _) => false,
+        Probe::Order(_, _, _) => false,
         Probe::Names => false,
     }
 }
@@ -117,7 +118,7 @@ fn is_of_outcomes(word: Word) -> bool
     match word {
         Word::Said(_, _, _) => false,
         Word::Says(_, _, _) => false,
-        Word::Late(_) => false,
+        Word::Late => false,
         Word::Yes => true,
         Word::No => true,
         Word::And => true,

@@ -76,7 +76,9 @@ fn look<V: Watcher>(
     if wanted.is_empty() {
         return Ok(nothing_found(alloc));
     }
-    let found = search_by_plan(alloc, prepared, plan, wanted.as_slice(), watcher)?;
+    let is_hopeful = are_hopeful(claims);
+    let conditions = wanted.as_slice();
+    let found = search_by_plan(alloc, prepared, plan, conditions, is_hopeful, watcher)?;
     let answers = answers_of(
         alloc,
         prepared,
@@ -86,6 +88,16 @@ fn look<V: Watcher>(
     )?;
     let marked = !may_leave_marks(prepared, plan);
     Ok(found_moments(found, marked, answers))
+}
+
+// Whether a moment is expected to decide each claim at any moment: it is about some moment, or has to be refuted.
+fn are_hopeful(claims: &[Claim]) -> bool {
+    for claim in claims {
+        if claim.moment.is_some() && (claim.rule == Rule::Some) == claim.fails {
+            return false;
+        }
+    }
+    true
 }
 
 // The result without a search.

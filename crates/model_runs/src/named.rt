@@ -26,6 +26,8 @@ pub struct Named {
     /// For each event, in the same order, the number of the form of the file that its move comes from. `None` if the
     /// move comes from no word, as a look.
     pub forms: Vec<Option<usize>>,
+    /// The entries, as events count them, whose moves are `say`s that a probe added to the term.
+    pub added: Vec<usize>,
     /// The name of each fiber, in the order of their numbers.
     pub fibers: Vec<FiberName>,
     /// The name of each ref, in the order of their numbers.
@@ -38,11 +40,20 @@ pub struct Named {
     pub end: Result<Report, RunError>,
 }
 
+impl Named {
+    /// Whether an event of the replay is a `say` that a probe added to the term.
+    pub fn is_added(&self, event: &Event) -> bool {
+        self.added.as_slice().contains(&event.entry)
+    }
+}
+
 /// The names of the fibers, refs and deferreds of a replay, and the forms of its moves.
 #[derive(Drop)]
 pub(crate) struct Names {
     /// For each event, the form that its move comes from.
     pub forms: Vec<Option<usize>>,
+    /// The entries whose moves are `say`s that a probe added.
+    pub added: Vec<usize>,
     /// The names of the fibers.
     pub fibers: Vec<FiberName>,
     /// The names of the refs.
@@ -73,6 +84,7 @@ pub(crate) fn replay_named(
     )?;
     let Names {
         forms,
+        added,
         fibers,
         refs,
         deferreds,
@@ -80,6 +92,7 @@ pub(crate) fn replay_named(
     Ok(Named {
         events: told.events,
         forms,
+        added,
         fibers,
         refs,
         deferreds,
@@ -99,13 +112,16 @@ fn names_of(
 {
     let mut names = Names {
         forms: Vec::new(alloc),
+        added: Vec::new(alloc),
         fibers: Vec::new(alloc),
         refs: Vec::new(alloc),
         deferreds: Vec::new(alloc),
     };
     names.fibers.push(FiberName::Main)?;
     for event in events {
-        note(&mut names, *event, origin_of(origins, places, event.entry))?;
+        let origin = origin_of(origins, places, event.entry);
+        note_added(&mut names.added, event, origin)?;
+        note(&mut names, *event, origin)?;
     }
     Ok(names)
 }
@@ -139,6 +155,27 @@ fn form_of(event: Event, origin: Option<Origin>) -> Option<usize> {
         origin?.form
     } else {
         None
+    }
+}
+
+// Adds the entry of an event that is a `say` whose word, of this origin, a probe added.
+fn note_added(
+    added: &mut Vec<usize>,
+    event: &Event,
+    origin: Option<Origin>,
+) -> Result<(), AllocError> {
+    if is_added_say(event, origin) {
+        let entry = event.entry;
+        added.push(entry)?;
+    }
+    Ok(())
+}
+
+// Whether an event is a `say` whose word, of this origin, a probe added.
+fn is_added_say(event: &Event, origin: Option<Origin>) -> bool {
+    match event.mark {
+        Some(Mark::Say(_)) => origin.is_some_and(|it| it.is_added),
+        _ => false,
     }
 }
 

@@ -14,6 +14,8 @@ pub(crate) struct Origin {
     pub name: BinderName,
     /// The role of the fiber that the word starts, if it starts one.
     pub role: StartRole,
+    /// Whether the word is a `say` that a probe added.
+    pub is_added: bool,
 }
 
 impl Origin {
@@ -46,10 +48,12 @@ pub(crate) fn origins_of(
 ) -> Result<Vec<Origin>, AllocError> {
     let mut origins = Vec::with_capacity(alloc, sources.len())?;
     for source in sources {
+        let found = place_at(term.places.as_slice(), source.place);
         origins.push(Origin {
-            form: form_at(term.places.as_slice(), source.place),
+            form: found.map(|it| it.form),
             name: name_behind(term, source.place),
             role: source.role,
+            is_added: found.is_some_and(|it| it.is_added),
         })?;
     }
     Ok(origins)
@@ -58,15 +62,15 @@ pub(crate) fn origins_of(
 // At least the number of halvings of a binary search among any number of places.
 const HALVINGS: u32 = 64;
 
-// The form of the file for which the form of the term at this place was made.
-fn form_at(places: &[WordPlace], place: usize) -> Option<usize> {
+// What is known of the form of the term at this place.
+fn place_at(places: &[WordPlace], place: usize) -> Option<WordPlace> {
     let mut low = 0usize;
     let mut high = places.len();
     for _ in 0..HALVINGS {
         let middle = low.saturating_add(high) / 2;
         let found = places.get(middle)?;
         if found.term == place {
-            return Some(found.form);
+            return Some(*found);
         }
         if found.term < place {
             low = middle.saturating_add(1);

@@ -1,6 +1,6 @@
 //! The searches of a model's term for the outcomes of its fibers, in worlds without marks.
 
-ghost use Rattle.std.specs.Prelude.{◌≡◌, ◌≤◌, true, false, IfOk, ℕ, List};
+ghost use Rattle.std.specs.Prelude.{◌≡◌, ◌≤◌, ◌++◌, [], ◌∷◌, map, true, false, IfOk, OnOk, ℕ, List};
 ghost use Rattle.std.specs.List.{All};
 ghost use Rattle.std.specs.List.Sorted.{IsPermutation};
 ghost use Rattle.derived_ops.specs.Expansion.{code_of};
@@ -13,41 +13,13 @@ ghost use Rattle.model_runs.specs.Seeing.{AreOutcomesOf, IsRight, IsSeen};
 use crate::plan::Plan;
 use crate::prepared::Prepared;
 use crate::result::{NamedAnswer, Search};
-use crate::searching::{FIRST, Known, TIMES_MORE, drawn_by_plan, named_end, with_drawn};
+use crate::searching::{Ends, Explored, NamedAnswers, is_named, named_end};
 use cell_registry::RunError;
-use effect_term::Program;
+use effect_term::{Outcome, Program};
 use every_outcome::{
     Bounds, OutcomeAnswer, OutcomeExploration, Outcomes, Watcher, explore_outcomes, shortened,
 };
 use std::alloc::{AllocError, Global};
-
-// Explores the outcomes of a program within the plan: with 10,000 worlds at first, and then with ten times as many, up
-// to those of the plan.
-fn explore_by_plan<V: Watcher>(
-    alloc: Global,
-    program: &Program,
-    plan: Plan,
-    watcher: &mut V,
-) -> Result<OutcomeExploration, RunError>
-    requires limits { AreLimits plan.limits }
-    ensures all { IfOk result (λ it. it.complete ≡ true → (count : ℕ) (schedule : List ℕ) →
-        IsCovered plan.limits it.answers.items
-        (core (code_of (source_of program.now)) (counted plan.limits count) schedule)) }
-    ensures each { IfOk result (λ it. All (IsReached (code_of (source_of program.now)) plan.limits) it.answers.items) }
-{
-    let mut worlds = FIRST;
-    for _ in 0..TIMES_MORE {
-        if worlds >= plan.worlds {
-            break;
-        }
-        let found = explore_with(alloc, program, plan, worlds, &mut *watcher)?;
-        if found.complete || found.halted || found.worlds < worlds {
-            return Ok(found);
-        }
-        worlds = worlds.saturating_mul(10);
-    }
-    explore_with(alloc, program, plan, plan.worlds, watcher)
-}
 
 // Explores the outcomes of a program with at most this number of worlds.
 fn explore_with<V: Watcher>(
@@ -71,29 +43,27 @@ fn explore_with<V: Watcher>(
     explore_outcomes(alloc, program, plan.limits, bounds, watcher)
 }
 
-/// Searches the outcomes of a term within the plan, until the watcher ends the search. If not every schedule was
-/// explored, some are drawn at random.
+/// Searches the outcomes of a term in at most this number of worlds, until the watcher ends the search.
 pub(crate) fn search_outcomes<V: Watcher>(
     alloc: Global,
     prepared: &Prepared,
     plan: Plan,
+    worlds: usize,
     watcher: &mut V,
-) -> Result<Search, RunError>
+) -> Result<Explored, RunError>
     requires limits { AreLimits plan.limits }
     requires count { plan.entries ≤ plan.limits.count }
-    ensures { IfOk result (IsRight (code_of (source_of prepared.now.program)) plan.limits) }
+    ensures { IfOk result (λ it. IsRight (code_of (source_of prepared.now.program)) plan.limits it.search) }
 {
-    let explored = explore_by_plan(alloc, &prepared.program, plan, &mut *watcher)?;
+    let explored = explore_with(alloc, &prepared.program, plan, worlds, &mut *watcher)?;
     let found = sorted(shortened(explored, plan.entries as usize))?;
-    let answers = explored_answers(alloc, prepared, plan, found.answers.as_slice())?;
-    if found.complete {
-        return Ok(search_of(&found, 0, answers));
-    }
-    let drawn = drawn_by_plan(alloc, &prepared.program, plan, found.halted, watcher)?;
-    let known = Known::Outcomes(found.answers.as_slice());
-    let comings = drawn.comings.as_slice();
-    let more = with_drawn(alloc, prepared, plan, known, comings, answers)?;
-    Ok(search_of(&found, drawn.schedules, more))
+    let named = explored_answers(alloc, prepared, plan, found.answers.as_slice(), watcher)?;
+    let search = search_of(&found, named);
+    let OutcomeExploration { answers: ends, .. } = found;
+    Ok(Explored {
+        search,
+        ends: Ends::Outcomes(ends),
+    })
 }
 
 // The same exploration, with outcomes before faults, and in each group shorter schedules first.
@@ -135,22 +105,70 @@ fn rank(end: &Result<Outcomes, RunError>) -> u8 {
     }
 }
 
-// The answers of an exploration of outcomes, in the names of the file.
-fn explored_answers(
+// The answers of an exploration of outcomes, in the names of the file. The watcher can end the list; then only the first
+// answer with its outcome of fiber 0 is still added, and each fault.
+fn explored_answers<V: Watcher>(
     alloc: Global,
     prepared: &Prepared,
     plan: Plan,
     found: &[OutcomeAnswer],
-) -> Result<Vec<NamedAnswer>, AllocError>
+    watcher: &mut V,
+) -> Result<NamedAnswers, AllocError>
     requires limits { AreLimits plan.limits }
-    ensures each { IfOk result (λ it. All (IsSeen (code_of (source_of prepared.now.program)) plan.limits) it.items) }
-    ensures all { IfOk result (λ it. AreOutcomesOf found.now it.items) }
+    ensures each { IfOk result (λ it.
+        All (IsSeen (code_of (source_of prepared.now.program)) plan.limits) it.answers.items) }
+    ensures all { IfOk result (λ it. it.whole ≡ true → AreOutcomesOf found.now it.answers.items) }
 {
     let mut answers = Vec::new(alloc);
+    let mut known = Vec::new(alloc);
+    let mut whole = true;
     for answer in found {
-        answers.push(named_answer(alloc, prepared, plan, answer)?)?;
+        whole = add_named(
+            alloc,
+            prepared,
+            plan,
+            whole,
+            answer,
+            &mut known,
+            &mut answers,
+            &mut *watcher,
+        )?;
     }
-    Ok(answers)
+    Ok(NamedAnswers { answers, whole })
+}
+
+// Adds an answer in the names of the file, if it is named. Returns `whole` then, else `false`.
+fn add_named<V: Watcher>(
+    alloc: Global,
+    prepared: &Prepared,
+    plan: Plan,
+    whole: bool,
+    answer: &OutcomeAnswer,
+    known: &mut Vec<Option<Outcome>>,
+    answers: &mut Vec<NamedAnswer>,
+    watcher: &mut V,
+) -> Result<bool, AllocError>
+    requires limits { AreLimits plan.limits }
+    requires each { All (IsSeen (code_of (source_of prepared.now.program)) plan.limits) answers.old.items }
+    ensures each { OnOk result (All (IsSeen (code_of (source_of prepared.now.program)) plan.limits) answers.new.items) }
+    ensures whole { IfOk result (λ it. it ≡ true → whole ≡ true) }
+    ensures more { IfOk result (λ it. it ≡ true →
+        map (λ a. a.schedule) answers.new.items ≡ map (λ a. a.schedule) answers.old.items ++ answer.now.schedule ∷ []) }
+{
+    if !is_named(first_outcome(answer), known, watcher)? {
+        return Ok(false);
+    }
+    let one = named_answer(alloc, prepared, plan, answer)?;
+    answers.push(one)?;
+    Ok(whole)
+}
+
+// The outcome of fiber 0 at the end of an answer; `None` if the answer is a fault.
+fn first_outcome(answer: &OutcomeAnswer) -> Option<Option<Outcome>> {
+    match &answer.end {
+        Ok(outcomes) => outcomes.as_slice().first().copied(),
+        Err(_) => None,
+    }
 }
 
 // An answer in the names of the file.
@@ -169,19 +187,19 @@ fn named_answer(
     named_end(alloc, prepared, plan, entries, held, 0)
 }
 
-// The result of a search: an exploration, the number of schedules that were drawn, and the answers of both.
-fn search_of(found: &OutcomeExploration, sampled: u32, answers: Vec<NamedAnswer>) -> Search
+// The exploration as a search, with these answers. If not all were named, the watcher has ended the search.
+fn search_of(found: &OutcomeExploration, named: NamedAnswers) -> Search
     ensures marked { result.marked ≡ false }
-    ensures complete { result.complete ≡ found.now.complete }
-    ensures halted { result.halted ≡ found.now.halted }
-    ensures answers { result.answers.items ≡ answers.items }
+    ensures complete { result.complete ≡ true → found.now.complete ≡ true }
+    ensures whole { result.complete ≡ true → named.whole ≡ true }
+    ensures answers { result.answers.items ≡ named.answers.items }
 {
     Search {
-        complete: found.complete,
-        halted: found.halted,
+        complete: found.complete && named.whole,
+        halted: found.halted || !named.whole,
         marked: false,
         worlds: found.worlds,
-        sampled,
-        answers,
+        sampled: 0,
+        answers: named.answers,
     }
 }

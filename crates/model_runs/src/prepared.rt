@@ -4,7 +4,7 @@ use crate::origins::{Origin, origins_of};
 use code_sources::code_sources;
 use derived_ops::{expand, program_of};
 use effect_term::{Program, TermError};
-use model_claims::has_forever;
+use model_claims::marks_in_loops;
 use model_forms::form_bytes;
 use model_terms::{ModelTerm, Probe, Refused, Source, SourceFault, translate};
 use model_text::Model;
@@ -18,8 +18,8 @@ pub(crate) struct Prepared {
     pub program: Program,
     /// The origin of each word of its code.
     pub origins: Vec<Origin>,
-    /// Whether the term has a loop without end.
-    pub endless: bool,
+    /// Whether the term has a loop without end whose turns add marks.
+    pub endless_marks: bool,
 }
 
 /// Prepares a model's term with this probe, or returns the fault of the model.
@@ -34,11 +34,11 @@ pub(crate) fn prepare(
     let code = expand(alloc, &program)?;
     let sources = code_sources(alloc, term.text.as_slice(), code.words().len())?;
     let origins = origins_of(alloc, &term, sources.as_slice())?;
-    let endless = has_forever(&term);
+    let endless_marks = marks_in_loops(&term);
     Ok(Prepared {
         program,
         origins,
-        endless,
+        endless_marks,
     })
 }
 

@@ -29,13 +29,15 @@ pub(crate) fn probe_number(probes: &[Probe], wanted: &Probe) -> Option<usize> {
 pub(crate) fn is_same(one: &Probe, other: &Probe) -> bool {
     match one {
         Probe::Nothing => matches!(other, Probe::Nothing),
-        Probe::Watch(name) => match other {
-            Probe::Watch(second) => *name == *second,
-            Probe::Nothing | Probe::Order(_, _) | Probe::Names => false,
+        Probe::Watch(name, names) => match other {
+            Probe::Watch(second, others) => *name == *second && *names == *others,
+            Probe::Nothing | Probe::Order(_, _, _) | Probe::Names => false,
         },
-        Probe::Order(first, second) => match other {
-            Probe::Order(before, after) => is_said(*first, *before) && is_said(*second, *after),
-            Probe::Nothing | Probe::Watch(_) | Probe::Names => false,
+        Probe::Order(first, second, names) => match other {
+            Probe::Order(before, after, others) => {
+                is_said(*first, *before) && is_said(*second, *after) && *names == *others
+            }
+            Probe::Nothing | Probe::Watch(_, _) | Probe::Names => false,
         },
         Probe::Names => matches!(other, Probe::Names),
     }

@@ -6,7 +6,7 @@ use crate::warnings::Warning;
 use cell_registry::RunError;
 use effect_term::Value;
 use every_schedule::Schedule;
-use model_claims::{Rule, Seen, Verdict};
+use model_claims::{FiberName, Rule, Seen, Verdict};
 
 /// A ref and its value at a moment.
 #[derive(Clone, Copy)]
@@ -26,6 +26,10 @@ pub struct NamedAnswer {
     pub held: Vec<HeldRef>,
     /// The fault that ends its schedule, if any.
     pub fault: Option<RunError>,
+    /// The names of the fibers that its schedule starts, fiber 0 first; also of a schedule that ends in a fault.
+    pub started: Vec<FiberName>,
+    /// The number of refs that its schedule makes.
+    pub refs: usize,
     /// A schedule that leads to the answer, for `replay`.
     pub schedule: Schedule,
     /// The number of schedules drawn at random that led to the answer; 0 if the exploration found the answer.
@@ -35,7 +39,7 @@ pub struct NamedAnswer {
 /// The result of a search of a model's term with the probe of a claim.
 #[derive(Drop)]
 pub struct Search {
-    /// Whether every schedule was explored.
+    /// Whether every schedule was explored. A search also ends when its answers decide all its claims.
     pub complete: bool,
     /// Whether the watcher ended the exploration.
     pub halted: bool,
@@ -62,7 +66,7 @@ pub struct ClaimResult {
     /// Its verdict.
     pub verdict: Verdict,
     /// The number of its search in [`ModelResult::searches`]. For a claim at any moment, this search finds whether a
-    /// schedule ends in a fault.
+    /// schedule ends in a fault; it has no worlds if no claim depends on that.
     pub search: usize,
     /// Whether the search for moments, [`ModelResult::moments`], decides the claim.
     pub at_moment: bool,

@@ -10,15 +10,16 @@ ghost use Rattle.model_runs.specs.Seeing.{IsRightOfSome};
 ghost use Rattle.model_runs.specs.Verdicts.{worst};
 ghost use Rattle.cell_registry.specs.Cells.{AreLimits};
 
+use crate::goals::{Goal, has_open_moment};
 use crate::judging::{claim_result, moment_result};
 use crate::marks::needs_marks;
 use crate::moments::{Moments, moments_of};
-use crate::outcomes::search_outcomes;
 use crate::plan::{Plan, SearchBounds, plan_of};
 use crate::prepared::{prepare, program_in};
 use crate::probes::{probe_number, probes_of};
 use crate::result::{ClaimResult, ModelResult, Search};
-use crate::searching::search_reports;
+use crate::stages::search_in_stages;
+use crate::unset::unset_refs;
 use crate::verdicts::worst_verdict;
 use crate::warnings::{Warning, warnings_of};
 use every_schedule::{Unwatched, Watcher};
@@ -29,14 +30,17 @@ use std::alloc::Global;
 
 /// Explores a model's term with the probe of each of its claims, and judges the claims.
 ///
-/// The model's bounds override `bounds`. An exploration keeps 10,000 worlds at first, and then ten times as many, up to
-/// its bound. If the exploration still isn't complete, schedules are drawn at random, and their settled ends count as
-/// answers. Each claim is judged by the search of the term with its probe. If the term has a loop without end, and all
-/// claims of a search are judged by the outcomes of fibers alone, its worlds keep no marks ([`Search::marked`]): a loop
-/// with masks and brackets in it leads back to a known world, and answers are the outcomes that no further entry
+/// The model's bounds override `bounds`. An exploration keeps 10,000 worlds at first, or 1,000 if an answer is expected
+/// to decide each claim, and then ten times as many, up to its bound. Between these stages some schedules are drawn at
+/// random. A search ends when its answers decide all its claims, and no warning depends on other answers. If the
+/// exploration isn't complete at its bound, schedules are drawn at random, and their settled ends count as answers.
+///
+/// Each claim is judged by the search of the term with its probe. If the term has a loop without end whose turns add
+/// marks, and all claims of a search are judged by the outcomes of fibers alone, its worlds keep no marks
+/// ([`Search::marked`]): such a loop leads back to a known world, and answers are the outcomes that no further entry
 /// changes. Claims at any moment on refs of known numbers are checked together, in each world of one more search, which
-/// keeps no marks either if the term has a loop without end; a fault refutes such a claim about every moment. A model
-/// with a fault is refused as by [`check_model`].
+/// keeps no marks either if the term has such a loop; a fault refutes such a claim about every moment. A model with a
+/// fault is refused as by [`check_model`].
 pub fn run_model(
     alloc: Global,
     source: &Source,
@@ -69,6 +73,7 @@ pub fn run_model_watched<V: Watcher>(
     let settings = read_settings(alloc, source, model)?;
     let plan = plan_of(settings, bounds);
     let probes = probes_of(alloc, claims.as_slice())?;
+    let moments = moments_of(alloc, source, model, plan, claims.as_slice(), &mut *watcher)?;
     let searches = searches_of(
         alloc,
         source,
@@ -76,9 +81,9 @@ pub fn run_model_watched<V: Watcher>(
         plan,
         claims.as_slice(),
         probes.as_slice(),
+        has_open_moment(claims.as_slice(), &moments),
         &mut *watcher,
     )?;
-    let moments = moments_of(alloc, source, model, plan, claims.as_slice(), watcher)?;
     let results = results_of(
         alloc,
         source,
@@ -89,6 +94,17 @@ pub fn run_model_watched<V: Watcher>(
         searches.as_slice(),
         &moments,
     )?;
+    let unset = unset_refs(
+        alloc,
+        source,
+        model,
+        plan,
+        claims.as_slice(),
+        probes.as_slice(),
+        searches.as_slice(),
+        &moments,
+        watcher,
+    )?;
     let warnings = warnings_of(
         alloc,
         source,
@@ -96,6 +112,7 @@ pub fn run_model_watched<V: Watcher>(
         claims.as_slice(),
         results.as_slice(),
         searches.as_slice(),
+        unset.as_slice(),
     )?;
     Ok(result_of(searches, moments, results, warnings))
 }
@@ -133,7 +150,8 @@ fn all_worlds(searches: &[Search], moments: &Search) -> u64 {
     worlds
 }
 
-// Searches the term with each of these probes.
+// Searches the term with each of these probes. `is_open` says that a claim about every moment depends on whether the
+// term without a probe has a fault.
 fn searches_of<V: Watcher>(
     alloc: Global,
     source: &Source,
@@ -141,6 +159,7 @@ fn searches_of<V: Watcher>(
     plan: Plan,
     claims: &[Claim],
     probes: &[Probe],
+    is_open: bool,
     watcher: &mut V,
 ) -> Result<Vec<Search>, Refused>
     requires limits { AreLimits plan.limits }
@@ -148,32 +167,32 @@ fn searches_of<V: Watcher>(
 {
     let mut searches = Vec::new(alloc);
     for probe in probes {
-        let found = search_with(alloc, source, model, plan, claims, *probe, &mut *watcher)?;
+        let goal = Goal {
+            source,
+            claims,
+            probe,
+            is_open: is_open && matches!(*probe, Probe::Nothing),
+        };
+        let found = search_with(alloc, model, plan, &goal, &mut *watcher)?;
         searches.push(found)?;
     }
     Ok(searches)
 }
 
-// Searches the term with this probe, with marks if it needs them.
+// Searches the term with the probe of a goal, with marks if it needs them.
 fn search_with<V: Watcher>(
     alloc: Global,
-    source: &Source,
     model: &Model,
     plan: Plan,
-    claims: &[Claim],
-    probe: Probe,
+    goal: &Goal,
     watcher: &mut V,
 ) -> Result<Search, Refused>
     requires limits { AreLimits plan.limits }
     ensures right { IfOk result IsRightOfSome }
 {
-    let prepared = prepare(alloc, source, model, probe)?;
-    let found = if needs_marks(&prepared, plan, claims, &probe) {
-        search_reports(alloc, &prepared, plan, watcher)
-    } else {
-        search_outcomes(alloc, &prepared, plan, watcher)
-    };
-    match found {
+    let prepared = prepare(alloc, goal.source, model, *goal.probe)?;
+    let marked = needs_marks(&prepared, plan, goal.claims, goal.probe);
+    match search_in_stages(alloc, &prepared, plan, goal, marked, watcher) {
         Ok(found) => Ok(found),
         Err(_) => Err(Refused::NoMemory),
     }

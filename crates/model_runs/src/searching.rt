@@ -1,6 +1,6 @@
 //! The searches of a model's term.
 
-ghost use Rattle.std.specs.Prelude.{◌≡◌, true, IfOk, OnOk, ℕ, List};
+ghost use Rattle.std.specs.Prelude.{◌≡◌, ◌++◌, [], ◌∷◌, map, true, IfOk, OnOk, ℕ, List};
 ghost use Rattle.std.specs.List.{All};
 ghost use Rattle.derived_ops.specs.Expansion.{code_of};
 ghost use Rattle.derived_ops.specs.Reading.{source_of};
@@ -17,55 +17,37 @@ use crate::seeing::seen_of;
 use cell_registry::RunError;
 use effect_term::{Outcome, Program};
 use every_outcome::{OutcomeAnswer, Outcomes};
-use every_schedule::{Answer, Exploration, Schedule, Watcher, explore_watched};
-use sampled_schedules::{Coming, Sample, sample, sample_watched};
+use every_schedule::{Answer, Answers, Exploration, Schedule, Watcher, explore_watched};
+use sampled_schedules::{Coming, Sample, sample_watched};
 use scheduled_core::{FiberReport, Report, same_end};
 use std::alloc::{AllocError, Global};
 use world_search::Bounds;
 
-/// The greatest number of worlds of the first search: most models have fewer.
-pub(crate) const FIRST: usize = 10_000;
-
-/// The greatest number of times that the bound of worlds is multiplied by ten.
-pub(crate) const TIMES_MORE: u32 = 8;
-
 // The greatest number of schedules that are drawn if the watcher has ended the exploration.
 const FEW_TIMES: u32 = 200;
 
+// The quarters of the time after a search that the naming of answers can take.
+const NAMED: u32 = 3;
+
+// The most outcomes of fiber 0 of which an answer is named in any case.
+const OUTCOMES: usize = 100;
+
 /// The answers that an exploration has found.
-#[derive(Clone, Copy)]
-pub(crate) enum Known<'a> {
+#[derive(Drop)]
+pub(crate) enum Ends {
     /// Reports and faults.
-    Reports(&'a [Answer]),
+    Reports(Answers),
     /// Outcomes of fibers, and faults.
-    Outcomes(&'a [OutcomeAnswer]),
+    Outcomes(Vec<OutcomeAnswer>),
 }
 
-/// Explores a program within the plan: with 10,000 worlds at first, and then with ten times as many, up to those of the
-/// plan.
-fn explore_by_plan<V: Watcher>(
-    alloc: Global,
-    program: &Program,
-    plan: Plan,
-    watcher: &mut V,
-) -> Result<Exploration, RunError>
-    requires limits { AreLimits plan.limits }
-    ensures all { IfOk result (λ it. it.complete ≡ true → (schedule : List ℕ) →
-        IsCovered plan.limits it.answers (core (code_of (source_of program.now)) plan.limits schedule)) }
-    ensures each { IfOk result (λ it. All (IsReached (code_of (source_of program.now)) plan.limits) it.answers) }
-{
-    let mut worlds = FIRST;
-    for _ in 0..TIMES_MORE {
-        if worlds >= plan.worlds {
-            break;
-        }
-        let found = explore_with(alloc, program, plan, worlds, &mut *watcher)?;
-        if found.complete || found.halted || found.worlds < worlds {
-            return Ok(found);
-        }
-        worlds = worlds.saturating_mul(10);
-    }
-    explore_with(alloc, program, plan, plan.worlds, watcher)
+/// An exploration, and its answers in the names of the file.
+#[derive(Drop)]
+pub(crate) struct Explored {
+    /// The exploration as a search: no schedule is drawn.
+    pub search: Search,
+    /// The answers.
+    pub ends: Ends,
 }
 
 // Explores a program with at most this number of worlds.
@@ -89,31 +71,29 @@ fn explore_with<V: Watcher>(
     explore_watched(alloc, program, plan.limits, bounds, watcher)
 }
 
-/// Searches the reports of a term within the plan, until the watcher ends the search. If not every schedule was
-/// explored, some are drawn at random.
+/// Searches the reports of a term in at most this number of worlds, until the watcher ends the search.
 pub(crate) fn search_reports<V: Watcher>(
     alloc: Global,
     prepared: &Prepared,
     plan: Plan,
+    worlds: usize,
     watcher: &mut V,
-) -> Result<Search, RunError>
+) -> Result<Explored, RunError>
     requires limits { AreLimits plan.limits }
-    ensures { IfOk result (IsRight (code_of (source_of prepared.now.program)) plan.limits) }
+    ensures { IfOk result (λ it. IsRight (code_of (source_of prepared.now.program)) plan.limits it.search) }
 {
-    let found = explore_by_plan(alloc, &prepared.program, plan, &mut *watcher)?;
-    let answers = explored_answers(alloc, prepared, plan, found.answers.as_slice())?;
-    if found.complete {
-        return Ok(search_of(&found, 0, answers));
-    }
-    let drawn = drawn_by_plan(alloc, &prepared.program, plan, found.halted, watcher)?;
-    let known = Known::Reports(found.answers.as_slice());
-    let comings = drawn.comings.as_slice();
-    let more = with_drawn(alloc, prepared, plan, known, comings, answers)?;
-    Ok(search_of(&found, drawn.schedules, more))
+    let found = explore_with(alloc, &prepared.program, plan, worlds, &mut *watcher)?;
+    let named = explored_answers(alloc, prepared, plan, found.answers.as_slice(), watcher)?;
+    let search = search_of(&found, named);
+    let Exploration { answers: ends, .. } = found;
+    Ok(Explored {
+        search,
+        ends: Ends::Reports(ends),
+    })
 }
 
 /// Draws the plan's number of schedules after an exploration that isn't complete, until the watcher ends the drawing.
-/// If the watcher has ended the exploration (`halted`), draws at most 200 and doesn't ask the watcher.
+/// If the watcher has ended the exploration (`halted`), draws at most 200.
 pub(crate) fn drawn_by_plan<V: Watcher>(
     alloc: Global,
     program: &Program,
@@ -123,74 +103,150 @@ pub(crate) fn drawn_by_plan<V: Watcher>(
 ) -> Result<Sample, RunError>
     requires limits { AreLimits plan.limits }
 {
-    if halted {
-        let times = plan.times.min(FEW_TIMES);
-        return sample(alloc, program, plan.limits, plan.seed, times, plan.entries);
-    }
+    let times = if halted {
+        plan.times.min(FEW_TIMES)
+    } else {
+        plan.times
+    };
     sample_watched(
         alloc,
         program,
         plan.limits,
         plan.seed,
-        plan.times,
+        times,
         plan.entries,
         watcher,
     )
 }
 
-// The answers of an exploration, in the names of the file.
-fn explored_answers(
+/// Answers in the names of the file.
+#[derive(Drop)]
+pub(crate) struct NamedAnswers {
+    /// The answers.
+    pub(crate) answers: Vec<NamedAnswer>,
+    /// No answer was left out.
+    pub(crate) whole: bool,
+}
+
+// The answers of an exploration, in the names of the file. The watcher can end the list; then only the first answer with
+// its outcome of fiber 0 is still added, and each fault.
+fn explored_answers<V: Watcher>(
     alloc: Global,
     prepared: &Prepared,
     plan: Plan,
     found: &[Answer],
-) -> Result<Vec<NamedAnswer>, AllocError>
+    watcher: &mut V,
+) -> Result<NamedAnswers, AllocError>
     requires limits { AreLimits plan.limits }
-    ensures each { IfOk result (λ it. All (IsSeen (code_of (source_of prepared.now.program)) plan.limits) it.items) }
-    ensures all { IfOk result (λ it. IsAllOf found.now it.items) }
+    ensures each { IfOk result (λ it.
+        All (IsSeen (code_of (source_of prepared.now.program)) plan.limits) it.answers.items) }
+    ensures all { IfOk result (λ it. it.whole ≡ true → IsAllOf found.now it.answers.items) }
 {
     let mut answers = Vec::new(alloc);
+    let mut known = Vec::new(alloc);
+    let mut whole = true;
     for answer in found {
-        answers.push(named_answer(alloc, prepared, plan, answer, 0)?)?;
+        whole = add_named(
+            alloc,
+            prepared,
+            plan,
+            whole,
+            answer,
+            &mut known,
+            &mut answers,
+            &mut *watcher,
+        )?;
     }
-    Ok(answers)
+    Ok(NamedAnswers { answers, whole })
 }
 
-// The result of a search: an exploration, the number of schedules that were drawn, and the answers of both.
-fn search_of(found: &Exploration, sampled: u32, answers: Vec<NamedAnswer>) -> Search
+// Adds an answer in the names of the file, if it is named. Returns `whole` then, else `false`.
+fn add_named<V: Watcher>(
+    alloc: Global,
+    prepared: &Prepared,
+    plan: Plan,
+    whole: bool,
+    answer: &Answer,
+    known: &mut Vec<Option<Outcome>>,
+    answers: &mut Vec<NamedAnswer>,
+    watcher: &mut V,
+) -> Result<bool, AllocError>
+    requires limits { AreLimits plan.limits }
+    requires each { All (IsSeen (code_of (source_of prepared.now.program)) plan.limits) answers.old.items }
+    ensures each { OnOk result (All (IsSeen (code_of (source_of prepared.now.program)) plan.limits) answers.new.items) }
+    ensures whole { IfOk result (λ it. it ≡ true → whole ≡ true) }
+    ensures more { IfOk result (λ it. it ≡ true →
+        map (λ a. a.schedule) answers.new.items ≡ map (λ a. a.schedule) answers.old.items ++ answer.now.schedule ∷ []) }
+{
+    if !is_named(first_outcome(answer), known, watcher)? {
+        return Ok(false);
+    }
+    let one = named_answer(alloc, prepared, plan, answer, 0)?;
+    answers.push(one)?;
+    Ok(whole)
+}
+
+// The outcome of fiber 0 at the end of an answer; `None` if the answer is a fault.
+fn first_outcome(answer: &Answer) -> Option<Option<Outcome>> {
+    match &answer.end {
+        Ok(report) => Some(report.fibers.as_slice().first()?.outcome),
+        Err(_) => None,
+    }
+}
+
+/// Whether an answer is named: it is a fault, it has an outcome of fiber 0 that isn't known, which is then added, or the
+/// watcher lets the list go on.
+pub(crate) fn is_named<V: Watcher>(
+    outcome: Option<Option<Outcome>>,
+    known: &mut Vec<Option<Outcome>>,
+    watcher: &mut V,
+) -> Result<bool, AllocError> {
+    match outcome {
+        None => Ok(true),
+        Some(outcome) => {
+            if known.len() >= OUTCOMES || known.as_slice().contains(&outcome) {
+                return Ok(watcher.lists_on(NAMED));
+            }
+            known.push(outcome)?;
+            Ok(true)
+        }
+    }
+}
+
+// The exploration as a search, with these answers. If not all were named, the watcher has ended the search.
+fn search_of(found: &Exploration, named: NamedAnswers) -> Search
     ensures marked { result.marked ≡ true }
-    ensures complete { result.complete ≡ found.now.complete }
-    ensures halted { result.halted ≡ found.now.halted }
-    ensures answers { result.answers.items ≡ answers.items }
+    ensures complete { result.complete ≡ true → found.now.complete ≡ true }
+    ensures whole { result.complete ≡ true → named.whole ≡ true }
+    ensures answers { result.answers.items ≡ named.answers.items }
 {
     Search {
-        complete: found.complete,
-        halted: found.halted,
+        complete: found.complete && named.whole,
+        halted: found.halted || !named.whole,
         marked: true,
         worlds: found.worlds,
-        sampled,
-        answers,
+        sampled: 0,
+        answers: named.answers,
     }
 }
 
 /// Adds to these answers each one that was drawn, is settled, and isn't known.
-pub(crate) fn with_drawn(
+pub(crate) fn add_all_drawn(
     alloc: Global,
     prepared: &Prepared,
     plan: Plan,
-    known: Known,
+    known: &Ends,
     drawn: &[Coming],
-    answers: Vec<NamedAnswer>,
-) -> Result<Vec<NamedAnswer>, AllocError>
+    all: &mut Vec<NamedAnswer>,
+) -> Result<(), AllocError>
     requires limits { AreLimits plan.limits }
-    requires each { All (IsSeen (code_of (source_of prepared.now.program)) plan.limits) answers.items }
-    ensures each { IfOk result (λ it. All (IsSeen (code_of (source_of prepared.now.program)) plan.limits) it.items) }
+    requires each { All (IsSeen (code_of (source_of prepared.now.program)) plan.limits) all.old.items }
+    ensures each { OnOk result (All (IsSeen (code_of (source_of prepared.now.program)) plan.limits) all.new.items) }
 {
-    let mut all = answers;
     for coming in drawn {
-        add_drawn(alloc, prepared, plan, known, coming, &mut all)?;
+        add_drawn(alloc, prepared, plan, known, coming, all)?;
     }
-    Ok(all)
+    Ok(())
 }
 
 // Adds an answer that was drawn, if it is settled and isn't known.
@@ -198,7 +254,7 @@ fn add_drawn(
     alloc: Global,
     prepared: &Prepared,
     plan: Plan,
-    known: Known,
+    known: &Ends,
     coming: &Coming,
     all: &mut Vec<NamedAnswer>,
 ) -> Result<(), AllocError>
@@ -215,10 +271,13 @@ fn add_drawn(
 }
 
 // Whether an exploration has found this end, or its outcomes if it was an exploration of outcomes.
-fn is_known(known: Known, end: &Result<Report, RunError>) -> bool {
+fn is_known(known: &Ends, end: &Result<Report, RunError>) -> bool {
     match known {
-        Known::Reports(answers) => answers.iter().any(|answer| same_end(&answer.end, end)),
-        Known::Outcomes(answers) => answers.iter().any(|answer| has_outcomes(&answer.end, end)),
+        Ends::Reports(answers) => answers
+            .as_slice()
+            .iter()
+            .any(|answer| same_end(&answer.end, end)),
+        Ends::Outcomes(answers) => answers.iter().any(|answer| has_outcomes(&answer.end, end)),
     }
 }
 
@@ -291,10 +350,13 @@ pub(crate) fn named_end(
     let fault = fault_of(&replay);
     let kept = Vec::from_slice(alloc, entries)?;
     let schedule = Schedule::new(kept);
+    let Named { fibers, refs, .. } = replay;
     Ok(NamedAnswer {
         seen,
         held,
         fault,
+        started: fibers,
+        refs: refs.len(),
         schedule,
         came,
     })

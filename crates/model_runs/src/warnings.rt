@@ -1,8 +1,10 @@
 //! Warnings about models.
 
 use crate::result::{ClaimResult, NamedAnswer, Search};
-use model_claims::{Claim, Verdict, Want, Who, Word, is_wanted, speaks_of};
-use model_terms::{ModelTerm, Source};
+use model_claims::{
+    Claim, FiberName, Spoken, SpokenName, Verdict, Want, Who, is_wanted, speaks_of,
+};
+use model_terms::{ModelTerm, Probe, Source};
 use std::alloc::{AllocError, Global};
 
 /// A warning about a model. No verdict depends on it.
@@ -15,6 +17,8 @@ pub enum Warning {
     Unmet(usize),
     /// The form of this number is, in a claim, the name of a fiber that no schedule starts.
     Unstarted(usize),
+    /// The form of this number is, in a claim, the name of a ref that no schedule sets.
+    Unset(usize),
 }
 
 impl Warning {
@@ -23,7 +27,7 @@ impl Warning {
         match self {
             Warning::Torn(_) => "W01",
             Warning::Unmet(_) => "W02",
-            Warning::Unstarted(_) => "W03",
+            Warning::Unstarted(_) | Warning::Unset(_) => "W03",
         }
     }
 
@@ -33,11 +37,13 @@ impl Warning {
             Warning::Torn(form) => form,
             Warning::Unmet(form) => form,
             Warning::Unstarted(form) => form,
+            Warning::Unset(form) => form,
         }
     }
 }
 
-/// Returns the warnings about a model with this term, these claims, and their results by these searches.
+/// Returns the warnings about a model with this term, these claims, and their results by these searches. No schedule
+/// sets the refs with the numbers `unset`, among those that claims at any moment name.
 pub(crate) fn warnings_of(
     alloc: Global,
     source: &Source,
@@ -45,6 +51,7 @@ pub(crate) fn warnings_of(
     claims: &[Claim],
     results: &[ClaimResult],
     searches: &[Search],
+    unset: &[u16],
 ) -> Result<Vec<Warning>, AllocError> {
     let mut warnings = Vec::new(alloc);
     for form in term.torn.as_slice() {
@@ -52,34 +59,91 @@ pub(crate) fn warnings_of(
     }
     for (claim, found) in claims.iter().zip(results.iter()) {
         add_unmet(&mut warnings, claim, found, searches)?;
-        add_unstarted(&mut warnings, source, claim, found, searches)?;
+        add_unspoken(&mut warnings, source, claim, found, searches, unset)?;
     }
     Ok(warnings)
 }
 
-// Adds the names of fibers in a claim that no answer has, if its search is complete.
-fn add_unstarted(
+// Adds the names in a claim that no schedule starts or sets, if its search is complete.
+fn add_unspoken(
     warnings: &mut Vec<Warning>,
     source: &Source,
     claim: &Claim,
     found: &ClaimResult,
     searches: &[Search],
+    unset: &[u16],
 ) -> Result<(), AllocError> {
-    let Some(search) = searches.get(found.search) else {
-        return Ok(());
-    };
-    if !search.complete {
-        return Ok(());
-    }
-    for word in claim.condition.words.as_slice() {
-        if let Some(who) = who_of(*word)
-            && let Some(form) = name_form(source, who)
-            && !is_started(source, who, search.answers.as_slice())
-        {
-            add_once(warnings, Warning::Unstarted(form))?;
+    for name in claim.condition.names.as_slice() {
+        if let Some(warning) = warning_of(source, claim, *name, searches.get(found.search), unset) {
+            add_once(warnings, warning)?;
         }
     }
     Ok(())
+}
+
+// The warning about a name in a claim, if there is one. `search` is the search of the claim.
+fn warning_of(
+    source: &Source,
+    claim: &Claim,
+    name: SpokenName,
+    search: Option<&Search>,
+    unset: &[u16],
+) -> Option<Warning> {
+    match name.what {
+        Spoken::Fibers(who) => {
+            let search = search?;
+            if search.complete && is_unstarted(source, who, search.answers.as_slice()) {
+                Some(Warning::Unstarted(name.form))
+            } else {
+                None
+            }
+        }
+        Spoken::Ref(number) => {
+            if is_unset(claim, number, search?, unset) {
+                Some(Warning::Unset(name.form))
+            } else {
+                None
+            }
+        }
+    }
+}
+
+// Whether these are named fibers that none of these answers starts, and none of the answers is a fault. An answer that is
+// a fault has one schedule of those that lead to it, and another one could start them.
+fn is_unstarted(source: &Source, who: Who, answers: &[NamedAnswer]) -> bool {
+    match who {
+        Who::Main | Who::Everyone => false,
+        Who::Named(_, _) | Who::OneOf(_, _, _) => {
+            !is_started(source, who, answers) && !has_fault(answers)
+        }
+    }
+}
+
+// Whether one of these answers is a fault.
+fn has_fault(answers: &[NamedAnswer]) -> bool {
+    answers.iter().any(|it| it.seen.faulty)
+}
+
+// Whether no schedule sets a ref that a claim names: one with a number in `unset`, or one whose watcher no answer of a
+// complete search has.
+fn is_unset(claim: &Claim, number: Option<u16>, search: &Search, unset: &[u16]) -> bool {
+    match claim.probe {
+        Probe::Watch(_, _) => search.complete && !is_watched(search.answers.as_slice()),
+        Probe::Nothing | Probe::Order(_, _, _) | Probe::Names => match number {
+            Some(number) => unset.contains(&number),
+            None => false,
+        },
+    }
+}
+
+// Whether one of these answers starts a watcher, or ends in a fault, before which one could be started.
+fn is_watched(answers: &[NamedAnswer]) -> bool {
+    for answer in answers {
+        if answer.seen.faulty || answer.started.as_slice().contains(&FiberName::Watcher) {
+            return true;
+        }
+    }
+    false
 }
 
 // Adds a warning, unless it is there.
@@ -90,37 +154,11 @@ fn add_once(warnings: &mut Vec<Warning>, warning: Warning) -> Result<(), AllocEr
     Ok(())
 }
 
-// The fibers that a word of a condition is about, if it is about fibers.
-fn who_of(word: Word) -> Option<Who> {
-    match word {
-        Word::Ended(who) => Some(who),
-        Word::Ends(who, _, _) => Some(who),
-        Word::Said(who, _, _) => Some(who),
-        Word::Says(who, _, _) => Some(who),
-        Word::Yes | Word::No | Word::And | Word::Or | Word::Not => None,
-        Word::Late(_) | Word::Compares(_, _, _) => None,
-    }
-}
-
-// The number of the form that spells the name of these fibers; none of `main` and `*`.
-fn name_form(source: &Source, who: Who) -> Option<usize> {
-    let start = match who {
-        Who::Named(start, _) => start,
-        Who::OneOf(start, _, _) => start,
-        Who::Main | Who::Everyone => return None,
-    };
-    source
-        .file
-        .forms
-        .iter()
-        .position(|form| form.start == start)
-}
-
-// Whether one of these fibers was started in one of these answers.
-fn is_started(source: &Source, who: Who, answers: &[NamedAnswer]) -> bool {
+/// Whether one of these fibers was started in one of these answers.
+pub(crate) fn is_started(source: &Source, who: Who, answers: &[NamedAnswer]) -> bool {
     for answer in answers {
-        for fiber in answer.seen.fibers.as_slice() {
-            if speaks_of(source, who, fiber.name) {
+        for fiber in answer.started.as_slice() {
+            if speaks_of(source, who, *fiber) {
                 return true;
             }
         }

@@ -1,6 +1,6 @@
 //! A board on which threads leave the results of models, for the thread that reports them.
 
-ghost use Rattle.std.specs.Prelude.{◌<◌, IfSome};
+ghost use Rattle.std.specs.Prelude.{◌≡◌, ◌<◌, IfOk, IfSome};
 
 use crate::tested::Became;
 use std::alloc::{AllocError, Global};
@@ -13,6 +13,8 @@ use std::time::{Clock, Duration};
 pub struct Board {
     // The number of models.
     count: usize,
+    /// The number of bytes at which the search of each model stops.
+    pub(crate) memory: usize,
     // The number of the first model that no thread has claimed.
     next: AtomicUsize,
     // How far the search of each model is.
@@ -55,8 +57,10 @@ struct Left {
 }
 
 impl Board {
-    /// Returns a board for `count` models.
-    pub(crate) fn new(alloc: Global, count: usize) -> Result<Board, AllocError> {
+    /// Returns a board for `count` models. The search of each stops at `memory` bytes.
+    pub(crate) fn new(alloc: Global, count: usize, memory: usize) -> Result<Board, AllocError>
+        ensures { IfOk result (λ board. board.memory ≡ memory) }
+    {
         let mut found = Vec::new(alloc);
         let mut searches = Vec::new(alloc);
         for _ in 0..count {
@@ -65,6 +69,7 @@ impl Board {
         }
         Ok(Board {
             count,
+            memory,
             next: AtomicUsize::new(0),
             searches,
             left: Mutex::new(Left {

@@ -5,11 +5,14 @@ ghost use Rattle.model_runs.specs.Verdicts.{worst};
 
 use crate::board::{Board, Far};
 use crate::progress::Progress;
-use crate::suite::{Models, SuiteForm};
-use crate::tested::{Became, Explored, Tested};
-use crate::watching::Noting;
+use crate::suite::{Models, SuiteFile, SuiteForm};
+use crate::tested::{Became, Explored, Tested, UndecidedModel};
+use crate::unexplored::undecided_result;
+use crate::watching::{Noting, is_within};
+use model_reports::Unexplored;
 use model_runs::{ModelResult, SearchBounds, run_model_watched};
 use model_terms::Refused;
+use model_text::Model;
 use std::alloc::{AllocError, Global};
 use std::sync::Wait;
 use std::thread;
@@ -41,34 +44,58 @@ fn explore<C: Clock>(
     let Some(file) = models.files.get(entry.file) else {
         return Ok(Became::Listed);
     };
-    let bounds = SearchBounds {
-        worlds: models.order.worlds as usize,
-        memory: models.order.memory as usize,
-    };
     match models.order.form {
         SuiteForm::List => Ok(Became::Listed),
         SuiteForm::Report | SuiteForm::Json | SuiteForm::Tap => {
-            board.note(index, START);
-            let mut noting = noting(clock, models.order.seconds, board, index);
-            let begun = noting.begun;
-            let found = run_model_watched(alloc, &file.source, &entry.model, bounds, &mut noting);
-            board.rest(index);
-            became_of(found, milliseconds_since(clock, begun))
+            if !is_within(clock, models.begun, models.order.total_seconds) {
+                return undecided(alloc, file, &entry.model, 0, Unexplored::NoTime);
+            }
+            let mut noting = noting(clock, models, board, index);
+            explore_model(alloc, models, board, file, &entry.model, &mut noting)
         }
     }
 }
 
-// The watcher of a model whose searches begin now, and end after this number of seconds if one is given.
+// Explores a model, and notes on the board when that begins and ends.
+fn explore_model<C: Clock>(
+    alloc: Global,
+    models: &Models<'_>,
+    board: &Board,
+    file: &SuiteFile<'_>,
+    model: &Model,
+    noting: &mut Noting<'_, C>,
+) -> Result<Became, AllocError> {
+    let bounds = SearchBounds {
+        worlds: models.order.worlds as usize,
+        memory: board.memory,
+    };
+    board.note(noting.index, START);
+    let (clock, begun) = (noting.clock, noting.begun);
+    let found = run_model_watched(alloc, &file.source, model, bounds, noting);
+    board.rest(noting.index);
+    let milliseconds = milliseconds_since(clock, begun);
+    match found {
+        Ok(result) => Ok(Became::Explored(explored(result, milliseconds))),
+        Err(Refused::Fault(fault)) => Ok(Became::Refused(fault)),
+        Err(Refused::NoMemory) => {
+            undecided(alloc, file, model, milliseconds, Unexplored::NoMemory)
+        }
+    }
+}
+
+// The watcher of a model whose searches begin now.
 fn noting<'w, C: Clock>(
     clock: &'w C,
-    seconds: Option<u64>,
+    models: &Models<'_>,
     board: &'w Board,
     index: usize,
 ) -> Noting<'w, C> {
     Noting {
         clock,
         begun: Instant::now(clock).ok(),
-        seconds,
+        seconds: models.order.seconds,
+        test_begun: models.begun,
+        total_seconds: models.order.total_seconds,
         stopped: false,
         board,
         index,
@@ -77,12 +104,20 @@ fn noting<'w, C: Clock>(
     }
 }
 
-// What became of a model whose exploration took this number of milliseconds.
-fn became_of(found: Result<ModelResult, Refused>, milliseconds: u64) -> Result<Became, AllocError>
-    requires { IfOk found (λ it. it.verdict ≡ worst it.claims.items) }
-{
-    match found {
-        Ok(result) => Ok(Became::Explored(explored(result, milliseconds))),
+// The result of a model without a result of a search, and why there is none.
+fn undecided(
+    alloc: Global,
+    file: &SuiteFile<'_>,
+    model: &Model,
+    milliseconds: u64,
+    why: Unexplored,
+) -> Result<Became, AllocError> {
+    match undecided_result(alloc, &file.source, model) {
+        Ok(result) => Ok(Became::Undecided(UndecidedModel {
+            result,
+            milliseconds,
+            why,
+        })),
         Err(Refused::NoMemory) => Err(AllocError),
         Err(Refused::Fault(fault)) => Ok(Became::Refused(fault)),
     }

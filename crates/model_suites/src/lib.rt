@@ -5,7 +5,8 @@
 //! explored. Then one thread, or several that share a [`Board`], explore each model ([`Suite::help`],
 //! [`Suite::tested`]), and [`Suite::tell`] reports the models in the order of the files. The crate promises that the
 //! status follows from the verdicts of the models ([`Told::status`]), and that each verdict is the worst of its model's
-//! claims' verdicts. Tests show what is printed.
+//! claims' verdicts. A model whose search runs out of memory, or that no thread begins in time, is undecided. Tests show
+//! what is printed.
 #![tactic(auto)]
 
 mod board;
@@ -16,12 +17,14 @@ mod suite;
 mod terms;
 mod tested;
 mod told;
+mod unexplored;
 mod watching;
 
 pub use board::Board;
+pub use model_reports::{HTML_HEAD, JUNIT_HEAD};
 pub use progress::Progress;
 pub use reading::LONGEST;
 pub use suite::{Suite, SuiteForm, SuiteOrder};
 pub use suite_statuses::status_of;
-pub use tested::{Became, Explored, Tested};
+pub use tested::{Became, Explored, Tested, UndecidedModel};
 pub use told::Told;

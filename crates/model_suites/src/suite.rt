@@ -13,16 +13,17 @@ use crate::told::Told;
 use itoa::Buffer;
 use model_claims::check_defaults;
 use model_forms::form_bytes;
-use model_reports::{NamedFile, fault_text, tap_head, unread_text};
+use model_reports::{NamedFile, fault_text, line_starts, tap_head, unread_text};
 use model_runs::check_model;
 use model_terms::{Refused, Source, SourceFault, read_source};
 use model_text::{Item, Model};
+use report_files::share_of;
 use std::alloc::{AllocError, Global};
 use std::rt::Files;
 use std::sync::Wait;
 use std::thread::Threads;
-use std::time::Clock;
-use text_io::TextOut;
+use std::time::{Clock, Instant};
+use text_io::{TextOut, push_shown};
 
 /// The form of what is printed.
 #[derive(Clone, Copy, PartialEq, Eq, Debug)]
@@ -44,10 +45,12 @@ pub struct SuiteOrder<'a> {
     pub filter: Option<&'a str>,
     /// The greatest number of worlds that are kept of a model that sets no bound of its own.
     pub worlds: u64,
-    /// The number of bytes at which the search of a model stops.
+    /// The number of bytes at which the searches of the models that are explored side by side stop.
     pub memory: u64,
     /// The number of seconds after which the searches of a model stop, if given.
     pub seconds: Option<u64>,
+    /// The number of seconds after which all searches stop, and no further model is explored, if given.
+    pub total_seconds: Option<u64>,
     /// What is printed.
     pub form: SuiteForm,
     /// Whether a report for CI is wanted.
@@ -65,6 +68,8 @@ pub(crate) struct SuiteFile<'a> {
     pub(crate) name: &'a str,
     /// The file with its forms and items.
     pub(crate) source: Source,
+    /// Where its lines begin.
+    pub(crate) lines: Vec<usize>,
 }
 
 /// A model that is tested.
@@ -81,6 +86,8 @@ pub(crate) struct Entry {
 pub(crate) struct Models<'a> {
     /// The order by which they are tested.
     pub(crate) order: SuiteOrder<'a>,
+    /// When the test began; `None` if the clock failed.
+    pub(crate) begun: Option<Instant>,
     /// The files.
     pub(crate) files: Vec<SuiteFile<'a>>,
     /// The models that are tested.
@@ -99,8 +106,8 @@ pub struct Suite<'a> {
 }
 
 impl<'a> Suite<'a> {
-    /// Reads files, and finds all their faults. `AllocError` if memory runs out.
-    pub fn open<R: Files>(
+    /// Reads files, and finds all their faults. The time of the whole test begins now. `AllocError` if memory runs out.
+    pub fn open<R: Clock + Files>(
         rt: &R,
         alloc: Global,
         order: SuiteOrder<'a>,
@@ -108,6 +115,7 @@ impl<'a> Suite<'a> {
     ) -> Result<Suite<'a>, AllocError> {
         let mut models = Models {
             order,
+            begun: Instant::now(rt).ok(),
             files: Vec::new(alloc),
             entries: Vec::new(alloc),
             all: 0,
@@ -140,7 +148,7 @@ impl<'a> Suite<'a> {
             return Ok(line);
         }
         line.extend_from_slice(b"no model is tested: no name contains `")?;
-        line.extend_from_slice(part.as_bytes())?;
+        push_shown(&mut line, part.as_bytes())?;
         line.extend_from_slice(b"`\n")?;
         Ok(line)
     }
@@ -161,9 +169,11 @@ impl<'a> Suite<'a> {
         Told::new(self.alloc, self.models.entries.len())
     }
 
-    /// Returns a board for the results of the models. `AllocError` if memory runs out.
-    pub fn board(&self) -> Result<Board, AllocError> {
-        Board::new(self.alloc, self.models.entries.len())
+    /// Returns a board for the results of the models, of which `jobs` are explored side by side: the search of each stops
+    /// at its share of the memory. `AllocError` if memory runs out.
+    pub fn board(&self, jobs: usize) -> Result<Board, AllocError> {
+        let memory = share_of(self.models.order.memory as usize, jobs.max(1));
+        Board::new(self.alloc, self.models.entries.len(), memory)
     }
 
     /// Explores models that no thread has claimed, in `threads` threads, and puts their results on the board, until
@@ -235,6 +245,7 @@ pub(crate) fn named<'b>(file: &'b SuiteFile<'_>) -> NamedFile<'b> {
     NamedFile {
         name: file.name.as_bytes(),
         bytes,
+        lines: file.lines.as_slice(),
     }
 }
 
@@ -278,13 +289,23 @@ fn add_bytes<'a>(
     name: &'a str,
     bytes: &[u8],
 ) -> Result<(), AllocError> {
+    let lines = line_starts(alloc, bytes)?;
     match read_source(alloc, bytes) {
-        Ok(source) => add_source(alloc, models, SuiteFile { name, source }),
+        Ok(source) => add_source(
+            alloc,
+            models,
+            SuiteFile {
+                name,
+                source,
+                lines,
+            },
+        ),
         Err(Refused::NoMemory) => Err(AllocError),
         Err(Refused::Fault(fault)) => {
             let file = NamedFile {
                 name: name.as_bytes(),
                 bytes,
+                lines: lines.as_slice(),
             };
             add_fault(alloc, &mut models.faults, file, &fault)
         }

@@ -6,6 +6,7 @@ use model_reports::named_term;
 use model_terms::{ModelTerm, Probe, Refused, Source, translate};
 use model_text::Model;
 use std::alloc::{AllocError, Global};
+use text_io::push_shown;
 
 /// Adds the terms of a model to a text: the term without a probe, and for each claim that needs a probe, as a fiber
 /// that watches a ref, the term with the probe. Each term is one line, after a comment with the name of the model and
@@ -63,7 +64,7 @@ fn push_with_probe(
 ) -> Result<(), AllocError> {
     match claim.probe {
         Probe::Nothing => Ok(()),
-        Probe::Watch(_) | Probe::Order(_, _) | Probe::Names => {
+        Probe::Watch(_, _) | Probe::Order(_, _, _) | Probe::Names => {
             match translate(alloc, source, model, claim.probe) {
                 Ok(term) => push_claimed(source, model, claim, &term, text),
                 Err(refused) => passed_over(refused),
@@ -92,10 +93,13 @@ fn push_claimed(
     Ok(())
 }
 
-// Adds bytes, with a space for each line feed, tab and other control character.
+// Adds bytes as they are shown, with a space for each line feed.
 fn push_on_line(text: &mut Vec<u8>, bytes: &[u8]) -> Result<(), AllocError> {
     for byte in bytes {
-        text.push(if *byte < 32 { b' ' } else { *byte })?;
+        match *byte {
+            b'\n' => push_shown(text, b" ")?,
+            other => push_shown(text, &[other])?,
+        }
     }
     Ok(())
 }

@@ -1,8 +1,10 @@
 //! The result of a model that is tested.
 
 ghost use Rattle.std.specs.Prelude.{◌≡◌};
+ghost use Rattle.claim_verdicts.specs.declared.judging.Verdict.TheVariants.{Undecided};
 ghost use Rattle.model_runs.specs.Verdicts.{worst};
 
+use model_reports::Unexplored;
 use model_runs::ModelResult;
 use model_terms::SourceFault;
 
@@ -24,6 +26,20 @@ pub enum Became {
     Refused(SourceFault),
     /// The model was explored.
     Explored(Explored),
+    /// The model wasn't explored, or not to an end that has a result.
+    Undecided(UndecidedModel),
+}
+
+/// The result of a model that has none of a search: each of its claims is undecided.
+#[derive(Drop)]
+pub struct UndecidedModel {
+    /// Its claims.
+    pub result: ModelResult,
+    /// The number of milliseconds that its search took.
+    pub milliseconds: u64,
+    /// Why there is no result of a search.
+    pub why: Unexplored,
+    pub ghost right: { result.verdict ≡ Undecided },
 }
 
 /// The result of a model that was explored. Its verdict is the worst of its claims' verdicts.

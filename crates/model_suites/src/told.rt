@@ -4,7 +4,7 @@ ghost use Rattle.std.specs.Prelude.{◌≡◌, ◌++◌, ◌∷◌, [], OnOk};
 ghost use Rattle.model_suites.specs.Statuses.{IsSuiteStatus, suite_status, verdict_in};
 
 use crate::suite::{Models, SuiteFile, SuiteForm, SuiteOrder, named};
-use crate::tested::{Became, Explored, Tested};
+use crate::tested::{Became, Explored, Tested, UndecidedModel};
 use model_claims::Verdict;
 use model_forms::form_bytes;
 use model_reports::{
@@ -25,6 +25,8 @@ pub struct Told {
     pub models: usize,
     /// The verdict of each model that was tested so far, in their order. Empty if the models are only listed.
     pub verdicts: Vec<Verdict>,
+    /// The number of bytes that were printed of them.
+    pub printed: usize,
     alloc: Global,
     // What is printed after the lines of all models.
     details: Vec<u8>,
@@ -45,6 +47,7 @@ impl Told {
         Told {
             models,
             verdicts: Vec::new(alloc),
+            printed: 0,
             alloc,
             details: Vec::new(alloc),
             values: Vec::new(alloc),
@@ -74,6 +77,9 @@ impl Told {
             Became::Explored(explored) => {
                 self.add_explored(alloc, &models.order, file, &entry.model, &explored)
             }
+            Became::Undecided(undecided) => {
+                self.add_undecided(alloc, &models.order, file, &entry.model, &undecided)
+            }
         }
     }
 
@@ -95,8 +101,33 @@ impl Told {
             model,
             result: &explored.result,
             milliseconds: explored.milliseconds,
+            unexplored: None,
         };
         self.verdicts.push(explored.result.verdict)?;
+        self.add_reports(alloc, order, judged)?;
+        self.add_form(alloc, order, judged)
+    }
+
+    // Adds a model without a result of a search.
+    fn add_undecided(
+        &mut self,
+        alloc: Global,
+        order: &SuiteOrder<'_>,
+        file: &SuiteFile<'_>,
+        model: &Model,
+        undecided: &UndecidedModel,
+    ) -> Result<Vec<u8>, AllocError>
+        ensures { OnOk result (self.new.verdicts.items ≡ self.old.verdicts.items ++ Verdict.Undecided ∷ []) }
+    {
+        let judged = JudgedModel {
+            file: named(file),
+            source: &file.source,
+            model,
+            result: &undecided.result,
+            milliseconds: undecided.milliseconds,
+            unexplored: Some(undecided.why),
+        };
+        self.verdicts.push(undecided.result.verdict)?;
         self.add_reports(alloc, order, judged)?;
         self.add_form(alloc, order, judged)
     }

@@ -23,7 +23,7 @@ mod translation;
 
 pub use source::{Source, prelude, read_source};
 pub use term_writing::{
-    Binder, BinderName, LATE, NameKind, Refused, SourceFault, WordPlace, distance, is_name,
-    least_apart,
+    Binder, BinderName, ComputedSay, FiberName, LATE, NameKind, Refused, SourceFault, WordPlace,
+    distance, least_apart,
 };
 pub use translation::{ModelTerm, Probe, Said, translate};

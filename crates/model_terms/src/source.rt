@@ -3,6 +3,7 @@
 ghost use Rattle.std.specs.Prelude.{◌≡◌, IfOk, drop};
 ghost use Rattle.model_text.specs.Files.{IsFile};
 
+use model_forms::Block;
 use model_text::{Item, ModelFile, read_file};
 use std::alloc::{AllocError, Global};
 use term_writing::{
@@ -32,6 +33,8 @@ pub struct Source {
     pub prelude: usize,
     /// The forms and items of the text.
     pub file: ModelFile,
+    /// The bounds of its `defaults` items, in their order.
+    pub defaults: Vec<Block>,
     // The names of the items.
     names: ItemNames,
 }
@@ -105,6 +108,18 @@ pub fn read_source(alloc: Global, bytes: &[u8]) -> Result<Source, Refused>
     }
 }
 
+// The bounds of each `defaults` item.
+fn defaults_of(alloc: Global, items: &[Item]) -> Result<Vec<Block>, AllocError> {
+    let mut defaults = Vec::new(alloc);
+    for item in items {
+        match *item {
+            Item::Defaults(block) => defaults.push(block)?,
+            Item::Constant(_) | Item::Definition(_) | Item::Model(_) => {}
+        }
+    }
+    Ok(defaults)
+}
+
 // Makes a source of this text and file, or returns the first fault of a name or of a definition.
 fn with_names(
     alloc: Global,
@@ -124,10 +139,12 @@ fn with_names(
         }
         Err(_) => return Err(Refused::NoMemory),
     }
+    let defaults = defaults_of(alloc, file.items.as_slice())?;
     let source = Source {
         text,
         prelude,
         file,
+        defaults,
         names,
     };
     match try_definitions(alloc, reading_of(&source), prelude) {

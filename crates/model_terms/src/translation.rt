@@ -9,9 +9,9 @@ use model_text::Model;
 use std::alloc::{AllocError, Global};
 use term_parse::{ParseError, Word, parse};
 use term_writing::{
-    Binder, BinderName, FiberName, Here, Limit, MOST_BYTES, NONE, NameKind, Operand, Reading,
-    Refused, SaidBy, Stop, Task, View, WordPlace, Writing, first_of, span_of, term_refused,
-    write_all,
+    Binder, BinderName, ComputedSay, FiberName, Here, Limit, MOST_BYTES, NONE, NameKind, Operand,
+    Reading, Refused, SaidBy, Stop, Task, View, WordPlace, Writing, first_of, span_of,
+    term_refused, write_all,
 };
 
 /// A fiber's name in a file, and a value that it says.
@@ -28,13 +28,14 @@ pub struct Said {
 pub enum Probe {
     /// Nothing.
     Nothing,
-    /// For each ref of this binder, a fiber that reads the ref once, at any moment, and ends with its value.
-    Watch(BinderName),
-    /// A hidden ref that records whether the first `say` came before the second. If it didn't, a fiber says
-    /// [`LATE`](crate::LATE) before the second.
-    Order(Said, Said),
-    /// In each fiber but fiber 0, a `say` before anything else ([`is_name`](crate::is_name)). Fibers of different names
-    /// say different values. Their reports then differ, unless the fibers are canceled before they begin.
+    /// For each ref of this binder, a fiber that reads the ref once, at any moment, and ends with its value. If the
+    /// flag is set, also what `Names` adds.
+    Watch(BinderName, bool),
+    /// A hidden ref that records whether the first `say` came before the second. If it didn't, a fiber says a number
+    /// before the second. If the flag is set, also what `Names` adds.
+    Order(Said, Said, bool),
+    /// In each fiber but fiber 0, a `say` before anything else. Fibers of different names say different values. Their
+    /// reports then differ, unless the fibers are canceled before they begin.
     Names,
 }
 
@@ -49,6 +50,10 @@ pub struct ModelTerm {
     pub places: Vec<WordPlace>,
     /// The forms of the file that read a ref whose value then changes the ref. Another fiber can move in between.
     pub torn: Vec<usize>,
+    /// The `say`s of values that aren't numbers of the file, in the order of the text.
+    pub computed: Vec<ComputedSay>,
+    /// Whether the term can say a number that a probe says: computed, or written in the file.
+    pub says_names: bool,
 }
 
 // The surroundings of the statements of a definition or a model whose name begins at `limit`.
@@ -94,11 +99,15 @@ fn said_by(said: &Said) -> SaidBy {
 fn keep_probe(out: &mut Writing, probe: &Probe) {
     match probe {
         Probe::Nothing => {}
-        Probe::Watch(binder) => out.watched = Some(*binder),
-        Probe::Order(first, second) => {
+        Probe::Watch(binder, names) => {
+            out.watched = Some(*binder);
+            out.names = *names;
+        }
+        Probe::Order(first, second, names) => {
             let first = said_by(first);
             let second = said_by(second);
             out.said = Some((first, second));
+            out.names = *names;
         }
         Probe::Names => out.names = true,
     }
@@ -204,5 +213,7 @@ fn term_of(out: Writing) -> ModelTerm
         binders: out.binders,
         places: out.places,
         torn: out.torn,
+        computed: out.computed,
+        says_names: out.says_names,
     }
 }

@@ -1,11 +1,11 @@
 -- Schedules that are drawn entry by entry.
-use Rattle.std.proofs.Common.{◌≡◌, ◌⊎◌, inl, inr, ℕ, ◌+◌, ◌<◌, ◌≤◌, List, [], ◌∷◌, ◌++◌, length, Result, Ok, Err, IfErr, OnOk, sym, ap, ◌∙◌, subst, arith}
+use Rattle.std.proofs.Common.{◌≡◌, ◌⊎◌, inl, inr, ℕ, ◌+◌, ◌<◌, ◌≤◌, List, [], ◌∷◌, ◌++◌, length, Bool, Option, Some, Result, Ok, Err, IfOk, IfErr, OnOk, sym, ap, ◌∙◌, subst, arith}
 use Rattle.std.{proofs.{Common.length-append, lemmas.List.Elements.All-push}, specs.List.{All, fold}}
 use Rattle.derived_ops.specs.Tree.{Tree}
 use Rattle.cell_registry.specs.declared.limits.{Limits.Limits, RunError.RunError}
 use Rattle.scheduled_core.specs.{declared.report.FiberReport.FiberReport, Core.{World, core, entered, first_world, reported}, Finals.IsFinal}
 use Rattle.scheduled_core.proofs.Finality.{final_stays, fold_parts}
-use Rattle.sampled_schedules.specs.Private.Walking.{IsWalk, came}
+use Rattle.sampled_schedules.specs.Private.Walking.{IsWalk, came, was_walked}
 use Rattle.cell_registry.specs.declared.limits.RunError.TheVariants as run
 
 -- one more entry
@@ -84,3 +84,14 @@ pub final_stays_so : (k : Limits) (w : World) → IsFinal w → Stays k w
 final_stays_so k w h = λ s.
     let it = final_stays k w s h in
     ap reported it.is ∙ ap (λ (fs : List FiberReport). Ok record { fibers = fs }) it.reports
+
+-- a drawing that nothing ended walks as its result says
+pub walked_whole : (r : Result Bool RunError) (k : Limits) (w x : World) (a c : List ℕ) (n : ℕ) → IsWalkOr (was_walked r) k w a x c n →
+    IsWalkOr r k w a x c n
+walked_whole (Ok cut) k w x a c n h = elim h [ inl lacks ↦ absurd (cc) | inr goes ↦ inr goes ]
+walked_whole (Err e) k w x a c n h = erred {A = Option Bool} {B = Bool} e k w x a c n h
+
+pub ended_whole : (P : Type 0) (b : Bool) (r : Result Bool RunError) → IfOk (was_walked r) (λ o. o ≡ Some b → P) →
+    IfOk r (λ cut. cut ≡ b → P)
+ended_whole P b (Ok cut) h = λ is. h (ap Some is)
+ended_whole P b (Err e) h = tt

@@ -9,7 +9,7 @@ ghost use Rattle.every_schedule.specs.Claims.{IsMetIn};
 ghost use Rattle.sampled_schedules.specs.Claims.{LooksThrough};
 
 use crate::draws::Draws;
-use crate::sampled::draw;
+use crate::sampled::draw_whole;
 use cell_registry::{Limits, RunError};
 use effect_term::Program;
 use every_schedule::{Claim, Met, note_met};
@@ -46,7 +46,7 @@ pub fn sample_claims(
     let mut schedules = 0;
     while schedules < times {
         let most = entries as usize;
-        let drawn = draw(alloc, first.as_slice(), limits, &mut draws, most)?;
+        let drawn = draw_whole(alloc, first.as_slice(), limits, &mut draws, most)?;
         let schedule = drawn.answer.schedule.as_slice();
         note_met(alloc, program, limits, schedule, claims, &mut met)?;
         schedules += 1;

@@ -1,7 +1,7 @@
 //! The ends of schedules that are drawn at random.
 ghost use Rattle.std.specs.Prelude.{◌≡◌, ◌≢◌, ◌+◌, ◌<◌, ◌≤◌, ◌^◌, ℕ, [], ◌∷◌, length, IfErr, IfNone, IfOk, IfSome};
 ghost use Rattle.std.specs.Prelude.{OnOk, true, false};
-ghost use Rattle.std.specs.Prelude.{Some as There, Err as Fails};
+ghost use Rattle.std.specs.Prelude.{Some as There, None, Err as Fails, Ok as GoesWell};
 ghost use Rattle.std.specs.List.{All, slice_get, sum_by};
 ghost use Rattle.derived_ops.specs.Expansion.{code_of};
 ghost use Rattle.derived_ops.specs.Reading.{source_of};
@@ -15,7 +15,7 @@ ghost use Rattle.every_schedule.specs.Explored.{HasLawfulMarks, IsReached};
 ghost use Rattle.sampled_schedules.specs.declared.comings.Coming.{Coming as TheComing};
 ghost use Rattle.sampled_schedules.specs.Sampled.{IsCutShort, IsDrawing, IsSampleOf, StaysSo};
 ghost use Rattle.sampled_schedules.specs.Private.Noting.{IsNoted, came_in_all, raised};
-ghost use Rattle.sampled_schedules.specs.Private.Walking.{came, was_cut};
+ghost use Rattle.sampled_schedules.specs.Private.Walking.{came, was_cut, was_walked};
 
 use crate::comings::{Coming, Comings, Drawn, Sample};
 use crate::draws::Draws;
@@ -64,8 +64,9 @@ pub fn sample(
     sample_watched(alloc, program, limits, seed, times, entries, &mut Unwatched)
 }
 
-/// Samples as [`sample`] does. Before each schedule the watcher gets the number of schedules that were drawn, and can
-/// end the sample, which then has these schedules. A watcher that can't end the sample leaves all of them.
+/// Samples as [`sample`] does. The watcher is asked before each schedule, and while one is drawn at each fiftieth row of
+/// entries, whether the drawing goes on (`lists_on`). It can end the sample, which then has the schedules that were drawn
+/// whole. A watcher that can't end the sample leaves all of them.
 pub fn sample_watched<V: Watcher>(
     alloc: Global,
     program: &Program,
@@ -87,6 +88,7 @@ pub fn sample_watched<V: Watcher>(
         IsSampleOf (code_of (source_of program.now)) limits entries it.schedules it.comings) }
     ensures counted { IfOk result (λ it. sum_by (λ c. c.times) it.comings ≡ it.schedules) }
     ensures few { IfOk result (λ it. it.schedules ≤ times) }
+    ensures watches { V.can_stop watcher.new ≡ V.can_stop watcher.old }
     ensures whole { V.can_stop watcher.old ≡ false → IfOk result (λ it. it.schedules ≡ times) }
     ensures numbers { IfOk result (λ it. All (λ c. All (λ f. f < 1000) c.answer.schedule) it.comings) }
     ensures short { IfOk result (λ it. All (λ c. length c.answer.schedule ≤ entries) it.comings) }
@@ -97,15 +99,18 @@ pub fn sample_watched<V: Watcher>(
     let mut draws = Draws::new(seed);
     let mut comings = Vec::new(alloc);
     let mut schedules = 0;
-    while schedules < times && watcher.goes_on(schedules as usize, 0) {
-        let drawn = draw(
+    while schedules < times {
+        match draw(
             alloc,
             first.as_slice(),
             limits,
             &mut draws,
             entries as usize,
-        )?;
-        note(&mut comings, drawn)?;
+            &mut *watcher,
+        )? {
+            None => break,
+            Some(drawn) => note(&mut comings, drawn)?,
+        }
         schedules += 1;
     }
     Ok(Sample {
@@ -114,8 +119,57 @@ pub fn sample_watched<V: Watcher>(
     })
 }
 
-/// Draws one more schedule. `first` has the fibers of the program before the first move.
-pub(crate) fn draw(
+/// Draws one more schedule. `first` has the fibers of the program before the first move. `None` if the watcher ended the
+/// drawing.
+pub(crate) fn draw<V: Watcher>(
+    alloc: Global,
+    first: &[Config],
+    limits: Limits,
+    draws: &mut Draws,
+    most: usize,
+    watcher: &mut V,
+) -> Result<Option<Drawn>, AllocError>
+    requires limits { AreLimits limits }
+    requires fits { AllFit (world_of first.now (opening limits)) }
+    ensures drawn { IfOk result (λ it. IfSome it (λ d. (code : Tree) → first.now ≡ begins 0 code ∷ [] →
+        IsDrawing code limits most d)) }
+    ensures lawful { IfOk result (λ it. IfSome it (λ d. HasLawfulMarks d.answer)) }
+    ensures may { IfOk result (λ it. it ≡ None → V.can_stop watcher.old ≡ true) }
+    ensures watches { V.can_stop watcher.new ≡ V.can_stop watcher.old }
+{
+    let mut fibers = copies(alloc, first)?;
+    let mut registry = PlainRegistry::new(
+        alloc,
+        limits.fibers,
+        limits.refs,
+        limits.deferreds,
+        limits.count,
+    )?;
+    let mut schedule = Vec::new(alloc);
+    let walked = walk(
+        &mut fibers,
+        &mut registry,
+        &mut schedule,
+        draws,
+        most,
+        watcher,
+    );
+    match ended(walked) {
+        None => Ok(None),
+        Some(walked) => {
+            let cut = was_cut(&walked);
+            let end = end(alloc, walked, fibers)?;
+            let answer = Answer {
+                schedule: Schedule::new(schedule),
+                end,
+            };
+            Ok(Some(Drawn { answer, cut }))
+        }
+    }
+}
+
+/// Draws one more schedule, whose drawing nothing ends.
+pub(crate) fn draw_whole(
     alloc: Global,
     first: &[Config],
     limits: Limits,
@@ -127,23 +181,22 @@ pub(crate) fn draw(
     ensures drawn { IfOk result (λ d. (code : Tree) → first.now ≡ begins 0 code ∷ [] → IsDrawing code limits most d) }
     ensures lawful { IfOk result (λ d. HasLawfulMarks d.answer) }
 {
-    let mut fibers = copies(alloc, first)?;
-    let mut registry = PlainRegistry::new(
-        alloc,
-        limits.fibers,
-        limits.refs,
-        limits.deferreds,
-        limits.count,
-    )?;
-    let mut schedule = Vec::new(alloc);
-    let walked = walk(&mut fibers, &mut registry, &mut schedule, draws, most);
-    let cut = was_cut(&walked);
-    let end = end(alloc, walked, fibers)?;
-    let answer = Answer {
-        schedule: Schedule::new(schedule),
-        end,
-    };
-    Ok(Drawn { answer, cut })
+    match draw(alloc, first, limits, draws, most, &mut Unwatched)? {
+        Some(drawn) => Ok(drawn),
+        None => Err(AllocError),
+    }
+}
+
+// The result of entries that the watcher didn't end.
+fn ended(walked: Result<Option<bool>, RunError>) -> Option<Result<bool, RunError>>
+    ensures some { IfSome result (λ it. walked ≡ was_walked it) }
+    ensures none { IfNone result (walked ≡ GoesWell None) }
+{
+    match walked {
+        Ok(None) => None,
+        Ok(Some(cut)) => Some(Ok(cut)),
+        Err(fault) => Some(Err(fault)),
+    }
 }
 
 // Whether the entries were cut short.

@@ -1,6 +1,6 @@
 //! One schedule, drawn entry by entry while the fibers make their moves.
 ghost use Rattle.std.specs.Prelude.{◌≡◌, ◌⊎◌, ◌+◌, ◌++◌, ◌<◌, ◌≤◌, [], ◌∷◌, length, IfNone, IfOk, IfSome, OnOk};
-ghost use Rattle.std.specs.Prelude.{Err as Fails, true, false};
+ghost use Rattle.std.specs.Prelude.{Err as Fails, true, false, None, Some};
 ghost use Rattle.scheduled_core.specs.Finals.{IsFinal};
 ghost use Rattle.scheduled_core.specs.Fitting.{AllFit, world_of};
 ghost use Rattle.sampled_schedules.specs.Private.Walking.{HasUnendedFiber, IsWalk, came};
@@ -8,36 +8,59 @@ ghost use Rattle.sampled_schedules.specs.Private.Walking.{HasUnendedFiber, IsWal
 use crate::draws::Draws;
 use cell_registry::{PlainRegistry, RunError};
 use effect_term::facts_of;
+use every_schedule::Watcher;
 use fiber_frames::Config;
 use scheduled_core::{enter, is_done};
 use std::alloc::AllocError;
 
+// The watcher is asked once in this number of rows of entries.
+const ASKED_EACH: usize = 50;
+
+// The quarters of the time after a search that samples can take.
+const DRAWN: u32 = 4;
+
 /// Draws entries until no fiber can go on, or the schedule has `most` entries. Returns whether it was cut short: it has
-/// `most` entries, and a fiber could still go on.
-pub(crate) fn walk(
+/// `most` entries, and a fiber could still go on. `None` if the watcher ended the drawing before.
+pub(crate) fn walk<V: Watcher>(
     fibers: &mut Vec<Config>,
     registry: &mut PlainRegistry,
     schedule: &mut Vec<u16>,
     draws: &mut Draws,
     most: usize,
-) -> Result<bool, RunError>
+    watcher: &mut V,
+) -> Result<Option<bool>, RunError>
     requires fits { AllFit (world_of fibers.old.items registry.old.state) }
     requires start { schedule.old.items ≡ [] }
     ensures walked { (result ≡ Fails RunError.NoMemory) ⊎
         IsWalk registry.old.limits (world_of fibers.old.items registry.old.state) schedule.old.items
         (came result (world_of fibers.new.items registry.new.state)) schedule.new.items most }
-    ensures ended { IfOk result (λ cut. cut ≡ false → IsFinal (world_of fibers.new.items registry.new.state)) }
-    ensures cut { IfOk result (λ cut. cut ≡ true →
+    ensures ended { IfOk result (λ cut. cut ≡ Some false → IsFinal (world_of fibers.new.items registry.new.state)) }
+    ensures cut { IfOk result (λ cut. cut ≡ Some true →
         (length schedule.new.items ≡ most) × HasUnendedFiber fibers.new.items) }
+    ensures may { IfOk result (λ cut. cut ≡ None → V.can_stop watcher.old ≡ true) }
+    ensures watches { V.can_stop watcher.new ≡ V.can_stop watcher.old }
 {
+    let mut rows = 0usize;
     while schedule.len() < most {
+        if !lets_draw(&mut *watcher, rows) {
+            return Ok(None);
+        }
         let Some(number) = pick(fibers.as_slice(), registry, draws) else {
-            return Ok(false);
+            return Ok(Some(false));
         };
         let many = (draws.row() as usize).min(most - schedule.len());
         make_row(fibers, registry, schedule, number, many)?;
+        rows = rows.wrapping_add(1);
     }
-    Ok(could_go_on(fibers.as_slice(), registry))
+    Ok(Some(could_go_on(fibers.as_slice(), registry)))
+}
+
+// Whether the drawing goes on after so many rows of entries. The watcher is asked at the first of each 50.
+fn lets_draw<V: Watcher>(watcher: &mut V, rows: usize) -> bool
+    ensures same { V.can_stop watcher.new ≡ V.can_stop watcher.old }
+    ensures can { result ≡ false → V.can_stop watcher.old ≡ true }
+{
+    rows % ASKED_EACH != 0 || watcher.lists_on(DRAWN)
 }
 
 // Whether a fiber could still go on.

@@ -18,11 +18,11 @@ pub enum NameKind {
 /// The name in the file of a binder of a term.
 #[derive(Clone, Copy, PartialEq, Eq, Debug)]
 pub enum BinderName {
-    /// A word of the file: the number of its form.
+    /// A word of the file: the number of its form. A fiber can have the word `_`.
     Word(usize),
     /// A name of a row, such as `w.1`: the number of the form that spells the row's name, and the number in the row.
     Row(usize, usize),
-    /// No name of the file: `_`, or a name that the translation made.
+    /// No name of the file: a `_` that binds no fiber, or a name that the translation made.
     Hidden,
     /// A fiber that reads a ref once, at any moment (`Probe::Watch` of `model_terms`).
     Watcher,
@@ -48,4 +48,6 @@ pub struct WordPlace {
     pub term: usize,
     /// The number of the form of the file that the form of the term is written for.
     pub form: usize,
+    /// Whether the form is a `say` that the translation added: of a fiber's name, or that an order was broken.
+    pub is_added: bool,
 }

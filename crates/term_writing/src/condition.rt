@@ -109,7 +109,7 @@ fn tested_value(read: Reading, out: &mut Writing, at: usize, here: Here) -> Resu
     };
     let less = number.saturating_neg();
     if Value::of(less).is_none() {
-        return Err(wrong_at(read, Wrong::NoNumber, right, here.view));
+        return Err(wrong_at(read, Wrong::NoOpposite, right, here.view));
     }
     let operand = value(read, out, left, here)?;
     if number == 0 {

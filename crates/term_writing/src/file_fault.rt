@@ -1,9 +1,9 @@
 //! The messages for a fault of a file that is found before its models are translated.
 
-use crate::nearness::{distance, least_apart};
+use crate::near_names::near_word;
 use crate::reading::bytes_of;
 use crate::refused::{Refused, SourceFault};
-use crate::told::{tell, tell_count, tell_quoted};
+use crate::told::{note_line, tell, tell_count, tell_quoted};
 use crate::wording::{note_meant, note_place, tell_no_number};
 use crate::wrong::Span;
 use model_forms::{FormFault, read_forms};
@@ -107,8 +107,8 @@ fn end_of(alloc: Global, text: &[u8], place: usize) -> usize {
 // The words of items.
 const ITEMS: [&str; 3] = ["define", "defaults", "model"];
 
-// The words of what a model has.
-const CLAIMS: [&str; 19] = [
+/// The words of what a model has.
+pub(crate) const CLAIMS: [&str; 19] = [
     "all-end",
     "always",
     "before",
@@ -143,20 +143,6 @@ fn head_of(list: &[u8]) -> &[u8] {
     }
 }
 
-// The word that is nearest to a spelling; empty if none is near.
-fn near_word(words: &[&'static str], spelled: &[u8]) -> &'static [u8] {
-    let mut best: &'static [u8] = b"";
-    let mut apart = least_apart(spelled.len());
-    for word in words {
-        let far = distance(spelled, word.as_bytes());
-        if far < apart {
-            apart = far;
-            best = word.as_bytes();
-        }
-    }
-    best
-}
-
 // Adds the notes on the fault of a form with these bytes.
 fn note_file(
     alloc: Global,
@@ -167,19 +153,17 @@ fn note_file(
     let head = head_of(spelled);
     match fault {
         FileFault::Item(ItemFault::NotAnItem(_)) if word_of(head).is_some() => {
-            let mut told = Vec::new(alloc);
-            tell(
-                &mut told,
+            note_line(
+                alloc,
+                notes,
                 "this is a term: `fiber_cli explore` reads one from standard input",
-            )?;
-            notes.push(told)?;
-            Ok(())
+            )
         }
         FileFault::Item(ItemFault::NotAnItem(_)) => {
-            note_meant(alloc, notes, near_word(&ITEMS, head))
+            note_meant(alloc, notes, near_word(&ITEMS, head).spelled)
         }
         FileFault::Item(ItemFault::NotAClaim(_)) => {
-            note_meant(alloc, notes, near_word(&CLAIMS, head))
+            note_meant(alloc, notes, near_word(&CLAIMS, head).spelled)
         }
         _ => Ok(()),
     }

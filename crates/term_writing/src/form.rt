@@ -442,13 +442,18 @@ fn plan_binder(
     at: usize,
 ) -> Result<(), Stop> {
     let name = fresh_at(read, out, at, work.here.view)?;
-    let binder = binder_name(read, at);
+    let binder = match kind {
+        NameKind::Fiber => BinderName::Word(at),
+        NameKind::Value | NameKind::Ref | NameKind::Deferred | NameKind::Poll => {
+            binder_name(read, at)
+        }
+    };
     out.made
         .push(bound_at(read, at, Meaning::Name(kind, name)))?;
     out.then(Task::Bind(name, kind, binder))
 }
 
-/// The name in the file of the binder that the form with this number spells.
+/// The name in the file of the binder that the form with this number spells, if it binds no fiber: none for `_`.
 pub(crate) fn binder_name(read: Reading, at: usize) -> BinderName {
     if is_hidden(read, at) {
         BinderName::Hidden

@@ -14,18 +14,18 @@
 //! 65,536 bytes and 100 open brackets, and the steps are bounded: a term that exceeds one of these limits has fault
 //! `E23`.
 //!
-//! It promises that no call fails at run time, and that each returns. Beside this only the range of [`is_name`] is
-//! proved. That a written text is that of a term is checked by `model_terms`.
+//! It promises that no call fails at run time, and that each returns. That a written text is that of a term is checked
+//! by `model_terms`.
 #![tactic(auto)]
 
 mod binder;
 mod condition;
-mod effect_names;
 mod file_fault;
 mod form;
 mod look;
 mod name_says;
 mod named;
+mod near_names;
 mod nearness;
 mod probe;
 mod reading;
@@ -38,6 +38,7 @@ mod task;
 mod term;
 mod told;
 mod trial;
+mod unknown_word;
 mod uses;
 mod wording;
 mod writing;
@@ -45,7 +46,7 @@ mod wrong;
 
 pub use binder::{Binder, BinderName, NameKind, WordPlace};
 pub use file_fault::{NameFault, file_refused, twice_refused};
-pub use name_says::{LATE, is_name};
+pub use name_says::LATE;
 pub use named::{ItemNames, NamedItem, name_of};
 pub use nearness::{distance, least_apart};
 pub use reading::{Reading, bytes_of, first_of, span_of};
@@ -56,5 +57,5 @@ pub use task::Task;
 pub use term::write_all;
 pub use trial::try_definitions;
 pub use wording::term_refused;
-pub use writing::{MOST_BYTES, SaidBy, Writing};
+pub use writing::{ComputedSay, MOST_BYTES, SaidBy, Writing};
 pub use wrong::{Limit, Span, Stop};

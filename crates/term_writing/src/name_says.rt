@@ -1,6 +1,7 @@
 //! Values that fibers say for their names, and for an order that was broken.
-
-ghost use Rattle.std.specs.Prelude.{◌↔◌, ◌<ℤ◌, ◌≤ℤ◌, pos, IsTrue};
+//!
+//! A program can say such a number itself: a `say` that the translation added is known by its place
+//! ([`WordPlace`](crate::WordPlace)).
 
 use crate::scope::FiberName;
 
@@ -13,12 +14,9 @@ const FIRST: i64 = 4611686000000000000;
 /// The value that a fiber that watches a ref says.
 pub(crate) const WATCHER: i64 = FIRST + 2;
 
-/// Whether this is a value that a fiber says for its name (`Probe::Names` of `model_terms`), or to show that it watches
-/// a ref: 4611686000000000000 to 4611686018427387900. If a file says one itself, its claims don't see it.
-pub fn is_name(value: i64) -> bool
-    ensures { IsTrue result ↔ (pos 4611686000000000000 ≤ℤ value) × (value <ℤ pos 4611686018427387901) }
-{
-    FIRST <= value && value < LATE
+/// Whether this is a value that the translation can say: that of a name, or that of a broken order.
+pub(crate) fn is_added_value(value: i64) -> bool {
+    FIRST <= value && value <= LATE
 }
 
 /// The value that a fiber says for its name: fibers of different names say different values.

@@ -2,11 +2,11 @@
 
 use crate::binder::{BinderName, NameKind};
 use crate::look::value;
-use crate::name_says::{LATE, WATCHER, name_value};
+use crate::name_says::{LATE, WATCHER, is_added_value, name_value};
 use crate::reading::Reading;
 use crate::scope::{FiberName, Here, Operand};
 use crate::task::Task;
-use crate::writing::{SaidBy, Writing};
+use crate::writing::{ComputedSay, SaidBy, Writing};
 use crate::wrong::Stop;
 use itoa::Buffer;
 use term_parse::Word;
@@ -41,7 +41,7 @@ pub(crate) fn say_name(out: &mut Writing, at: usize, fiber: FiberName) -> Result
 // Opens a `seq` whose first part says this value.
 fn say_before(out: &mut Writing, at: usize, value: i64) -> Result<(), Stop> {
     out.then(Task::Open(Word::Seq, at))?;
-    out.then(Task::Open(Word::Say, at))?;
+    out.then(Task::AddedSay(at))?;
     out.then(Task::Operand(Operand::Number(value)))?;
     out.then(Task::Close(1))
 }
@@ -55,10 +55,20 @@ fn is_one_of(spelled: &[u8], row: &[u8], number: usize) -> bool {
         && spelled.get(row.len().saturating_add(1)..) == Some(behind)
 }
 
-// Whether this is the name of a fiber, or of its row.
+// Whether a claim that spells this is about a fiber: by its name, by the name of its row, or by `*`. `main` is the first
+// fiber alone.
 fn is_called(read: Reading, fiber: FiberName, spelled: &[u8]) -> bool {
+    match spelled {
+        b"*" => true,
+        b"main" => matches!(fiber, FiberName::Main),
+        _ => has_name(read, fiber, spelled),
+    }
+}
+
+// Whether this is the name of a fiber that another one starts, or of its row.
+fn has_name(read: Reading, fiber: FiberName, spelled: &[u8]) -> bool {
     match fiber {
-        FiberName::Main => spelled == b"main".as_slice(),
+        FiberName::Main => false,
         FiberName::Left => spelled == b"left".as_slice(),
         FiberName::Right => spelled == b"right".as_slice(),
         FiberName::Word(at) => spelled == read.word(at),
@@ -79,11 +89,12 @@ fn is_said(read: Reading, said: SaidBy, fiber: FiberName, operand: Operand) -> b
     }
 }
 
-// One of the two compared `say`s, or neither.
+// One of the two compared `say`s, both, or neither.
 #[derive(Clone, Copy)]
 enum Turn {
     First,
     Second,
+    Both,
     Neither,
 }
 
@@ -96,12 +107,13 @@ fn turn_of(
 ) -> Turn {
     match said {
         Some((first, second)) => {
-            if is_said(read, first, fiber, operand) {
-                Turn::First
-            } else if is_said(read, second, fiber, operand) {
-                Turn::Second
-            } else {
-                Turn::Neither
+            let is_first = is_said(read, first, fiber, operand);
+            let is_second = is_said(read, second, fiber, operand);
+            match (is_first, is_second) {
+                (true, true) => Turn::Both,
+                (true, false) => Turn::First,
+                (false, true) => Turn::Second,
+                (false, false) => Turn::Neither,
             }
         }
         None => Turn::Neither,
@@ -118,10 +130,15 @@ pub(crate) fn say(
 ) -> Result<(), Stop> {
     out.lets = 0;
     let operand = value(read, out, first, here)?;
+    note_say(out, at, here.fiber, operand)?;
     let turn = turn_of(read, out.said, here.fiber, operand);
     match turn {
         Turn::First => say_first(out, at)?,
         Turn::Second => say_second(out, at)?,
+        Turn::Both => {
+            say_second(out, at)?;
+            set_order(out, at)?;
+        }
         Turn::Neither => {}
     }
     out.then(Task::Open(Word::Say, at))?;
@@ -130,17 +147,34 @@ pub(crate) fn say(
     out.then(Task::Close(open))
 }
 
+// Notes a `say` of this value by this fiber, if its value is computed, or one that the translation can say.
+fn note_say(out: &mut Writing, form: usize, fiber: FiberName, value: Operand) -> Result<(), Stop> {
+    match value {
+        Operand::Number(number) => out.says_names = out.says_names || is_added_value(number),
+        Operand::Name(_) => {
+            out.says_names = true;
+            out.computed.push(ComputedSay { fiber, form })?;
+        }
+    }
+    Ok(())
+}
+
 // Opens a mask around the first of the two `say`s, and sets the hidden ref there.
 fn say_first(out: &mut Writing, at: usize) -> Result<(), Stop> {
-    let order = out.order;
     open_mask(out, at)?;
     out.then(Task::Open(Word::Seq, at))?;
+    set_order(out, at)?;
+    out.lets = out.lets.saturating_add(2);
+    Ok(())
+}
+
+// Sets the hidden ref.
+fn set_order(out: &mut Writing, at: usize) -> Result<(), Stop> {
+    let order = out.order;
     out.then(Task::Open(Word::Set, at))?;
     out.then(Task::Operand(Operand::Name(order)))?;
     out.then(Task::Operand(Operand::Number(1)))?;
-    out.then(Task::Close(1))?;
-    out.lets = out.lets.saturating_add(2);
-    Ok(())
+    out.then(Task::Close(1))
 }
 
 // Opens a mask.
@@ -170,7 +204,7 @@ fn say_second(out: &mut Writing, at: usize) -> Result<(), Stop> {
 fn say_late(out: &mut Writing, at: usize, was: usize) -> Result<(), Stop> {
     out.then(Task::Open(Word::If0, at))?;
     out.then(Task::Operand(Operand::Name(was)))?;
-    out.then(Task::Open(Word::Say, at))?;
+    out.then(Task::AddedSay(at))?;
     out.then(Task::Operand(Operand::Number(LATE)))?;
     out.then(Task::Close(1))?;
     out.then(Task::Open(Word::Pure, at))?;

@@ -206,9 +206,10 @@ fn plan_row(
     out.then(Task::Close(open))
 }
 
-// The name in the file of the name with this number in a row.
+// The name in the file of the name with this number in a row. Fibers of a row `_` are fibers of the file, too.
 fn row_name(read: Reading, work: RowWork, number: usize) -> BinderName {
-    if is_hidden(read, work.name) {
+    let is_nameless = is_hidden(read, work.name) && !matches!(work.word, RowWord::Starts);
+    if is_nameless {
         BinderName::Hidden
     } else {
         BinderName::Row(work.name, number)

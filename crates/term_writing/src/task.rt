@@ -17,6 +17,8 @@ pub(crate) enum Follow {
 pub enum Task {
     /// An opening bracket and its word, and the number of the form that they are written for.
     Open(Word, usize),
+    /// The same for a `say` that the translation adds to the file's.
+    AddedSay(usize),
     /// This number of closing brackets.
     Close(usize),
     /// A value, or the use of a name.

@@ -37,7 +37,8 @@ pub fn write_all(read: Reading, out: &mut Writing) -> Result<(), Stop> {
 // Does one task.
 fn step(read: Reading, out: &mut Writing, task: Task) -> Result<(), Stop> {
     match task {
-        Task::Open(word, form) => out.write_open(word, form),
+        Task::Open(word, form) => out.write_open(word, form, false),
+        Task::AddedSay(form) => out.write_open(Word::Say, form, true),
         Task::Close(count) => out.write_close(count),
         Task::Operand(operand) => out.write_operand(operand),
         Task::Bind(name, kind, binder) => out.write_binder(name, kind, binder),

@@ -3,7 +3,7 @@
 use crate::binder::NameKind;
 use crate::wrong::Sort;
 use itoa::Buffer;
-use std::alloc::AllocError;
+use std::alloc::{AllocError, Global};
 
 // The greatest number of bytes of a name that are shown.
 const MOST_SHOWN: usize = 40;
@@ -11,6 +11,17 @@ const MOST_SHOWN: usize = 40;
 /// Adds text.
 pub(crate) fn tell(told: &mut Vec<u8>, text: &str) -> Result<(), AllocError> {
     told.extend_from_slice(text.as_bytes())
+}
+
+/// Adds a note of these words.
+pub(crate) fn note_line(
+    alloc: Global,
+    notes: &mut Vec<Vec<u8>>,
+    words: &str,
+) -> Result<(), AllocError> {
+    let line = Vec::from_slice(alloc, words.as_bytes())?;
+    notes.push(line)?;
+    Ok(())
 }
 
 /// Adds a number.

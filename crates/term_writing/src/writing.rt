@@ -2,7 +2,7 @@
 
 use crate::binder::{Binder, BinderName, NameKind, WordPlace};
 use crate::reading::bytes_of;
-use crate::scope::{Bound, Handed, Meaning, NONE, Operand, Use};
+use crate::scope::{Bound, FiberName, Handed, Meaning, NONE, Operand, Use};
 use crate::spelling::Spellings;
 use crate::task::Task;
 use crate::wrong::{Limit, Span, Stop};
@@ -28,6 +28,15 @@ pub struct SaidBy {
     pub value: i64,
 }
 
+/// A `say` of a value that isn't a number of the file.
+#[derive(Clone, Copy)]
+pub struct ComputedSay {
+    /// The fiber that says it.
+    pub fiber: FiberName,
+    /// The number of the form of the `say`.
+    pub form: usize,
+}
+
 /// A term that is partly written.
 #[derive(Drop)]
 pub struct Writing {
@@ -39,6 +48,10 @@ pub struct Writing {
     pub places: Vec<WordPlace>,
     /// The forms of the file that read a ref whose value then changes the ref.
     pub torn: Vec<usize>,
+    /// The `say`s of values that only a run shows, in the order of the text.
+    pub computed: Vec<ComputedSay>,
+    /// Whether the term can say a number that the translation says for a name: computed, or written in the file.
+    pub says_names: bool,
     /// The binder whose refs are watched.
     pub watched: Option<BinderName>,
     /// The two `say`s whose order is compared.
@@ -74,6 +87,8 @@ impl Writing {
             binders: Vec::new(alloc),
             places: Vec::new(alloc),
             torn: Vec::new(alloc),
+            computed: Vec::new(alloc),
+            says_names: false,
             watched: None,
             said: None,
             names: false,
@@ -197,15 +212,25 @@ impl Writing {
         self.write(b" ")
     }
 
-    /// Writes an opening bracket and its word, for the form with this number.
-    pub(crate) fn write_open(&mut self, word: Word, form: usize) -> Result<(), Stop> {
+    /// Writes an opening bracket and its word, for the form with this number. `is_added` is that of its
+    /// [`WordPlace`].
+    pub(crate) fn write_open(
+        &mut self,
+        word: Word,
+        form: usize,
+        is_added: bool,
+    ) -> Result<(), Stop> {
         if MOST_OPEN <= self.open {
             return Err(Stop::Limit(Limit::TooDeep));
         }
         self.open = self.open.saturating_add(1);
         self.write_space()?;
         let term = self.text.len();
-        self.places.push(WordPlace { term, form })?;
+        self.places.push(WordPlace {
+            term,
+            form,
+            is_added,
+        })?;
         self.write(b"(")?;
         self.write(spelling_of(word))
     }

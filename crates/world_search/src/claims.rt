@@ -1,6 +1,6 @@
 //! Claims of worlds, checked in each world that was met.
 
-ghost use Rattle.std.specs.Prelude.{◌≡◌, ℕ, ◌<◌, ◌≤◌, List, Bool, length, true, false, max, Ok as GoesWell};
+ghost use Rattle.std.specs.Prelude.{◌≡◌, ◌⊎◌, ℕ, ◌<◌, ◌≤◌, List, Bool, length, true, false, max, Ok as GoesWell};
 ghost use Rattle.std.specs.Prelude.{IfNone, IfOk, IfSome, OnOk, Some};
 ghost use Rattle.std.specs.List.{slice_get, All};
 ghost use Rattle.world_search.specs.Answers.{IsAtBound};
@@ -18,6 +18,9 @@ use crate::searching::limits_of;
 use crate::store::Worlds;
 use crate::watching::Watcher;
 use std::alloc::{AllocError, Global};
+
+// The quarters of the time after a search that the check of claims can take.
+const CHECKED: u32 = 2;
 
 /// A store of worlds that may meet claims.
 pub trait Claims: Worlds {
@@ -62,7 +65,8 @@ pub struct Claimed {
 /// Searches every schedule from the first world of a store for worlds that meet claims.
 ///
 /// The search meets the same worlds as [`search`](crate::search), and checks each claim in one world after another
-/// until a world meets the claim. The watcher and the bound on memory have the same effects as there.
+/// until a world meets the claim. The watcher and the bound on memory have the same effects as there. Before each claim
+/// but the first, the watcher is asked whether the check goes on; if it ends the check, the result isn't complete.
 pub fn search_claims<W: Claims, V: Watcher>(
     alloc: Global,
     worlds: &mut W,
@@ -91,35 +95,68 @@ pub fn search_claims<W: Claims, V: Watcher>(
     ensures spare { IfOk result (λ it. it.complete ≡ true → it.bytes < bounds.memory) }
 {
     let mut graph = begin(alloc)?;
-    let closing = explore(&mut *worlds, &mut graph, limits_of(bounds), watcher)?;
-    let met = list_met(alloc, &*worlds, graph.nodes.as_slice(), claims)?;
+    let closing = explore(&mut *worlds, &mut graph, limits_of(bounds), &mut *watcher)?;
+    let listed = list_met(alloc, &*worlds, graph.nodes.as_slice(), claims, watcher)?;
     Ok(Claimed {
-        met,
-        complete: closing.is_whole(),
-        halted: closing.is_halted(),
+        met: listed.met,
+        complete: both(closing.is_whole(), listed.whole),
+        halted: either(closing.is_halted(), !listed.whole),
         worlds: worlds.len(),
         bytes: bytes_of(&*worlds, &graph),
     })
 }
 
-// Lists the claims that worlds of these nodes meet.
-fn list_met<W: Claims>(
+// Whether both are true.
+fn both(one: bool, other: bool) -> bool
+    ensures one { result ≡ true → one ≡ true }
+    ensures other { result ≡ true → other ≡ true }
+    ensures neither { result ≡ false → (one ≡ false) ⊎ (other ≡ false) }
+{
+    one && other
+}
+
+// Whether one of the two is true.
+fn either(one: bool, other: bool) -> bool
+    ensures some { result ≡ true → (one ≡ true) ⊎ (other ≡ true) }
+    ensures one { result ≡ false → one ≡ false }
+    ensures other { result ≡ false → other ≡ false }
+{
+    one || other
+}
+
+// The claims that worlds meet, and whether all claims were checked.
+#[derive(Drop)]
+struct Checked {
+    met: Vec<Met>,
+    whole: bool,
+}
+
+// Lists the claims that worlds of these nodes meet. Before each claim but the first, the watcher can end the list.
+fn list_met<W: Claims, V: Watcher>(
     alloc: Global,
     worlds: &W,
     nodes: &[Node],
     claims: &[W::Claim],
-) -> Result<Vec<Met>, AllocError>
+    watcher: &mut V,
+) -> Result<Checked, AllocError>
     requires chained { AreChained nodes.now }
     requires known { length nodes.now ≤ length (W.worlds worlds.now) }
-    ensures listed { IfOk result (λ it. AreListedMet W.meets (W.worlds worlds.now) nodes.now claims.now it.items) }
-    ensures looked { IfOk result (λ it. AreLooked W.meets (W.worlds worlds.now) (length nodes.now) claims.now
-        (length claims.now) it.items) }
+    ensures listed { IfOk result (λ it. AreListedMet W.meets (W.worlds worlds.now) nodes.now claims.now it.met.items) }
+    ensures looked { IfOk result (λ it. it.whole ≡ true → AreLooked W.meets (W.worlds worlds.now) (length nodes.now)
+        claims.now (length claims.now) it.met.items) }
+    ensures halted { IfOk result (λ it. it.whole ≡ false → V.has_stopped watcher.new ≡ true) }
+    ensures may { IfOk result (λ it. it.whole ≡ false → V.can_stop watcher.old ≡ true) }
+    ensures keeps { V.has_stopped watcher.old ≡ true → V.has_stopped watcher.new ≡ true }
+    ensures watches { V.can_stop watcher.new ≡ V.can_stop watcher.old }
 {
     let mut met = Vec::new(alloc);
     for number in 0..claims.len() {
+        if number > 0 && !watcher.lists_on(CHECKED) {
+            return Ok(Checked { met, whole: false });
+        }
         look_for(alloc, worlds, nodes, claims, number, &mut met)?;
     }
-    Ok(met)
+    Ok(Checked { met, whole: true })
 }
 
 // Adds the claim of this number, if a world meets it.

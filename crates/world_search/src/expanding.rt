@@ -16,8 +16,10 @@ use crate::store::Worlds;
 use crate::watching::Watcher;
 use std::alloc::AllocError;
 
-// The watcher is asked once for this number of worlds.
+// The watcher is asked once for this number of worlds, and once these bytes were counted since it was asked last.
 const ASKED_EACH: usize = 100;
+
+const ASKED_BYTES: usize = 1 << 20;
 
 /// The limits of a search.
 #[derive(Clone, Copy)]
@@ -103,8 +105,14 @@ pub fn explore<W: Worlds, V: Watcher>(
 {
     let mut whole = true;
     let mut index = 0;
+    let mut asked = 0;
     while index < graph.nodes.len() && has_room(&*worlds, &*graph, index, limits) {
-        if !lets_go_on(&mut *watcher, &*graph, index) {
+        let bytes = bytes_of(&*worlds, &*graph);
+        let grown = bytes.saturating_sub(asked);
+        if grown >= ASKED_BYTES {
+            asked = bytes;
+        }
+        if !lets_go_on(&mut *watcher, &*graph, index, grown) {
             return Ok(Closing::Halted);
         }
         if !expand(&mut *worlds, &mut *graph, index, limits)? {
@@ -156,14 +164,15 @@ fn closing_at<W: Worlds>(worlds: &W, graph: &Graph, index: usize, limits: Limits
     }
 }
 
-// Whether the search goes on at the world of this number: asks the watcher if it is due.
-fn lets_go_on<V: Watcher>(watcher: &mut V, graph: &Graph, index: usize) -> bool
+// Whether the search goes on at the world of this number: asks the watcher if it is due. `grown` is the number of bytes
+// that were counted since it was asked last for their sake.
+fn lets_go_on<V: Watcher>(watcher: &mut V, graph: &Graph, index: usize, grown: usize) -> bool
     requires { index < length graph.now.nodes.items }
     ensures same { V.can_stop watcher.new ≡ V.can_stop watcher.old }
     ensures can { result ≡ false → V.can_stop watcher.old ≡ true }
     ensures says { result ≡ false → V.has_stopped watcher.new ≡ true }
 {
-    if index % ASKED_EACH != ASKED_EACH - 1 {
+    if index % ASKED_EACH != ASKED_EACH - 1 && grown < ASKED_BYTES {
         return true;
     }
     watcher.goes_on(graph.nodes.len(), graph.nodes[index].depth as usize)

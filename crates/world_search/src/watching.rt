@@ -15,6 +15,18 @@ pub trait Watcher {
         ensures same { can_stop self.new ≡ can_stop self.old }
         ensures can { result ≡ false → can_stop self.old ≡ true }
         ensures says { result ≡ false → has_stopped self.new ≡ true };
+
+    /// Whether the work after a search goes on: the listing of what the search has found, or a sample. It can take
+    /// `quarters` quarters of the time that the watcher leaves for all of this work. Without a body of its own, a
+    /// watcher lets this work go on.
+    fn lists_on(&mut self, _quarters: u32) -> bool
+        ensures same { can_stop self.new ≡ can_stop self.old }
+        ensures can { result ≡ false → can_stop self.old ≡ true }
+        ensures says { result ≡ false → has_stopped self.new ≡ true }
+        ensures keeps { has_stopped self.old ≡ true → has_stopped self.new ≡ true }
+    {
+        true
+    }
 }
 
 /// A watcher that lets each search go on.

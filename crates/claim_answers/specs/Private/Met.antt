@@ -1,5 +1,5 @@
 -- The result of a search for claims.
-use Rattle.std.specs.Prelude.{◌≡◌, ◌<◌, ◌≤◌, ⊤, ℕ, Bool, true, false, List, Some, length}
+use Rattle.std.specs.Prelude.{◌≡◌, ◌<◌, ◌≤◌, ⊤, ℕ, Bool, true, false, List, Some, length, map}
 use Rattle.std.specs.declared.alloc.Global.{Global}
 use Rattle.std.specs.declared.vec.Vec.{Vec}
 use Rattle.std.specs.List.{All, slice_get}
@@ -16,9 +16,25 @@ use Rattle.claim_answers.specs.declared.lines.ClaimForm.{ClaimForm}
 use Rattle.sampled_schedules.specs.declared.comings.Drawn.{Drawn}
 use Rattle.sampled_schedules.specs.Sampled.{IsDrawing}
 use Rattle.exploration_text.specs.declared.sample_texts.SampleOrder.{SampleOrder}
-use Rattle.claim_answers.specs.Claims.{Pairwise}
-use Rattle.claim_answers.specs.Drawn.{IsSeen, IsSeenLine}
-use Rattle.claim_answers.specs.Verdicts.{IsLine}
+use Rattle.claim_answers.specs.declared.moments.Among.TheVariants as among
+use Rattle.claim_answers.specs.Claims.{IsDecided, Pairwise, all_set}
+use Rattle.claim_answers.specs.Drawn.{IsSeen, IsSeenLine, seen_status}
+use Rattle.claim_answers.specs.Unchecked.{AreUnchecked}
+use Rattle.claim_answers.specs.Verdicts.{AreLines, IsLine, claims_status}
+use Rattle.text_io.specs.declared.status.Status.{Status}
+
+-- the verdicts are right for the words that decide the claims, and for those that are true when the claims are checked;
+-- and this is written of them
+pub record AreJudgedBy (code : Tree) (form : ClaimForm) (k : Limits) (asked : List Asked) (soughts : List (List ClaimWord))
+    (lines : List ℕ) (status : Status) (notes : List ℕ) : Type 0
+  where
+    pub verdicts : List Verdict
+    pub decided : Pairwise (IsDecided code k) soughts verdicts
+    pub moments : List Verdict
+    pub checked : Pairwise (IsDecided code k) (map all_set soughts) moments
+    pub lines_are : AreLines (IsLine form) asked verdicts lines
+    pub status_is : status ≡ claims_status asked verdicts
+    pub notes_are : AreUnchecked among.All asked moments notes
 
 -- each claim in `met` was met by its schedule, and if the search is complete, no schedule meets another claim
 pub record AreMet (code : Tree) (k : Limits) (wanted : List (List ClaimWord)) (complete : Bool) (met : List Met)
@@ -71,3 +87,19 @@ pub record AreSeenBy (code : Tree) (o : SampleOrder) (soughts : List (List Claim
     pub many : length drawn ≡ o.times
     pub each : All (IsDrawing code o.limits o.entries) drawn
     pub seen : Pairwise (IsSeen code o.limits drawn) soughts verdicts
+
+-- schedules were drawn as the order says; the verdicts are right for them, those on the claims and those on when the
+-- claims are checked; and this is written of them
+pub record AreSeenIn (code : Tree) (json : Bool) (o : SampleOrder) (asked : List Asked) (soughts : List (List ClaimWord))
+    (lines : List ℕ) (status : Status) (notes : List ℕ) : Type 0
+  where
+    pub drawn : List Drawn
+    pub many : length drawn ≡ o.times
+    pub each : All (IsDrawing code o.limits o.entries) drawn
+    pub verdicts : List Verdict
+    pub seen : Pairwise (IsSeen code o.limits drawn) soughts verdicts
+    pub moments : List Verdict
+    pub checked : Pairwise (IsSeen code o.limits drawn) (map all_set soughts) moments
+    pub lines_are : AreLines (IsSeenLine json o.times) asked verdicts lines
+    pub status_is : status ≡ seen_status asked verdicts
+    pub notes_are : AreUnchecked among.Drawn asked moments notes

@@ -1,5 +1,5 @@
 -- Where entries lead, one after another.
-use Rattle.std.specs.Prelude.{◌≡◌, ◌+◌, ◌<◌, ◌≤◌, ℕ, Bool, false, List, length, Some, None, Result, Ok, Err}
+use Rattle.std.specs.Prelude.{◌≡◌, ◌+◌, ◌<◌, ◌≤◌, ℕ, Bool, false, List, length, Option, Some, None, Result, Ok, Err}
 use Rattle.std.specs.List.{All, slice_get}
 use Rattle.derived_ops.specs.Tree.{Tree}
 use Rattle.fiber_frames.specs.Fiber.{Fiber, outcome_of}
@@ -16,6 +16,11 @@ came (Err e) w = Err e
 abbrev pub was_cut : Result Bool RunError → Bool
 was_cut (Ok cut) = cut
 was_cut (Err e) = false
+
+-- the same result, of a drawing that nothing ended
+abbrev pub was_walked : Result Bool RunError → Result (Option Bool) RunError
+was_walked (Ok cut) = Ok (Some cut)
+was_walked (Err e) = Err e
 
 -- one of these fibers hasn't ended
 abbrev pub HasUnendedFiber : List Fiber → Type 0

@@ -1,4 +1,4 @@
-use Rattle.std.proofs.Common.{inl, inr, refl}
+use Rattle.std.proofs.Common.{ap, inl, inr, refl}
 use Rattle.command_line.proofs.cli.obey_request.Goals as goal
 
 pub returns-in-Compare-clause-obeyed : goal.returns-in-Compare-clause-obeyed
@@ -6,7 +6,12 @@ returns-in-Compare-clause-obeyed g c = rw c.in-Compare.is (refl, c.obey_compare.
 
 pub returns-in-Test-clause-obeyed : goal.returns-in-Test-clause-obeyed
 returns-in-Test-clause-obeyed g c =
-    rw c.in-Test.is record { unread = refl; whole = c.obey_test.ensures.whole; status_is = c.obey_test.ensures.status }
+    rw c.in-Test.is record {
+      unread = refl;
+      whole = c.obey_test.ensures.whole;
+      usage = λ usage. ap g.O.TextOut.seen (c.obey_test.ensures.usage usage);
+      status_is = c.obey_test.ensures.status;
+    }
 
 pub returns-in-Terms-clause-obeyed : goal.returns-in-Terms-clause-obeyed
 returns-in-Terms-clause-obeyed g c =

@@ -10,7 +10,7 @@ pub returns-in-Ok-write_text : goal.returns-in-Ok-write_text
 returns-in-Ok-write_text g c =
     let told = c.write_text.ensures in
     pair_answered c.args.order.now _ _ _ _ c.in-Ok.answer.text.items c.in-Ok.answer.status c.in-Ok.ensures c.write_text.result
-    _ c.as_slice.ensures.value told.text told.only told.failed _ _ c.in-Ok-write_text.is
+    _ c.as_slice.ensures.value told.text told.only told.failed _ _ _ c.in-Ok-write_text.is c.note_pair.ensures
 
 pub returns : goal.returns
 returns g c =

@@ -18,7 +18,8 @@ returns-in-Ok-clause-obeyed g c = inr (
       (c.as_slice-held.ensures.value ∙ none.0, c.as_slice-barred.ensures.value ∙ none.1, c.as_slice-sought.ensures.value ∙ none.2),
   inl record {
     asked = c.in-Ok.asked.items;
-    are = rw (← c.as_slice-held.ensures.value, ← c.as_slice-barred.ensures.value, ← c.as_slice-sought.ensures.value) c.in-Ok.ensures;
+    are = rw (← c.as_slice-held.ensures.value, ← c.as_slice-barred.ensures.value, ← c.as_slice-sought.ensures.value) c.in-Ok.ensures.read;
+    made = c.in-Ok.ensures.made;
     seen = rw (← c.as_slice.ensures.value) c.obey_asked.ensures;
   },
 )

@@ -1,7 +1,7 @@
 use Rattle.std.{proofs.Common.{◌≡◌, ◌<◌, ◌≤◌, ◌++◌, List, length, sym, ap, subst}, specs.{Prelude.Some, List.{All, slice_get}}}
 use Rattle.derived_ops.specs.{Expansion.code_of, Reading.source_of}
 use Rattle.scheduled_core.specs.Core.{core}
-use Rattle.every_schedule.specs.{declared.exploration.Answer.Answer, Explored.{IsAnswered, IsCovered, IsReached, ListOnce}, Places.{Place, first_place}}
+use Rattle.every_schedule.specs.{declared.exploration.Answer.Answer, Explored.{HasLawfulMarks, IsAnswered, IsCovered, IsReached, ListOnce}, Places.{Place, first_place}}
 use Rattle.every_schedule.{specs.Places.{report_at, stepped}, proofs.{Placed.core_run, Deadlocks.none_waits, Bare.reports_grow, Growing.size, Laws.alike}}
 use Rattle.every_schedule.proofs.{Laws.{ended, faultless}, Told.{all_within, answered, covered, numbered, reached, short, once}}
 use Rattle.world_search.specs.Answers as search
@@ -87,3 +87,7 @@ returns-clause-once c =
     subst (λ (l : List Answer). ListOnce l) (sym c.new-2.ensures)
     (once c.search.new.worlds c.in_ok-found.found.answers.items c.in_ok-answers.answers.items c.in_ok-answers.ensures.told c.told.ensures.single
     c.in_ok-found.ensures.once)
+
+pub returns-clause-lawful : goal.returns-clause-lawful
+returns-clause-lawful c =
+    subst (λ (l : List Answer). All HasLawfulMarks l) (sym c.new-2.ensures) c.in_ok-answers.ensures.lawful

@@ -4,8 +4,8 @@ use Rattle.scheduled_core.specs.Core.{core, reported}
 use Rattle.exploration_text.{specs.Findings.Shows, proofs.{FirstFindings.drawn_found, Sampled.spellable}}
 use Rattle.exploration_text.proofs.findings.finding_of_sample.Goals as goal
 
-pub returns : goal.returns
-returns c =
+pub returns-clause-drawn : goal.returns-clause-drawn
+returns-clause-drawn g c =
     let order = c.args.order.now in
     let code = code_of (source_of c.args.program.now) in
     let k = order.limits in

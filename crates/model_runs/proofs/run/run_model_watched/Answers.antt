@@ -7,7 +7,7 @@ returns-clause-claims g c =
     let source = c.args.source.now in
     let moments = c.in_ok-moments.moments.search in
     let all : All (IsDecidedIn source c.in_ok-searches.searches.items moments) c.in_ok-results.results.items =
-    subst (λ (ss : List Search). All (IsDecidedIn source ss moments) c.in_ok-results.results.items) c.as_slice-7.ensures.value
+    subst (λ (ss : List Search). All (IsDecidedIn source ss moments) c.in_ok-results.results.items) c.as_slice-8.ensures.value
     c.in_ok-results.ensures.decided in
     subst (λ (m : Search). All (IsDecidedIn source c.result_of.result.searches.items m) c.result_of.result.claims.items)
     (sym c.result_of.ensures.moments)

@@ -12,8 +12,8 @@ use Rattle.sampled_schedules.specs.Sampled.{IsDrawing}
 use Rattle.sampled_schedules.proofs.Claims.{looks_more, looks_none}
 use Rattle.sampled_schedules.proofs.claimed.sample_claims.Goals as goal
 
-pub draw-requires-clause-fits : goal.draw-requires-clause-fits
-draw-requires-clause-fits c =
+pub draw_whole-requires-clause-fits : goal.draw_whole-requires-clause-fits
+draw_whole-requires-clause-fits c =
     subst (λ (fs : List Fiber). AllFit (world_of fs (opening c.args.limits))) (sym c.as_slice.ensures.value)
     (c.in_ok-first.ensures.fits c.args.limits c.requires.limits)
 

@@ -20,16 +20,18 @@ loop-schedules-preserved g c =
     let k = c.args.limits in
     let most = c.args.entries in
     let cs = c.loop-schedules.comings.items in
-    let a = c.in_ok-drawn.drawn in
+    let a = c.in-Some.drawn in
     let ds = c.note.new.comings.items in
-    let drawn : IsDrawing code k most a = c.in_ok-drawn.ensures.drawn code (c.as_slice.ensures.value ∙ c.in_ok-first.ensures.first) in
+    let its = rw c.in-Some.is at c.in_ok-draw.ensures.drawn in
+    let marks = rw c.in-Some.is at c.in_ok-draw.ensures.lawful in
+    let drawn : IsDrawing code k most a = its code (c.as_slice.ensures.value ∙ c.in_ok-first.ensures.first) in
     record {
-      sample = sampled_more code k most c.loop-schedules.schedules cs a ds at.sample drawn c.in_ok-note.ensures;
-      answers = all_noted (IsDrawn code k most) cs a ds c.in_ok-note.ensures at.answers drawn.drawn;
-      lawful = all_noted HasLawfulMarks cs a ds c.in_ok-note.ensures at.lawful c.in_ok-drawn.ensures.lawful;
-      counted = counted cs a ds c.in_ok-note.ensures ∙ ap (λ n. n + 1) at.counted;
+      sample = sampled_more code k most c.loop-schedules.schedules cs a ds at.sample drawn c.in_ok-note-in-Some.ensures;
+      answers = all_noted (IsDrawn code k most) cs a ds c.in_ok-note-in-Some.ensures at.answers drawn.drawn;
+      lawful = all_noted HasLawfulMarks cs a ds c.in_ok-note-in-Some.ensures at.lawful marks;
+      counted = counted cs a ds c.in_ok-note-in-Some.ensures ∙ ap (λ n. n + 1) at.counted;
       few = omega arith;
-      watches = c.goes_on.ensures.same ∙ at.watches;
+      watches = c.draw.ensures.watches ∙ at.watches;
     }
 
 pub loop-schedules-init : goal.loop-schedules-init

@@ -1,0 +1,43 @@
+//! What one row of a timeline makes.
+
+ghost use Rattle.std.specs.Prelude.{◌≡◌};
+ghost use Rattle.made_rows.specs.Making.{product_of, product_of_set};
+
+use cell_registry::Call;
+use effect_term::Reply;
+use fiber_events::Deed;
+
+/// What a row of a timeline makes.
+#[derive(Clone, Copy)]
+pub enum Product {
+    /// The ref of this number.
+    Ref(u16),
+    /// A deferred.
+    Deferred,
+    /// The first value of the ref that the row before makes.
+    Value,
+    /// Nothing.
+    Nothing,
+}
+
+/// Returns what a row makes that is behind a row that makes `before`.
+pub fn product_of(before: Product, deed: Deed) -> Product
+    ensures { result ≡ product_of before deed }
+{
+    match deed {
+        Deed::Called(Call::NewRef, Reply::Number(number)) => Product::Ref(number),
+        Deed::Called(Call::NewDeferred, _) => Product::Deferred,
+        Deed::Called(Call::Set(number, _), _) => product_of_set(before, number),
+        _ => Product::Nothing,
+    }
+}
+
+// What a row makes that sets the ref of this number.
+fn product_of_set(before: Product, number: u16) -> Product
+    ensures { result ≡ product_of_set before number }
+{
+    match before {
+        Product::Ref(made) if made == number => Product::Value,
+        _ => Product::Nothing,
+    }
+}

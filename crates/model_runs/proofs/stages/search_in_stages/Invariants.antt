@@ -1,0 +1,8 @@
+use Rattle.std.specs.List.{All}
+use Rattle.derived_ops.specs.{Expansion.code_of, Reading.source_of}
+use Rattle.model_runs.specs.Seeing.{IsSeen}
+use Rattle.model_runs.proofs.stages.search_in_stages.Given as goal
+
+-- the answers so far are right
+abbrev pub invariant-loop : goal.invariant-loop
+invariant-loop g l = All (IsSeen (code_of (source_of l.prepared.program)) l.plan.limits) l.before.answers.items
