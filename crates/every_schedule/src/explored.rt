@@ -105,8 +105,19 @@ pub fn explore(
     explore_watched(alloc, program, limits, bounds, &mut Unwatched)
 }
 
-/// Does the same as [`explore`]. At each hundredth world, the watcher gets the number of worlds found and the length of
-/// the schedules. It can end the search then: the result has what was found, and isn't complete
+/// Does the same as [`explore`], and asks a watcher whether the work goes on.
+///
+/// The search makes the entries at one world after another, in the order in which the worlds were found. The first world
+/// has number 0. The watcher is asked ([`Watcher::goes_on`]) before the entries at the worlds 99, 199, 299 and so on. It
+/// is also asked at each world where the counted bytes ([`Exploration::bytes`]) have grown by 1,048,576 or more. They
+/// have grown since it was last asked for this reason, or since the beginning. The watcher gets the number of worlds
+/// found and the number of entries that lead to this world, without own moves.
+///
+/// Then the answers are listed. Faults are listed in any case, and so is the first report with each outcome of fiber 0,
+/// for the first 100 outcomes. Before each other answer the watcher is asked ([`Watcher::lists_on`]). After an
+/// incomplete search, no other answer is listed once the listed ones take a quarter of `bounds.memory`.
+///
+/// If the watcher ends the search or the list, the result has what was found, and isn't complete
 /// ([`Exploration::halted`]).
 pub fn explore_watched<V: Watcher>(
     alloc: Global,

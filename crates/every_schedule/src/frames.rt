@@ -1,24 +1,26 @@
-//! What the frames of a program's fibers take.
+//! The memory that the frames of a program's fibers take.
 
 use cell_registry::Limits;
 use effect_term::{Program, Term};
 
-// About how many bytes a frame takes in a kept state of a fiber: a list of frames has room for up to twice its items.
+// The approximate number of bytes of a frame in a kept state of a fiber. A list of frames has room for up to twice as
+// many frames as it has.
 const FRAME: u64 = 36;
 
-// The frames that a state's own size counts.
+// The number of frames that are counted in the fixed size of a state.
 const COUNTED: u64 = 3;
 
-// About how many bytes what is known of the uses of a number takes, and the numbers that a state's own size counts. Uses
-// are kept for numbers below 64.
+// The approximate number of bytes that the uses of one number take. A number is that of a fiber, a ref or a deferred.
 const USES: u64 = 18;
 
+// The uses of numbers below this one are counted in the fixed size of a state.
 const NUMBERS: u64 = 16;
 
+// Uses are kept only for numbers below this one.
 const MOST: u64 = 64;
 
-/// About how many bytes a kept state of a fiber takes beyond its own size: for the frames that can be nested in the
-/// program beyond 3, and for what is known of the uses of numbers from 16 to 63.
+/// The approximate number of bytes that a kept state of a fiber takes beyond its fixed size. Counted are the frames that
+/// the program can nest beyond 3, and the uses of the numbers from 16 to 63.
 pub fn frame_bytes(program: &Program, limits: Limits) -> usize {
     let frames = frames_in(program.term()).saturating_sub(COUNTED);
     let most = u64::from(limits.fibers.max(limits.refs).max(limits.deferreds));
@@ -27,7 +29,7 @@ pub fn frame_bytes(program: &Program, limits: Limits) -> usize {
     frames.saturating_mul(FRAME).saturating_add(uses) as usize
 }
 
-// The most frames that are nested while a term runs, at most the greatest `u64`.
+// The greatest number of frames that are nested while a term runs; at most `u64::MAX`.
 fn frames_in(term: &Term) -> u64 {
     match term {
         Term::Pure(_) | Term::Raise(_) | Term::Add(_, _) | Term::Say(_) => 0,
@@ -60,7 +62,8 @@ fn frames_in(term: &Term) -> u64 {
     }
 }
 
-// The frames of a word with so many frames of its own around two parts.
+// The greatest number of nested frames of a word that puts `own` frames around each of two parts. `one` and `other` are
+// the numbers of the parts.
 fn around(own: u64, one: u64, other: u64) -> u64 {
     one.max(other).saturating_add(own)
 }

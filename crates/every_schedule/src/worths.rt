@@ -1,4 +1,4 @@
-//! The worth of the answers of a search, by which a list of them is ended.
+//! Which answers of a search are listed in any case, and how many bytes each answer takes.
 ghost use Rattle.std.specs.Prelude.{◌≡◌, IfOk};
 
 use crate::core_worlds::CoreWorlds;
@@ -6,35 +6,35 @@ use effect_term::Outcome;
 use std::alloc::{AllocError, Global};
 use world_search::{Answer, Landing};
 
-// The most outcomes of fiber 0 of which an answer is listed in any case.
+// The greatest number of outcomes of fiber 0 for each of which one report is listed in any case.
 const OUTCOMES: usize = 100;
 
-/// The worth of an answer.
+/// Whether an answer is listed in any case, and its size.
 #[derive(Clone, Copy)]
 pub(crate) struct Worth {
-    /// It is listed in any case: it is a fault, or the first report with its outcome of fiber 0.
+    /// Whether it is listed in any case: it is a fault, or the first report with its outcome of fiber 0.
     pub(crate) first: bool,
-    // About how many bytes its report and the text of its report take.
+    // The approximate number of bytes of its report and of the report's text.
     bytes: usize,
 }
 
 impl Worth {
-    /// About how many bytes the answer takes, with a schedule of so many entries and its text.
+    /// The approximate number of bytes of the answer with a schedule of `entries` entries. The texts of both are counted.
     pub(crate) fn bytes_with(self, entries: usize) -> usize {
         self.bytes.saturating_add(entries.saturating_mul(6))
     }
 }
 
-/// The worths of all answers, and the number of bytes at which a list of them ends.
+/// The worths of all answers of a search, and the number of bytes at which their list ends.
 #[derive(Drop)]
 pub(crate) struct Worths {
     worths: Vec<Worth>,
-    /// The number of bytes at which the list ends; the greatest number if it doesn't.
+    /// The number of bytes at which the list ends; `usize::MAX` for no bound.
     pub(crate) room: usize,
 }
 
 impl Worths {
-    /// Returns the worths of the answers of a search.
+    /// Returns the worths of the answers `found` of a search. Their list ends at `room` bytes.
     pub(crate) fn of(
         alloc: Global,
         worlds: &CoreWorlds,
@@ -51,7 +51,7 @@ impl Worths {
         Ok(Worths { worths, room })
     }
 
-    /// The worth of the answer at a place.
+    /// The worth of the answer with the index `place`. Without such an answer it is that of a fault.
     pub(crate) fn at(&self, place: usize) -> Worth {
         match self.worths.get(place) {
             Some(worth) => *worth,
@@ -63,7 +63,8 @@ impl Worths {
     }
 }
 
-// The worth of an answer with this end. `known` has the outcomes of fiber 0 of the answers before.
+// The worth of an answer with this end. `known` has the outcomes of fiber 0 in the answers before this answer. The
+// outcome of this answer is added.
 fn worth_of(
     worlds: &CoreWorlds,
     end: Landing,
@@ -81,7 +82,7 @@ fn worth_of(
     }
 }
 
-// Whether an outcome of fiber 0 isn't known; then it is added.
+// Adds an outcome of fiber 0, unless it is known or 100 outcomes are. Returns whether the outcome was added.
 fn is_first(
     outcome: Option<Outcome>,
     known: &mut Vec<Option<Outcome>>,

@@ -58,8 +58,11 @@ pub enum First {
 /// Draws 3,000 schedules of a program by fixed seeds, 1,000 each of at most 64, 256 and 1,000 entries, and returns the
 /// first finding among their ends. If there is none, explores every schedule, and returns the first answer that is a
 /// finding, or the exploration. The exploration consists of three searches: of at most 10,000 worlds, of at most
-/// 1,000,000 worlds, and within the bounds. The watcher can end the drawing and each search. If the watcher ends a search with fewer
-/// worlds than the one before, the result is the exploration before.
+/// 1,000,000 worlds, and within the bounds.
+///
+/// The watcher can end the drawing and each search. It is asked before each schedule is drawn and at each fiftieth row of
+/// its entries ([`sample_watched`]), and during a search as in [`explore_watched`]. If the watcher ends a search with
+/// fewer worlds than the one before, the result is the exploration before.
 pub fn first_finding<V: Watcher>(
     alloc: Global,
     program: &Program,
@@ -180,7 +183,7 @@ fn searched<V: Watcher>(
     }))
 }
 
-/// The first finding among the ends of all random schedules. The watcher can end the drawing.
+/// The first finding among the ends of all random schedules. The watcher can end the drawing ([`sample_watched`]).
 pub(crate) fn drawn_finding<V: Watcher>(
     alloc: Global,
     program: &Program,

@@ -1,8 +1,8 @@
-//! How many of the first rows of a timeline only make refs and deferreds, and what they make.
+//! Counts the rows at the head of a timeline that only make refs and deferreds.
 //!
 //! The crate uses what entries did (`fiber_events`), shared calls (`cell_registry`) and replies (`effect_term`).
-//! [`made_by`] is proved to count the rows at the head of a timeline of which each makes a ref or a deferred, or gives
-//! the ref of the row before it its first value; if they are at most four, it counts none.
+//! [`made_by`] is proved to count the rows before the first row that does anything else. Each of these rows makes a ref
+//! or a deferred, or gives the ref that the row before it makes its first value. At most four such rows count as none.
 #![tactic(auto)]
 
 mod made;

@@ -7,10 +7,10 @@ use crate::product::{Product, product_of};
 use cell_registry::Call;
 use fiber_events::Deed;
 
-// The greatest number of such rows that are shown one by one.
+// The greatest number of such rows that are still shown one by one.
 const MOST_SHOWN: usize = 4;
 
-/// How many of the first rows are shown as one, and what they make.
+/// The number of rows at the head of a timeline that are shown as one row, and what they make.
 #[derive(Clone, Copy)]
 pub struct Made {
     /// The number of rows.
@@ -21,8 +21,8 @@ pub struct Made {
     pub deferreds: usize,
 }
 
-/// Returns how many of the first rows only make refs, give them their first values, and make deferreds, and how many
-/// refs and deferreds they make; three times 0 if these rows are at most four.
+/// Counts the rows at the head of a timeline that make a ref, give the ref of the row before its first value, or make a
+/// deferred. Returns the number of these rows, of refs and of deferreds. All three are 0 if there are at most four rows.
 pub fn made_by(deeds: &[Deed]) -> Made
     ensures { result ≡ made_by deeds.now }
 {
@@ -56,14 +56,14 @@ fn leading(deeds: &[Deed]) -> usize
     deeds.len()
 }
 
-// How many of these rows make a ref.
+// The number of these rows that make a ref.
 fn refs_in(deeds: &[Deed]) -> usize
     ensures { result ≡ count_by is_ref deeds.now }
 {
     deeds.iter().filter(|deed| is_ref(**deed)).count()
 }
 
-// How many of these rows make a deferred.
+// The number of these rows that make a deferred.
 fn deferreds_in(deeds: &[Deed]) -> usize
     ensures { result ≡ count_by is_deferred deeds.now }
 {

@@ -10,7 +10,7 @@ use fiber_events::Deed;
 /// What a row of a timeline makes.
 #[derive(Clone, Copy)]
 pub enum Product {
-    /// The ref of this number.
+    /// The ref with this number.
     Ref(u16),
     /// A deferred.
     Deferred,
@@ -20,7 +20,7 @@ pub enum Product {
     Nothing,
 }
 
-/// Returns what a row makes that is behind a row that makes `before`.
+/// Returns what a row makes. `before` is what the row before it makes, or `Product::Nothing` for the first row.
 pub fn product_of(before: Product, deed: Deed) -> Product
     ensures { result ≡ product_of before deed }
 {
@@ -32,7 +32,7 @@ pub fn product_of(before: Product, deed: Deed) -> Product
     }
 }
 
-// What a row makes that sets the ref of this number.
+// Returns what a row makes that sets the ref with this number. `before` is what the row before it makes.
 fn product_of_set(before: Product, number: u16) -> Product
     ensures { result ≡ product_of_set before number }
 {

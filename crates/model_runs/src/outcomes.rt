@@ -1,4 +1,4 @@
-//! The searches of a model's term for the outcomes of its fibers, in worlds without marks.
+//! Searches the outcomes of the fibers of a model's term. The worlds of these searches have no marks.
 
 ghost use Rattle.std.specs.Prelude.{◌≡◌, ◌≤◌, ◌++◌, [], ◌∷◌, map, true, false, IfOk, OnOk, ℕ, List};
 ghost use Rattle.std.specs.List.{All};
@@ -21,7 +21,7 @@ use every_outcome::{
 };
 use std::alloc::{AllocError, Global};
 
-// Explores the outcomes of a program with at most this number of worlds.
+// Explores the outcomes of a program in at most `worlds` worlds.
 fn explore_with<V: Watcher>(
     alloc: Global,
     program: &Program,
@@ -43,7 +43,7 @@ fn explore_with<V: Watcher>(
     explore_outcomes(alloc, program, plan.limits, bounds, watcher)
 }
 
-/// Searches the outcomes of a term in at most this number of worlds, until the watcher ends the search.
+/// Searches the outcomes of a term in at most `worlds` worlds. The watcher can end the search.
 pub(crate) fn search_outcomes<V: Watcher>(
     alloc: Global,
     prepared: &Prepared,
@@ -66,7 +66,7 @@ pub(crate) fn search_outcomes<V: Watcher>(
     })
 }
 
-// The same exploration, with outcomes before faults, and in each group shorter schedules first.
+// Sorts the answers of an exploration: outcomes before faults, and in each group shorter schedules first.
 fn sorted(found: OutcomeExploration) -> Result<OutcomeExploration, AllocError>
     ensures answers { IfOk result (λ it. IsPermutation found.answers.items it.answers.items) }
     ensures complete { IfOk result (λ it. it.complete ≡ found.complete) }
@@ -105,8 +105,8 @@ fn rank(end: &Result<Outcomes, RunError>) -> u8 {
     }
 }
 
-// The answers of an exploration of outcomes, in the names of the file. The watcher can end the list; then only the first
-// answer with its outcome of fiber 0 is still added, and each fault.
+// Returns the answers of an exploration of outcomes, with the names of the file. The watcher can end the list. From then
+// on, an answer is added only if it is a fault or the first one with its outcome of fiber 0.
 fn explored_answers<V: Watcher>(
     alloc: Global,
     prepared: &Prepared,
@@ -137,7 +137,8 @@ fn explored_answers<V: Watcher>(
     Ok(NamedAnswers { answers, whole })
 }
 
-// Adds an answer in the names of the file, if it is named. Returns `whole` then, else `false`.
+// Adds an answer with the names of the file, unless the watcher ended the list and the answer can be left out
+// (`is_named`). Returns `whole` if the answer was added, else `false`.
 fn add_named<V: Watcher>(
     alloc: Global,
     prepared: &Prepared,
@@ -171,7 +172,7 @@ fn first_outcome(answer: &OutcomeAnswer) -> Option<Option<Outcome>> {
     }
 }
 
-// An answer in the names of the file.
+// Returns an answer with the names of the file.
 fn named_answer(
     alloc: Global,
     prepared: &Prepared,
@@ -187,7 +188,8 @@ fn named_answer(
     named_end(alloc, prepared, plan, entries, held, 0)
 }
 
-// The exploration as a search, with these answers. If not all were named, the watcher has ended the search.
+// Returns the result of an exploration as that of a search with these answers. If an answer was left out, the watcher
+// has ended the search.
 fn search_of(found: &OutcomeExploration, named: NamedAnswers) -> Search
     ensures marked { result.marked ≡ false }
     ensures complete { result.complete ≡ true → found.now.complete ≡ true }

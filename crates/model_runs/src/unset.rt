@@ -1,4 +1,4 @@
-//! Refs that claims at any moment name, and that no schedule sets.
+//! Finds the refs that claims at any moment name and that no schedule sets.
 
 ghost use Rattle.cell_registry.specs.Cells.{AreLimits};
 
@@ -15,9 +15,9 @@ use model_terms::{Probe, Refused, Source};
 use model_text::Model;
 use std::alloc::{AllocError, Global};
 
-/// Returns the numbers of the refs that claims at any moment name and that no schedule sets; none if the search for
-/// moments isn't complete. A ref that an answer sets is one that a schedule sets. The others are sought in the worlds
-/// of one more search.
+/// Returns the numbers of the refs that claims at any moment name and that no schedule sets. The list is empty if the
+/// search for moments isn't complete. A ref that the schedule of an answer makes is one that a schedule sets. For the
+/// other refs, one more search looks for a world in which they are set.
 pub(crate) fn unset_refs<V: Watcher>(
     alloc: Global,
     source: &Source,
@@ -51,7 +51,7 @@ pub(crate) fn unset_refs<V: Watcher>(
     }
 }
 
-// The greatest number of refs that the schedule of one of these answers makes.
+// The greatest number of refs that the schedule of any of these answers makes.
 fn refs_made(answers: &[NamedAnswer]) -> usize {
     let mut most = 0;
     for answer in answers {
@@ -60,7 +60,7 @@ fn refs_made(answers: &[NamedAnswer]) -> usize {
     most
 }
 
-// The numbers from this one on of the refs that claims at any moment name, each once.
+// The numbers of the refs that claims at any moment name, if they are at least `from`. Each is listed once.
 fn numbers_from(alloc: Global, claims: &[Claim], from: usize) -> Result<Vec<u16>, AllocError> {
     let mut numbers = Vec::new(alloc);
     for claim in claims {
@@ -71,7 +71,7 @@ fn numbers_from(alloc: Global, claims: &[Claim], from: usize) -> Result<Vec<u16>
     Ok(numbers)
 }
 
-// Adds the numbers from this one on of the refs that a claim names.
+// Adds the numbers of the refs that a claim names, if they are at least `from` and not in the list.
 fn add_numbers(claim: &Claim, from: usize, numbers: &mut Vec<u16>) -> Result<(), AllocError> {
     for name in claim.condition.names.as_slice() {
         if let Spoken::Ref(Some(number)) = name.what
@@ -84,7 +84,7 @@ fn add_numbers(claim: &Claim, from: usize, numbers: &mut Vec<u16>) -> Result<(),
     Ok(())
 }
 
-// Those of these numbers whose refs no world of a complete search has.
+// Returns the numbers of those of these refs that are set in no world. The list is empty if the search isn't complete.
 fn unset_among<V: Watcher>(
     alloc: Global,
     prepared: &Prepared,
@@ -102,7 +102,7 @@ fn unset_among<V: Watcher>(
     Ok(unmet(alloc, numbers, found.met.as_slice())?)
 }
 
-// Those of these numbers whose conditions, in the same order, aren't met.
+// Returns the numbers whose conditions aren't met. A condition has the same index as its number.
 fn unmet(alloc: Global, numbers: &[u16], met: &[Met]) -> Result<Vec<u16>, AllocError> {
     let mut unset = Vec::new(alloc);
     for (at, number) in numbers.iter().enumerate() {
@@ -113,7 +113,7 @@ fn unmet(alloc: Global, numbers: &[u16], met: &[Met]) -> Result<Vec<u16>, AllocE
     Ok(unset)
 }
 
-// For each of these numbers, a condition that each value of the ref of this number meets.
+// Returns a condition for each number. Each value of the ref with this number meets the condition.
 fn any_values(alloc: Global, numbers: &[u16]) -> Result<Vec<Sought>, AllocError> {
     let mut wanted = Vec::new(alloc);
     for number in numbers {
@@ -122,7 +122,7 @@ fn any_values(alloc: Global, numbers: &[u16]) -> Result<Vec<Sought>, AllocError>
     Ok(wanted)
 }
 
-// A condition that each value of the ref of this number meets.
+// Returns a condition that each value of the ref with this number meets.
 fn any_value(alloc: Global, number: u16) -> Result<Sought, AllocError> {
     let mut words = Vec::new(alloc);
     words.push(ClaimWord::Compare(number, Comparison::AtLeast, Value::MIN))?;

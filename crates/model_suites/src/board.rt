@@ -1,4 +1,4 @@
-//! A board on which threads leave the results of models, for the thread that reports them.
+//! A board: a table in which threads put the results of models. One thread takes the results and reports them.
 
 ghost use Rattle.std.specs.Prelude.{◌≡◌, ◌<◌, IfOk, IfSome};
 
@@ -8,7 +8,8 @@ use std::sync::atomic::{AtomicUsize, Ordering};
 use std::sync::{Condvar, Mutex, Wait};
 use std::time::{Clock, Duration};
 
-/// A board on which threads leave the results of models, by their numbers. At most one thread claims each model.
+/// A table that threads share, with a place for the result of each model. At most one thread claims each model. It puts
+/// the model's result here.
 #[derive(Drop)]
 pub struct Board {
     // The number of models.
@@ -17,37 +18,38 @@ pub struct Board {
     pub(crate) memory: usize,
     // The number of the first model that no thread has claimed.
     next: AtomicUsize,
-    // How far the search of each model is.
+    // The progress of the search of each model.
     searches: Vec<Noted>,
-    // The results that were left and not yet taken.
+    // The results that were put here and not yet taken.
     left: Mutex<Left>,
-    // Notifies threads that a result was left.
+    // Notifies threads that a result was put here.
     changed: Condvar,
 }
 
-/// How far a search is.
+/// The progress of a search.
 #[derive(Clone, Copy)]
 pub(crate) struct Far {
     /// The number of worlds that it has found.
     pub(crate) worlds: usize,
-    /// The worlds a second since it began.
+    /// The average number of worlds that it found in each second.
     pub(crate) rate: usize,
-    /// The length of its schedules.
+    /// The number of entries that lead to the world at which it is.
     pub(crate) depth: usize,
 }
 
-// How far the search of a model is. Threads read it while another one writes it, so its parts can be of two moments.
+// The progress of the search of a model. One thread writes it while others read it. So a reader can get an older value
+// of one field with a newer value of another.
 #[derive(Drop)]
 struct Noted {
-    // 0 if the model isn't being explored, else 1 more than the number of worlds.
+    // 0 if the model isn't being explored, else the number of worlds plus 1.
     worlds: AtomicUsize,
-    // The worlds a second.
+    // The average number of worlds in each second.
     rate: AtomicUsize,
-    // The length of the schedules.
+    // The number of entries that lead to the world at which the search is.
     depth: AtomicUsize,
 }
 
-// The results that were left on a board and not yet taken.
+// The results that were put on a board and not yet taken.
 #[derive(Drop)]
 struct Left {
     // The result of each model.
@@ -80,7 +82,7 @@ impl Board {
         })
     }
 
-    /// Claims a model for the caller. Returns its number; none if every model is claimed.
+    /// Claims the next model for the caller, and returns its number. `None` if every model is claimed.
     pub(crate) fn claim(&self) -> Option<usize>
         ensures { IfSome result (λ index. index < self.now.count) }
     {
@@ -92,7 +94,7 @@ impl Board {
         }
     }
 
-    /// Closes the board: no model can be claimed any more.
+    /// Closes the board. From now on no model can be claimed.
     pub fn close(&self) {
         self.next.store(self.count, Ordering::SeqCst);
     }
@@ -102,7 +104,7 @@ impl Board {
         index < self.next.load(Ordering::SeqCst)
     }
 
-    /// Notes that a model is being explored, and how far its search is.
+    /// Records that a model is being explored, and the progress of its search.
     pub(crate) fn note(&self, index: usize, far: Far) {
         if let Some(noted) = self.searches.get(index) {
             noted.rate.store(far.rate, Ordering::SeqCst);
@@ -113,14 +115,14 @@ impl Board {
         }
     }
 
-    /// Notes that a model is no longer being explored.
+    /// Records that a model is no longer being explored.
     pub(crate) fn rest(&self, index: usize) {
         if let Some(noted) = self.searches.get(index) {
             noted.worlds.store(0, Ordering::SeqCst);
         }
     }
 
-    /// How far the search of a model is. None if the model isn't being explored.
+    /// The progress of the search of a model. `None` if the model isn't being explored.
     pub(crate) fn far(&self, index: usize) -> Option<Far> {
         let noted = self.searches.get(index)?;
         let worlds = noted.worlds.load(Ordering::SeqCst).checked_sub(1)?;
@@ -131,7 +133,7 @@ impl Board {
         })
     }
 
-    /// Leaves the result of a model, or that memory ran out.
+    /// Puts the result of a model here, or records that memory ran out. Wakes all threads that wait for a result.
     pub(crate) fn put<R: Wait>(&self, rt: &R, index: usize, found: Result<Became, AllocError>) {
         self.left.lock(rt).put(index, found);
         self.changed.notify_all();
@@ -142,8 +144,8 @@ impl Board {
         self.left.lock(rt).has(index)
     }
 
-    /// Waits at most a second until the result of a model is here or a thread ran out of memory. Returns whether one of
-    /// the two has happened.
+    /// Waits until the result of a model is here or a thread ran out of memory, for at most a second. Returns whether one
+    /// of the two has happened.
     pub(crate) fn waits_a_second<R: Clock + Wait>(&self, rt: &R, index: usize) -> bool {
         let left = self.left.lock(rt);
         let second = Duration::from_secs(1);
@@ -162,7 +164,7 @@ impl Board {
 }
 
 impl Noted {
-    // Of a model that isn't being explored.
+    // The progress of a model that isn't being explored.
     fn new() -> Noted {
         Noted {
             worlds: AtomicUsize::new(0),
@@ -173,7 +175,7 @@ impl Noted {
 }
 
 impl Left {
-    // Leaves the result of a model, or that memory ran out.
+    // Puts the result of a model here, or records that memory ran out.
     fn put(&mut self, index: usize, found: Result<Became, AllocError>) {
         match (self.found.get_mut(index), found) {
             (Some(place), Ok(became)) => *place = Some(became),

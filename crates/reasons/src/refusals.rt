@@ -107,16 +107,6 @@ fn push_fault(told: &mut Vec<u8>, error: ParseError, spelled: &[u8]) -> Result<(
     told.extend_from_slice(words)
 }
 
-// Appends that a text is a model file, if an item of one begins with this word.
-fn push_model_file(told: &mut Vec<u8>, spelled: &[u8]) -> Result<(), AllocError> {
-    match spelled {
-        b"model" | b"define" | b"defaults" => {
-            told.extend_from_slice(b"this begins a model file, which `fiber_cli test FILE` reads\n")
-        }
-        _ => Ok(()),
-    }
-}
-
 // Appends what the grammar expected at the place.
 fn push_grammar(
     alloc: Global,
@@ -157,7 +147,6 @@ fn push_grammar(
         }
         ParseError::UnknownWord(_) => {
             push_wanted(told, around)?;
-            push_model_file(told, spelled)?;
             push_near_word(told, spelled)
         }
         ParseError::UnknownName(_) => {

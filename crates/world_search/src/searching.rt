@@ -20,10 +20,14 @@ use std::alloc::{AllocError, Global};
 
 /// Searches every schedule from the first world of a store, which has number 0.
 ///
-/// Each entry is made once at each world that is met. At each hundredth world the watcher gets the progress of the
-/// search and can end it; the result is then what was found so far ([`Found::halted`]). [`Unwatched`](crate::Unwatched)
-/// ends no search. `AllocError` where memory is refused; a bound on memory ([`Bounds::memory`]) can stop the search
-/// before that.
+/// The entries are made at one world after another, in the order in which the worlds were met. Each entry is made once
+/// at each world. The first world has number 0. The watcher is asked ([`Watcher::goes_on`]) before the entries at the
+/// worlds 99, 199, 299 and so on. It is also asked at each world where the counted bytes ([`Found::bytes`]) have grown
+/// by 1,048,576 or more. They have grown since it was last asked for this reason, or since the beginning. If the watcher
+/// ends the search, the result is what was found so far ([`Found::halted`]). [`Unwatched`](crate::Unwatched) ends no
+/// search.
+///
+/// `AllocError` where memory is refused; a bound on memory ([`Bounds::memory`]) can stop the search before that.
 ///
 /// If each entry keeps the report or makes it larger, and the search is complete, then after each schedule some further
 /// entries lead to an answer (`onward`).
