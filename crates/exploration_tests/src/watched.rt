@@ -2,8 +2,12 @@
 //!
 //! A program with one fiber has one schedule, so each entry leads, with the moves made at once behind it, to one new
 //! world: n entries lead to world n, counted from 0, and n + 1 worlds are known there. A fiber's request for its own
-//! cancellation isn't made at once, so each request is an entry, and there is one entry before them. The watcher is
-//! asked at each hundredth world, for the k-th time with k * 100 worlds and a depth of k * 100 - 1.
+//! cancellation isn't made at once, so each request is an entry, and there is one entry before them.
+//!
+//! The watcher is asked at the worlds 99, 199 and so on, and where the counted bytes have grown by 1,048,576. At world n
+//! of the long program, from 2 on, 2,249 + 1,553 * n bytes are counted: see `STOPPED`. So the bytes have grown by
+//! 1,048,576 first at world 674, and then at each 676th world. At or before world n the watcher is asked
+//! (n + 1) / 100 + (n + 2) / 676 times, each quotient rounded down: no world is one of both kinds.
 
 ghost use Rattle.std.specs.Prelude.{true};
 
@@ -27,18 +31,30 @@ const SHORT: &str = "explored 2 worlds: 1 report, 0 faults\n\nunder \"0*2\"\nfib
 
 const REFUSED: &str = "refused 6 UnknownWord at 1\n";
 
-// The beginning of each line of progress. The clock of the tests advances 15 milliseconds each time it is read, and it is
-// read whenever the watcher is asked: at each hundredth world at least, so after a second there are at most 6,700 worlds.
-const TOLD: &str = "explored ";
+// The lines that are written with a clock that advances 15 milliseconds each time it is read: once at the beginning,
+// and then whenever the watcher is asked. The first line is written at the 67th time, after 1,005 milliseconds, the
+// next one at the 134th, a second later, and so on. The 67th time is at world 5,899 (59 + 8), the 134th at 11,699
+// (117 + 17), the 201st at 17,574 (175 + 26). No 268th time comes: at world 20,499, the last, it is the 235th.
+const TOLD: &str = "explored 5900 worlds, 5870 a second, depth 5899\n\
+    explored 11700 worlds, 5820 a second, depth 11699\n\
+    explored 17575 worlds, 5829 a second, depth 17574\n";
 
-// The beginning of the answer of a search that ends since its time is over.
-const OUT_OF_TIME: &str = "stopped by time at ";
+// The lines that are written in two seconds, which have passed at the 134th time.
+const TOLD_IN_TIME: &str = "explored 5900 worlds, 5870 a second, depth 5899\n\
+    explored 11700 worlds, 5820 a second, depth 11699\n";
+
+// The answer then, with 2,249 + 1,553 * 11,699 bytes.
+const OUT_OF_TIME: &str = "stopped by time at 11700 worlds: 0 reports, 0 faults, 18170796 bytes\n";
 
 // A world takes 13 bytes, its row in the store 36, and its one fiber 8. Each entry but the last one leads to another
 // world, and takes 8. Each entry adds three states of the fiber: one after the entry, and two after the moves made at
 // once. With the first state there are 61,501 states of 480 bytes. All but the first two have the mark of the mask,
 // which takes 16. The registry has three states: the first one, one under the mask, and one with the request. Each
 // takes 160 bytes, 32 for the fiber, 8 for each of 16 refs and 16 for each of 16 deferreds.
+//
+// So each world with its row and its fiber adds 57 bytes, the entry to it 8, and the entry's states 3 * 496: together
+// 1,553. At world 0 there are 57 bytes of the world and 480 of its state. The registries take 3 * 576 bytes from world 2
+// on, and two states have no mark, of which one is the first: 57 + 480 + 1,728 - 16 = 2,249.
 const STOPPED: &str = "stopped at 20500 worlds: 0 reports, 0 faults, 31838684 bytes\n";
 
 // A clock that advances `step` milliseconds each time it is read, or fails.
@@ -174,6 +190,7 @@ fn expect<R: Abort + AllocGlobal>(
 #[test]
 fn progress_is_written_once_a_second(rt: HostRuntime) {
     let rows = [
+        (15, LONG, Status::Unended, STOPPED, TOLD),
         (0, LONG, Status::Unended, STOPPED, ""),
         (1500, "(pure 1)", Status::Succeeded, SHORT, ""),
         (1500, "(pur 1)", Status::Refused, REFUSED, ""),
@@ -181,14 +198,6 @@ fn progress_is_written_once_a_second(rt: HostRuntime) {
     for (step, program, status, out, err) in rows {
         expect(&rt, program, program, &stepping(step), (status, out, err));
     }
-    let mut out = Vec::new(rt.alloc());
-    let mut err = Vec::new(rt.alloc());
-    let status = watched(rt.alloc(), LONG, &stepping(15), None, &mut out, &mut err);
-    assert_eq!(rt;
-        (status, out.as_slice()),
-        (Status::Unended, STOPPED.as_bytes())
-    );
-    assert!(rt; err.as_slice().starts_with(TOLD.as_bytes()));
 }
 
 #[test]
@@ -217,9 +226,14 @@ fn an_exploration_ends_when_its_time_is_over(rt: HostRuntime) {
     let mut out = Vec::new(rt.alloc());
     let mut err = Vec::new(rt.alloc());
     let status = watched(rt.alloc(), LONG, &stepping(15), Some(2), &mut out, &mut err);
-    assert_eq!(rt; status, Status::Unended);
-    assert!(rt; err.as_slice().starts_with(TOLD.as_bytes()));
-    assert!(rt; out.as_slice().starts_with(OUT_OF_TIME.as_bytes()));
+    assert_eq!(rt;
+        (status, out.as_slice(), err.as_slice()),
+        (
+            Status::Unended,
+            OUT_OF_TIME.as_bytes(),
+            TOLD_IN_TIME.as_bytes()
+        )
+    );
 }
 
 #[test]
@@ -239,8 +253,10 @@ fn the_time_limit_holds_without_progress(rt: HostRuntime) {
         &mut ToWrite::new(&mut out),
         &mut ToWrite::new(&mut err),
     );
-    assert_eq!(rt; (status, err.as_slice()), (Status::Unended, b"".as_slice()));
-    assert!(rt; out.as_slice().starts_with(OUT_OF_TIME.as_bytes()));
+    assert_eq!(rt;
+        (status, out.as_slice(), err.as_slice()),
+        (Status::Unended, OUT_OF_TIME.as_bytes(), b"".as_slice())
+    );
 }
 
 // What an exploration of the long program finds with this watcher.
@@ -256,15 +272,35 @@ fn found_while<V: Watcher>(alloc: Global, watcher: &mut V) -> Result<Exploration
     }
 }
 
+// The watcher is asked at the worlds 99, 199, 299, 399, 499, 599, 674 and 699 for the first eight times. It is asked for
+// the 205th time at world 17,899 (179 + 26), and for the 235th and last time at world 20,499 (205 + 30), the last world
+// within the bound.
 #[test]
 fn a_watcher_ends_the_search(rt: HostRuntime) -> Result<(), Fail> {
-    for most in [1, 3, 205] {
+    let rows = [
+        (1, 99),
+        (3, 299),
+        (6, 599),
+        (7, 674),
+        (8, 699),
+        (205, 17_899),
+        (235, 20_499),
+    ];
+    for (most, world) in rows {
         let mut ends = Ends::new(most);
         let found = found_while(rt.alloc(), &mut ends)?;
-        assert_eq!(rt; (found.complete, found.halted), (false, true));
-        assert!(rt; found.worlds <= most * 100);
-        assert_eq!(rt; ends.asked(), most);
+        assert_eq!(rt;
+            (found.complete, found.halted, found.worlds),
+            (false, true, world + 1)
+        );
+        assert_eq!(rt; (ends.asked(), ends.heard), (most, (world + 1, world)));
     }
+    let mut ends = Ends::new(236);
+    let found = found_while(rt.alloc(), &mut ends)?;
+    assert_eq!(rt;
+        (found.halted, found.worlds, ends.asked()),
+        (false, 20_500, 235)
+    );
     Ok(())
 }
 
