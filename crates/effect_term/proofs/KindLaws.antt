@@ -3,7 +3,7 @@ use Rattle.std.proofs.Common.{◌≡◌, ◌++◌, ◌∙◌, Bool, true, false,
 use Rattle.std.specs.Option.{option_or}
 use Rattle.effect_term.specs.declared.term.{Kind.{Kind, TheVariants.{Value, Poll, Fiber, Ref, Deferred}}, Name.Name, Operand.{Operand, TheVariants.Number}}
 use Rattle.effect_term.specs.declared.term.{Operand.TheVariants.Named, Term.{Term, Row_of-Term, end_of-Term, more_of-Term, TheVariants.{Pure, Raise, Let'}}}
-use Rattle.effect_term.specs.declared.term.Term.TheVariants.{Seq', Handle', If0', Add, Say, Uncancelable', Poll', OnCancel', Start'}
+use Rattle.effect_term.specs.declared.term.Term.TheVariants.{Seq', Handle', If0', Add, Calculate, Say, Uncancelable', Poll', OnCancel', Start'}
 use Rattle.effect_term.specs.declared.term.Term.TheVariants.{Join', Cancel, Ref', Get, Set, Modify, Deferred', Complete, Await, Repeat', Forever', Guarantee'}
 use Rattle.effect_term.specs.declared.{term.Term.TheVariants.{Bracket', BracketCase', BracketFull', Race', Both'}, refusal.TermError.TermError}
 use Rattle.effect_term.specs.{declared.refusal.TermError.TheVariants.WrongKind, Kinds.{Fits, ValueFits, WellKinded, AllWellKinded}, Names.{Use, same_kind}}
@@ -139,6 +139,9 @@ mutual
   well_kinded around (Add v w) good =
       let each = split_two (value_uses around v) (value_uses around w) good in
       (value_fits around v each.0, value_fits around w each.1)
+  well_kinded around (Calculate o v w) good =
+      let each = split_two (value_uses around v) (value_uses around w) good in
+      (value_fits around v each.0, value_fits around w each.1)
   well_kinded around (Say v) good = value_fits around v good
   well_kinded around (Uncancelable' p e) good = well_kinded (around ++ Poll ∷ []) e good
   well_kinded around (Poll' n p e) good =
@@ -228,6 +231,9 @@ mutual
       join_three (value_uses around v) (uses_of around s) (uses_of around e)
       (value_good around v fits.0) (no_fault around s fits.1) (no_fault around e fits.2)
   no_fault around (Add v w) fits =
+      join_two (value_uses around v) (value_uses around w)
+      (value_good around v fits.0) (value_good around w fits.1)
+  no_fault around (Calculate o v w) fits =
       join_two (value_uses around v) (value_uses around w)
       (value_good around v fits.0) (value_good around w fits.1)
   no_fault around (Say v) fits = value_good around v fits

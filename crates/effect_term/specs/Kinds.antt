@@ -6,11 +6,11 @@ use Rattle.effect_term.specs.declared.term.Name.{Name}
 use Rattle.effect_term.specs.declared.term.Operand.{Operand}
 use Rattle.effect_term.specs.declared.term.Operand.TheVariants.{Number, Named}
 use Rattle.effect_term.specs.declared.term.Term.{Term, Row_of-Term, end_of-Term, more_of-Term}
-use Rattle.effect_term.specs.declared.term.Term.TheVariants.{Pure, Raise, Let', Seq', Handle', If0', Add, Say, Cede}
-use Rattle.effect_term.specs.declared.term.Term.TheVariants.{Never, Canceled, Uncancelable', Poll', OnCancel', Start'}
-use Rattle.effect_term.specs.declared.term.Term.TheVariants.{Join', Cancel, Ref', Get, Set, Modify, Deferred'}
-use Rattle.effect_term.specs.declared.term.Term.TheVariants.{Complete, Await, Repeat', Forever', Guarantee', Bracket'}
-use Rattle.effect_term.specs.declared.term.Term.TheVariants.{BracketCase', BracketFull', Race', Both'}
+use Rattle.effect_term.specs.declared.term.Term.TheVariants.{Pure, Raise, Let', Seq', Handle', If0', Add, Calculate}
+use Rattle.effect_term.specs.declared.term.Term.TheVariants.{Say, Cede, Never, Canceled, Uncancelable', Poll'}
+use Rattle.effect_term.specs.declared.term.Term.TheVariants.{OnCancel', Start', Join', Cancel, Ref', Get, Set, Modify}
+use Rattle.effect_term.specs.declared.term.Term.TheVariants.{Deferred', Complete, Await, Repeat', Forever', Guarantee'}
+use Rattle.effect_term.specs.declared.term.Term.TheVariants.{Bracket', BracketCase', BracketFull', Race', Both'}
 
 -- A name's slot is the number of binders that enclose its binder: the index of that binder's kind in the list of kinds,
 -- outermost first. The binder, the name and the place have the same kind.
@@ -32,6 +32,7 @@ abbrev mutual
   WellKinded around (Handle' p e q h) = WellKinded around e × WellKinded (around ++ Value ∷ []) h
   WellKinded around (If0' v p s q e) = ValueFits around v × WellKinded around s × WellKinded around e
   WellKinded around (Add v w) = ValueFits around v × ValueFits around w
+  WellKinded around (Calculate o v w) = ValueFits around v × ValueFits around w
   WellKinded around (Say v) = ValueFits around v
   WellKinded around Cede = Unit {0}
   WellKinded around Never = Unit {0}

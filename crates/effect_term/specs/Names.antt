@@ -10,11 +10,11 @@ use Rattle.effect_term.specs.declared.term.Operand.TheVariants.{Number, Named}
 use Rattle.effect_term.specs.declared.refusal.TermError.{TermError}
 use Rattle.effect_term.specs.declared.refusal.TermError.TheVariants.{NoMemory, Unbound, WrongKind}
 use Rattle.effect_term.specs.declared.term.Term.{Term, Row_of-Term, end_of-Term, more_of-Term}
-use Rattle.effect_term.specs.declared.term.Term.TheVariants.{Pure, Raise, Let', Seq', Handle', If0', Add, Say, Cede}
-use Rattle.effect_term.specs.declared.term.Term.TheVariants.{Never, Canceled, Uncancelable', Poll', OnCancel', Start'}
-use Rattle.effect_term.specs.declared.term.Term.TheVariants.{Join', Cancel, Ref', Get, Set, Modify, Deferred'}
-use Rattle.effect_term.specs.declared.term.Term.TheVariants.{Complete, Await, Repeat', Forever', Guarantee', Bracket'}
-use Rattle.effect_term.specs.declared.term.Term.TheVariants.{BracketCase', BracketFull', Race', Both'}
+use Rattle.effect_term.specs.declared.term.Term.TheVariants.{Pure, Raise, Let', Seq', Handle', If0', Add, Calculate}
+use Rattle.effect_term.specs.declared.term.Term.TheVariants.{Say, Cede, Never, Canceled, Uncancelable', Poll'}
+use Rattle.effect_term.specs.declared.term.Term.TheVariants.{OnCancel', Start', Join', Cancel, Ref', Get, Set, Modify}
+use Rattle.effect_term.specs.declared.term.Term.TheVariants.{Deferred', Complete, Await, Repeat', Forever', Guarantee'}
+use Rattle.effect_term.specs.declared.term.Term.TheVariants.{Bracket', BracketCase', BracketFull', Race', Both'}
 
 -- A name, the kind that its place needs, and the kinds of the enclosing binders, outermost first. A name's slot is the
 -- number of binders that enclose its binder, and so the index of that binder's kind.
@@ -70,6 +70,7 @@ abbrev mutual
   uses_of around (Handle' p e q h) = uses_of around e ++ uses_of (around ++ Value ∷ []) h
   uses_of around (If0' v p s q e) = value_uses around v ++ (uses_of around s ++ uses_of around e)
   uses_of around (Add v w) = value_uses around v ++ value_uses around w
+  uses_of around (Calculate o v w) = value_uses around v ++ value_uses around w
   uses_of around (Say v) = value_uses around v
   uses_of around Cede = []
   uses_of around Never = []

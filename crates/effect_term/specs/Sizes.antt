@@ -1,11 +1,11 @@
 -- How many words a term has, and how deep it is.
 use Rattle.std.specs.Prelude.{ℕ, ◌+◌, max, List, [], ◌∷◌}
 use Rattle.effect_term.specs.declared.term.Term.{Term, Row_of-Term, end_of-Term, more_of-Term}
-use Rattle.effect_term.specs.declared.term.Term.TheVariants.{Pure, Raise, Let', Seq', Handle', If0', Add, Say, Cede}
-use Rattle.effect_term.specs.declared.term.Term.TheVariants.{Never, Canceled, Uncancelable', Poll', OnCancel', Start'}
-use Rattle.effect_term.specs.declared.term.Term.TheVariants.{Join', Cancel, Ref', Get, Set, Modify, Deferred'}
-use Rattle.effect_term.specs.declared.term.Term.TheVariants.{Complete, Await, Repeat', Forever', Guarantee', Bracket'}
-use Rattle.effect_term.specs.declared.term.Term.TheVariants.{BracketCase', BracketFull', Race', Both'}
+use Rattle.effect_term.specs.declared.term.Term.TheVariants.{Pure, Raise, Let', Seq', Handle', If0', Add, Calculate}
+use Rattle.effect_term.specs.declared.term.Term.TheVariants.{Say, Cede, Never, Canceled, Uncancelable', Poll'}
+use Rattle.effect_term.specs.declared.term.Term.TheVariants.{OnCancel', Start', Join', Cancel, Ref', Get, Set, Modify}
+use Rattle.effect_term.specs.declared.term.Term.TheVariants.{Deferred', Complete, Await, Repeat', Forever', Guarantee'}
+use Rattle.effect_term.specs.declared.term.Term.TheVariants.{Bracket', BracketCase', BracketFull', Race', Both'}
 
 -- the number of words in a term, its own word included
 abbrev mutual
@@ -17,6 +17,7 @@ abbrev mutual
   size_of (Handle' p e q h) = 1 + size_of e + size_of h
   size_of (If0' v p s q e) = 1 + size_of s + size_of e
   size_of (Add v w) = 1
+  size_of (Calculate o v w) = 1
   size_of (Say v) = 1
   size_of Cede = 1
   size_of Never = 1
@@ -64,6 +65,7 @@ abbrev mutual
   nest_of (Handle' p e q h) = 1 + max (nest_of e) (nest_of h)
   nest_of (If0' v p s q e) = 1 + max (nest_of s) (nest_of e)
   nest_of (Add v w) = 1
+  nest_of (Calculate o v w) = 1
   nest_of (Say v) = 1
   nest_of Cede = 1
   nest_of Never = 1

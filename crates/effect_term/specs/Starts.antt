@@ -1,11 +1,11 @@
 -- Which terms start fibers.
 use Rattle.std.specs.Prelude.{Bool, true, false, ◌||◌, List, [], ◌∷◌}
 use Rattle.effect_term.specs.declared.term.Term.{Term, Row_of-Term, end_of-Term, more_of-Term}
-use Rattle.effect_term.specs.declared.term.Term.TheVariants.{Pure, Raise, Let', Seq', Handle', If0', Add, Say, Cede}
-use Rattle.effect_term.specs.declared.term.Term.TheVariants.{Never, Canceled, Uncancelable', Poll', OnCancel', Start'}
-use Rattle.effect_term.specs.declared.term.Term.TheVariants.{Join', Cancel, Ref', Get, Set, Modify, Deferred'}
-use Rattle.effect_term.specs.declared.term.Term.TheVariants.{Complete, Await, Repeat', Forever', Guarantee', Bracket'}
-use Rattle.effect_term.specs.declared.term.Term.TheVariants.{BracketCase', BracketFull', Race', Both'}
+use Rattle.effect_term.specs.declared.term.Term.TheVariants.{Pure, Raise, Let', Seq', Handle', If0', Add, Calculate}
+use Rattle.effect_term.specs.declared.term.Term.TheVariants.{Say, Cede, Never, Canceled, Uncancelable', Poll'}
+use Rattle.effect_term.specs.declared.term.Term.TheVariants.{OnCancel', Start', Join', Cancel, Ref', Get, Set, Modify}
+use Rattle.effect_term.specs.declared.term.Term.TheVariants.{Deferred', Complete, Await, Repeat', Forever', Guarantee'}
+use Rattle.effect_term.specs.declared.term.Term.TheVariants.{Bracket', BracketCase', BracketFull', Race', Both'}
 
 -- whether the term contains a word `start`, `race` or `both`
 abbrev mutual
@@ -17,6 +17,7 @@ abbrev mutual
   starts_fiber (Handle' p e q h) = starts_fiber e || starts_fiber h
   starts_fiber (If0' v p s q e) = starts_fiber s || starts_fiber e
   starts_fiber (Add v w) = false
+  starts_fiber (Calculate o v w) = false
   starts_fiber (Say v) = false
   starts_fiber Cede = false
   starts_fiber Never = false

@@ -17,8 +17,8 @@ impl Term {
         ensures { result ≡ min (size_of self.now) (2 ^ 64 - 1) }
     {
         match self {
-            Term::Pure(_) | Term::Raise(_) | Term::Add(_, _) | Term::Say(_) => 1,
-            Term::Cede | Term::Never | Term::Canceled | Term::Cancel(_) => 1,
+            Term::Pure(_) | Term::Raise(_) | Term::Add(_, _) | Term::Calculate(_, _, _) => 1,
+            Term::Say(_) | Term::Cede | Term::Never | Term::Canceled | Term::Cancel(_) => 1,
             Term::Get(_) | Term::Set(_, _) | Term::Modify(_, _) => 1,
             Term::Complete(_, _) | Term::Await(_) => 1,
             Term::Uncancelable(e) | Term::Poll(_, e) | Term::Ref(_, e) => above(e.size(), 0),
@@ -48,8 +48,8 @@ impl Term {
         ensures { result ≡ min (nest_of self.now) (2 ^ 64 - 1) }
     {
         match self {
-            Term::Pure(_) | Term::Raise(_) | Term::Add(_, _) | Term::Say(_) => 1,
-            Term::Cede | Term::Never | Term::Canceled | Term::Cancel(_) => 1,
+            Term::Pure(_) | Term::Raise(_) | Term::Add(_, _) | Term::Calculate(_, _, _) => 1,
+            Term::Say(_) | Term::Cede | Term::Never | Term::Canceled | Term::Cancel(_) => 1,
             Term::Get(_) | Term::Set(_, _) | Term::Modify(_, _) => 1,
             Term::Complete(_, _) | Term::Await(_) => 1,
             Term::Uncancelable(e) | Term::Poll(_, e) | Term::Ref(_, e) => on_top(e.nest(), 0),
@@ -79,8 +79,8 @@ impl Term {
         ensures { result ≡ min (masks_of self.now) (2 ^ 64 - 1) }
     {
         match self {
-            Term::Pure(_) | Term::Raise(_) | Term::Add(_, _) | Term::Say(_) => 0,
-            Term::Cede | Term::Never | Term::Canceled => 0,
+            Term::Pure(_) | Term::Raise(_) | Term::Add(_, _) | Term::Calculate(_, _, _) => 0,
+            Term::Say(_) | Term::Cede | Term::Never | Term::Canceled => 0,
             Term::Get(_) | Term::Set(_, _) | Term::Modify(_, _) => 0,
             Term::Complete(_, _) | Term::Await(_) => 0,
             Term::Cancel(_) => within(0, 1),
@@ -118,8 +118,8 @@ impl Term {
         ensures { result ≡ min (expansion_size_of self.now) EXPANSION_STOP }
     {
         match self {
-            Term::Pure(_) | Term::Raise(_) | Term::Add(_, _) | Term::Say(_) => 1,
-            Term::Cede | Term::Never | Term::Canceled | Term::Cancel(_) => 1,
+            Term::Pure(_) | Term::Raise(_) | Term::Add(_, _) | Term::Calculate(_, _, _) => 1,
+            Term::Say(_) | Term::Cede | Term::Never | Term::Canceled | Term::Cancel(_) => 1,
             Term::Get(_) | Term::Set(_, _) | Term::Modify(_, _) => 1,
             Term::Complete(_, _) | Term::Await(_) => 1,
             Term::Uncancelable(e) | Term::Poll(_, e) | Term::Ref(_, e) => {
@@ -173,8 +173,9 @@ impl Term {
     {
         match self {
             Term::Start(_, _) | Term::Race(_, _) | Term::Both(_, _, _) => true,
-            Term::Pure(_) | Term::Raise(_) | Term::Add(_, _) | Term::Say(_) => false,
-            Term::Cede | Term::Never | Term::Canceled | Term::Cancel(_) => false,
+            Term::Pure(_) | Term::Raise(_) | Term::Add(_, _) | Term::Calculate(_, _, _) => false,
+            Term::Say(_) | Term::Cede | Term::Never => false,
+            Term::Canceled | Term::Cancel(_) => false,
             Term::Get(_) | Term::Set(_, _) | Term::Modify(_, _) => false,
             Term::Complete(_, _) | Term::Await(_) => false,
             Term::Uncancelable(e) | Term::Poll(_, e) | Term::Ref(_, e) => e.starts_fiber(),

@@ -19,5 +19,5 @@ pub use facts::facts_of;
 pub use program::Program;
 pub use refusal::TermError;
 pub use reply::{CancelReply, JoinReply, Outcome, Reply};
-pub use term::{Kind, Name, Operand, Term};
+pub use term::{Kind, Name, Operand, Operator, Term};
 pub use value::Value;

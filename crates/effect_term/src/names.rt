@@ -29,8 +29,8 @@ fn check_parts(kinds: &mut Vec<Kind>, term: &Term) -> Result<(), TermError>
     ensures same { kinds.new.items ≡ kinds.old.items }
 {
     match term {
-        Term::Pure(_) | Term::Raise(_) | Term::Add(_, _) | Term::Say(_) => Ok(()),
-        Term::Cede | Term::Never | Term::Canceled | Term::Cancel(_) => Ok(()),
+        Term::Pure(_) | Term::Raise(_) | Term::Add(_, _) | Term::Calculate(_, _, _) => Ok(()),
+        Term::Say(_) | Term::Cede | Term::Never | Term::Canceled | Term::Cancel(_) => Ok(()),
         Term::Get(_) | Term::Set(_, _) | Term::Modify(_, _) => Ok(()),
         Term::Complete(_, _) | Term::Await(_) => Ok(()),
         Term::Poll(_, e) | Term::Repeat(_, e) | Term::Forever(e) => check_names(kinds, e),
@@ -216,7 +216,7 @@ fn check_operands(kinds: &[Kind], term: &Term) -> Result<(), TermError>
     match term {
         Term::Pure(v) | Term::Raise(v) | Term::Say(v) => check_value(kinds, *v),
         Term::If0(v, _, _) | Term::Ref(v, _) | Term::Repeat(v, _) => check_value(kinds, *v),
-        Term::Add(v, w) => check_values(kinds, *v, *w),
+        Term::Add(v, w) | Term::Calculate(_, v, w) => check_values(kinds, *v, *w),
         Term::Poll(p, _) => check_name(kinds, Kind::Poll, *p),
         Term::Join(f, _, _, _) | Term::Cancel(f) => check_name(kinds, Kind::Fiber, *f),
         Term::Get(r) => check_name(kinds, Kind::Ref, *r),

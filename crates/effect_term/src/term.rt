@@ -1,7 +1,7 @@
-//! The terms of effect programs, as boxed trees of the 32 words.
+//! The terms of effect programs, as boxed trees of the 38 words.
 //!
 //! The words are those of Cats Effect 3's `MonadCancel`, `GenSpawn` and `GenConcurrent`, with terms in place of
-//! functions and whole numbers in place of values.
+//! functions and whole numbers in place of values, and six words of arithmetic.
 
 use crate::value::Value;
 
@@ -38,6 +38,24 @@ pub enum Operand {
     Named(Name),
 }
 
+/// What is computed from two values, the first and the second.
+#[derive(Clone, Copy, PartialEq, Eq, Debug)]
+pub enum Operator {
+    /// The first less the second; no value if it is out of range.
+    Difference,
+    /// The product; no value if it is out of range.
+    Product,
+    /// The quotient, rounded down; no value if the second is below 1.
+    Quotient,
+    /// What the quotient, rounded down, leaves of the first: from 0 to the second less 1. No value if the second is
+    /// below 1.
+    Remainder,
+    /// 1 if the first is less than the second, else 0.
+    Less,
+    /// 1 if the two are equal, else 0.
+    Equal,
+}
+
 /// A term. A binder isn't stored: its slot is the number of binders around it. The parts are in the order in which they
 /// are written.
 #[derive(Drop)]
@@ -56,6 +74,9 @@ pub enum Term {
     If0(Operand, Box<Term>, Box<Term>),
     /// Gives the sum; raises 1001 if it is out of range.
     Add(Operand, Operand),
+    /// Gives what the operator makes of the two values, in this order. Raises 1001 if the operator makes no value of
+    /// them.
+    Calculate(Operator, Operand, Operand),
     /// Notes the value, and gives 0.
     Say(Operand),
     /// Yields, and gives 0.

@@ -4,11 +4,11 @@ use Rattle.effect_term.specs.declared.term.Kind.{Kind}
 use Rattle.effect_term.specs.declared.term.Kind.TheVariants.{Value, Poll, Fiber, Ref, Deferred}
 use Rattle.effect_term.specs.Names.{Use, use_of, value_uses, uses_of, uses_of_row}
 use Rattle.effect_term.specs.declared.term.Term.{Term}
-use Rattle.effect_term.specs.declared.term.Term.TheVariants.{Pure, Raise, Let', Seq', Handle', If0', Add, Say, Cede}
-use Rattle.effect_term.specs.declared.term.Term.TheVariants.{Never, Canceled, Uncancelable', Poll', OnCancel', Start'}
-use Rattle.effect_term.specs.declared.term.Term.TheVariants.{Join', Cancel, Ref', Get, Set, Modify, Deferred'}
-use Rattle.effect_term.specs.declared.term.Term.TheVariants.{Complete, Await, Repeat', Forever', Guarantee', Bracket'}
-use Rattle.effect_term.specs.declared.term.Term.TheVariants.{BracketCase', BracketFull', Race', Both'}
+use Rattle.effect_term.specs.declared.term.Term.TheVariants.{Pure, Raise, Let', Seq', Handle', If0', Add, Calculate}
+use Rattle.effect_term.specs.declared.term.Term.TheVariants.{Say, Cede, Never, Canceled, Uncancelable', Poll'}
+use Rattle.effect_term.specs.declared.term.Term.TheVariants.{OnCancel', Start', Join', Cancel, Ref', Get, Set, Modify}
+use Rattle.effect_term.specs.declared.term.Term.TheVariants.{Deferred', Complete, Await, Repeat', Forever', Guarantee'}
+use Rattle.effect_term.specs.declared.term.Term.TheVariants.{Bracket', BracketCase', BracketFull', Race', Both'}
 
 -- the uses of a term's own operands
 abbrev pub own_uses : List Kind → Term → List Use
@@ -19,6 +19,7 @@ own_uses around (Seq' p a q b shape more) = []
 own_uses around (Handle' p e q h) = []
 own_uses around (If0' v p s q e) = value_uses around v
 own_uses around (Add v w) = value_uses around v ++ value_uses around w
+own_uses around (Calculate o v w) = value_uses around v ++ value_uses around w
 own_uses around (Say v) = value_uses around v
 own_uses around Cede = []
 own_uses around Never = []
@@ -54,6 +55,7 @@ part_uses around (Seq' p a q b shape more) = uses_of around a ++ (uses_of around
 part_uses around (Handle' p e q h) = uses_of around e ++ uses_of (around ++ Value ∷ []) h
 part_uses around (If0' v p s q e) = uses_of around s ++ uses_of around e
 part_uses around (Add v w) = []
+part_uses around (Calculate o v w) = []
 part_uses around (Say v) = []
 part_uses around Cede = []
 part_uses around Never = []
