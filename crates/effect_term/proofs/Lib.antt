@@ -1,3 +1,4 @@
+pub mod ArithmeticLaws
 pub mod Caps
 pub mod Faults
 pub mod KindLaws

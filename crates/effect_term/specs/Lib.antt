@@ -1,3 +1,4 @@
+pub mod Arithmetic
 pub mod ExpansionSize
 pub mod Kinds
 pub mod Masks

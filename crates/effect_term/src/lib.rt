@@ -9,6 +9,7 @@
 mod counts;
 mod facts;
 mod names;
+mod operator;
 mod program;
 mod refusal;
 mod reply;
@@ -16,8 +17,9 @@ mod term;
 mod value;
 
 pub use facts::facts_of;
+pub use operator::Operator;
 pub use program::Program;
 pub use refusal::TermError;
 pub use reply::{CancelReply, JoinReply, Outcome, Reply};
-pub use term::{Kind, Name, Operand, Operator, Term};
+pub use term::{Kind, Name, Operand, Term};
 pub use value::Value;

@@ -3,6 +3,7 @@
 //! The words are those of Cats Effect 3's `MonadCancel`, `GenSpawn` and `GenConcurrent`, with terms in place of
 //! functions and whole numbers in place of values, and six words of arithmetic.
 
+use crate::operator::Operator;
 use crate::value::Value;
 
 /// The kind of what a name is bound to.
@@ -36,24 +37,6 @@ pub enum Operand {
     Number(Value),
     /// The value that this name is bound to.
     Named(Name),
-}
-
-/// What is computed from two values, the first and the second.
-#[derive(Clone, Copy, PartialEq, Eq, Debug)]
-pub enum Operator {
-    /// The first less the second; no value if it is out of range.
-    Difference,
-    /// The product; no value if it is out of range.
-    Product,
-    /// The quotient, rounded down; no value if the second is below 1.
-    Quotient,
-    /// What the quotient, rounded down, leaves of the first: from 0 to the second less 1. No value if the second is
-    /// below 1.
-    Remainder,
-    /// 1 if the first is less than the second, else 0.
-    Less,
-    /// 1 if the two are equal, else 0.
-    Equal,
 }
 
 /// A term. A binder isn't stored: its slot is the number of binders around it. The parts are in the order in which they
