@@ -1,5 +1,5 @@
 -- What the operators' parts give within the range of values, and outside it.
-use Rattle.std.proofs.Common.{◌≡◌, ℕ, zero, suc, ◌-◌, ◌*◌, ◌/◌, ◌%◌, ◌^◌, ◌<◌, ◌≤◌, false, ap, refl, sym, ◌∙◌, arith, ℤ, pos, negsuc, ◌+ℤ◌, ◌*ℤ◌, Option, None}
+use Rattle.std.proofs.Common.{◌≡◌, ℕ, zero, suc, ◌-◌, ◌*◌, ◌/◌, ◌%◌, ◌^◌, ◌<◌, refl, arith, ℤ, pos, negsuc, ◌+ℤ◌, ◌*ℤ◌, ◌<ℤ◌, ◌≤ℤ◌, Option, None}
 use Rattle.std.proofs.Common.{Some, FitsSigned, int_lt}
 use Rattle.std.proofs.{lemmas.{Bool.{lt-ltb, le-ltb}, Int.ints}, Math.Nat.{div-le_self, mod-le}}
 use Rattle.std.specs.Int.{w64, int_div_euclid, int_rem_euclid}

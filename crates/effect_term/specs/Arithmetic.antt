@@ -1,9 +1,18 @@
--- What the six operators make of two values.
+-- The six operators: their words, and what each makes of two values.
 use Rattle.std.specs.Prelude.{ℕ, zero, suc, ◌-◌, ◌/◌, ◌%◌, ◌^◌, ℤ, pos, negsuc, ◌-ℤ◌, ◌*ℤ◌, int_lt, nat_lt, Bool, true}
-use Rattle.std.specs.Prelude.{false, Option, Some, None, if◌then◌else◌}
+use Rattle.std.specs.Prelude.{false, List, Option, Some, None, if◌then◌else◌, codes}
 use Rattle.std.specs.Ordering.{int_eq}
 use Rattle.effect_term.specs.declared.operator.Operator.{Operator}
 use Rattle.effect_term.specs.declared.operator.Operator.TheVariants.{Difference, Product, Quotient, Remainder, Less, Equal}
+
+-- the word of each operator
+abbrev pub operator_spelling : Operator → List ℕ
+operator_spelling Difference = codes "sub"
+operator_spelling Product = codes "mul"
+operator_spelling Quotient = codes "div"
+operator_spelling Remainder = codes "mod"
+operator_spelling Less = codes "less"
+operator_spelling Equal = codes "equal"
 
 -- the number, if it is a value
 abbrev pub in_range : ℤ → Option ℤ

@@ -1,7 +1,8 @@
 //! What is computed from two values.
 
-ghost use Rattle.std.specs.Prelude.{◌≡◌, ◌-ℤ◌, ◌*ℤ◌};
-ghost use Rattle.effect_term.specs.Arithmetic.{calculated, divided, in_range, left_over, rounded_down, truth};
+ghost use Rattle.std.specs.Prelude.{◌≡◌, ◌≤◌, ◌-ℤ◌, ◌*ℤ◌, length};
+ghost use Rattle.effect_term.specs.Arithmetic.{calculated, divided, in_range, left_over, operator_spelling, rounded_down};
+ghost use Rattle.effect_term.specs.Arithmetic.{truth};
 
 use crate::value::Value;
 
@@ -24,6 +25,21 @@ pub enum Operator {
 }
 
 impl Operator {
+    /// Its word: `sub`, `mul`, `div`, `mod`, `less` or `equal`.
+    pub fn spelling(self) -> &'static [u8]
+        ensures word { result.now ≡ operator_spelling self }
+        ensures long { 3 ≤ length result.now }
+    {
+        match self {
+            Operator::Difference => b"sub",
+            Operator::Product => b"mul",
+            Operator::Quotient => b"div",
+            Operator::Remainder => b"mod",
+            Operator::Less => b"less",
+            Operator::Equal => b"equal",
+        }
+    }
+
     /// Returns what the operator makes of the two values, or `None` exactly if it makes no value of them.
     ///
     /// So `Quotient` of -1 and 2 is -1 and `Remainder` is 1, and both are `None` if the second value is below 1.

@@ -43,6 +43,7 @@ no_other words.Seq a b c m0 m1 m2 m3 m4 m5 = m0 refl
 no_other words.Handle a b c m0 m1 m2 m3 m4 m5 = c.1 refl
 no_other words.If0 a b c m0 m1 m2 m3 m4 m5 = c.2 refl
 no_other words.Add a b c m0 m1 m2 m3 m4 m5 = a.2 refl
+no_other (words.Calculate o) a b c m0 m1 m2 m3 m4 m5 = a.13 o refl
 no_other words.Say a b c m0 m1 m2 m3 m4 m5 = a.3 refl
 no_other words.Cede a b c m0 m1 m2 m3 m4 m5 = a.4 refl
 no_other words.Never a b c m0 m1 m2 m3 m4 m5 = a.5 refl

@@ -2,8 +2,9 @@
 use Rattle.std.proofs.Common.{◌≡◌, ℕ, List, [], ◌∷◌, ◌++◌, length, Option, Some, None, Result, Ok, Err, IfOk, slice_get, map, refl, ap, sym, subst, ◌∙◌}
 use Rattle.std.{proofs.{Common.append_assoc, lemmas.{List.map-append, Option.slice_get-map}}, specs.Option.option_map}
 use Rattle.effect_term.specs.declared.term.{Kind.Kind, Name.Name, Operand.TheVariants.{Number, Named}, Term.{Term, Row_of-Term, end_of-Term, more_of-Term}}
-use Rattle.effect_term.specs.declared.term.Term.TheVariants.{Pure, Let', Seq', Handle', If0', Add, Cede, Never, Canceled, Uncancelable', Poll'}
-use Rattle.effect_term.specs.declared.term.Term.TheVariants.{OnCancel', Start', Join', Ref', Set, Modify, Deferred', Complete, Repeat'}
+use Rattle.effect_term.specs.declared.term.Term.TheVariants.{Pure, Let', Seq', Handle', If0', Add, Calculate, Cede}
+use Rattle.effect_term.specs.declared.term.Term.TheVariants.{Never, Canceled, Uncancelable', Poll', OnCancel', Start'}
+use Rattle.effect_term.specs.declared.term.Term.TheVariants.{Join', Ref', Set, Modify, Deferred', Complete, Repeat'}
 use Rattle.effect_term.specs.{declared.term.Term.TheVariants.{Forever', Guarantee', Bracket', BracketCase', BracketFull', Race', Both'}, Kinds.Fits}
 use Rattle.effect_term.specs.Kinds.{ValueFits, WellKinded, AllWellKinded}
 use Rattle.term_parse.specs.{declared.{error.ParseError.ParseError, table.{Part.Part, Word.Word}}, Atoms.{Atom, word, value, name, ended, atoms_of}}
@@ -180,6 +181,7 @@ mutual
       let in_e = split_term e closed ks [] _ in_s.1 in
       (m.0, kinded_term s ks (term_then e closed) in_s.0, kinded_term e ks closed in_e.0)
   kinded_term (Add v w) ks rest m = (m.0, m.1.0)
+  kinded_term (Calculate o v w) ks rest m = (m.0, m.1.0)
   kinded_term Cede ks rest m = tt
   kinded_term Never ks rest m = tt
   kinded_term Canceled ks rest m = tt

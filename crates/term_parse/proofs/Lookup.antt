@@ -2,6 +2,7 @@
 use Rattle.std.proofs.Common.{◌≡◌, Bool, true, false, if◌then◌else◌, ℕ, List, [], ◌∷◌, Option, Some, None, length, refl, sym, subst, find, bytes_eq, arith}
 use Rattle.std.proofs.{Common.{drop, get_or, ap, ◌∙◌, ◌+◌, ◌<◌, ◌≤◌}, lemmas.{List.{at_drop_more, at_drop_all}, Slice.Eq.bytes_eq-Decides}}
 use Rattle.term_parse.{specs.{declared.table.Word.Word, Language.{word_spelling, word_of}, Lookup.words_from}, proofs.Words.{spelling-found, word_of-spelled}}
+use Rattle.effect_term.specs.declared.operator.Operator.TheVariants as operator
 use Rattle.term_parse.specs.declared.table.Word.TheVariants as words
 
 abbrev nearby : List ℕ → Option Word
@@ -11,6 +12,12 @@ nearby (first ∷ rest) = find (λ w. bytes_eq (word_spelling w) (first ∷ rest
 nearby-spelled : (w : Word) → nearby (word_spelling w) ≡ Some w
 unfolding words_from word_spelling
 nearby-spelled words.Pure = refl
+nearby-spelled (words.Calculate operator.Difference) = refl
+nearby-spelled (words.Calculate operator.Product) = refl
+nearby-spelled (words.Calculate operator.Quotient) = refl
+nearby-spelled (words.Calculate operator.Remainder) = refl
+nearby-spelled (words.Calculate operator.Less) = refl
+nearby-spelled (words.Calculate operator.Equal) = refl
 nearby-spelled _ = refl
 
 chosen_passes : (p : Word → Bool) (v w : Word) (others : Option Word) (b : Bool) → p v ≡ b → (others ≡ Some w → p w ≡ true) →

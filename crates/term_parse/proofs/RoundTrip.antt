@@ -2,8 +2,10 @@
 use Rattle.std.proofs.Common.{◌≡◌, ◌≤◌, ℕ, suc, List, [], ◌∷◌, ◌++◌, length, Ok, false, nat_lt, refl, ap, sym, ◌∙◌, arith, append_assoc, append-nil}
 use Rattle.std.proofs.lemmas.Bool.{le-ltb}
 use Rattle.effect_term.specs.declared.term.{Kind.Kind, Term.{Term, Row_of-Term, end_of-Term, more_of-Term, TheVariants.{Pure, Raise, Let', Seq', Handle'}}}
-use Rattle.effect_term.specs.declared.term.Term.TheVariants.{If0', Add, Say, Cede, Never, Canceled, Uncancelable', Poll', OnCancel', Start', Join', Cancel}
-use Rattle.effect_term.specs.declared.term.Term.TheVariants.{Ref', Get, Set, Modify, Deferred', Complete, Await, Repeat', Forever', Guarantee', Bracket'}
+use Rattle.effect_term.specs.declared.term.Term.TheVariants.{If0', Add, Calculate, Say, Cede, Never, Canceled}
+use Rattle.effect_term.specs.declared.term.Term.TheVariants.{Uncancelable', Poll', OnCancel', Start', Join', Cancel}
+use Rattle.effect_term.specs.declared.term.Term.TheVariants.{Ref', Get, Set, Modify, Deferred', Complete, Await}
+use Rattle.effect_term.specs.declared.term.Term.TheVariants.{Repeat', Forever', Guarantee', Bracket'}
 use Rattle.effect_term.specs.{declared.term.Term.TheVariants.{BracketCase', BracketFull', Race', Both'}, Kinds.{WellKinded, AllWellKinded}, Sizes.nest_of}
 use Rattle.effect_term.specs.Sizes.{nests_of}
 use Rattle.term_parse.specs.{Atoms.{word, ended, atoms_of, row_atoms}, Language.parts_of, Lexemes.{lexemes, lexemes_at}, Reading.{term, want_step, reads}}
@@ -81,6 +83,9 @@ mutual
   term_read (Add v w) ks kinded =
       form_read words.Add (value_read v ∷ value_read w ∷ []) [] ks (nest_of (Add v w)) (spelling (Add v w)) (atoms_of (Add v w)) refl refl
       (kinded.0, (kinded.1, tt)) (omega arith)
+  term_read (Calculate o v w) ks kinded =
+      form_read (words.Calculate o) (value_read v ∷ value_read w ∷ []) [] ks (nest_of (Calculate o v w)) (spelling (Calculate o v w))
+      (atoms_of (Calculate o v w)) refl refl (kinded.0, (kinded.1, tt)) (omega arith)
   term_read (Say v) ks kinded =
       form_read words.Say (value_read v ∷ []) [] ks (nest_of (Say v)) (spelling (Say v)) (atoms_of (Say v)) refl refl (kinded, tt) (omega arith)
   term_read Cede ks kinded = form_read words.Cede [] [] ks (nest_of Cede) (spelling Cede) (atoms_of Cede) refl refl tt (omega arith)

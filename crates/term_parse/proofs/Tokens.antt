@@ -6,6 +6,7 @@ use Rattle.std.{proofs.lemmas.Str.Parse.{IsNumeralModel, numerals_by_value}, spe
 use Rattle.effect_term.specs.{Values.IsValue, declared.term.Kind.Kind}
 use Rattle.term_parse.specs.{declared.table.Word.Word, Lexemes.{called, number, is_letter, is_digit, is_run, run_of, all_digits, is_plain, number_of, numbered}}
 use Rattle.term_parse.specs.{Lexemes.{lexeme_of, lexemes}, Language.word_spelling, Spelling.{letter_of, name_spelling}}
+use Rattle.effect_term.specs.declared.operator.Operator.TheVariants as operator
 use Rattle.effect_term.specs.declared.term.Kind.TheVariants as kinds
 use Rattle.term_parse.specs.declared.table.Word.TheVariants as words
 
@@ -194,6 +195,12 @@ word_token words.Seq at rest e = identifier at 115 (101 ∷ 113 ∷ []) rest (λ
 word_token words.Handle at rest e = identifier at 104 (97 ∷ 110 ∷ 100 ∷ 108 ∷ 101 ∷ []) rest (λ bs. refl) refl e
 word_token words.If0 at rest e = identifier at 105 (102 ∷ 48 ∷ []) rest (λ bs. refl) refl e
 word_token words.Add at rest e = identifier at 97 (100 ∷ 100 ∷ []) rest (λ bs. refl) refl e
+word_token (words.Calculate operator.Difference) at rest e = identifier at 115 (117 ∷ 98 ∷ []) rest (λ bs. refl) refl e
+word_token (words.Calculate operator.Product) at rest e = identifier at 109 (117 ∷ 108 ∷ []) rest (λ bs. refl) refl e
+word_token (words.Calculate operator.Quotient) at rest e = identifier at 100 (105 ∷ 118 ∷ []) rest (λ bs. refl) refl e
+word_token (words.Calculate operator.Remainder) at rest e = identifier at 109 (111 ∷ 100 ∷ []) rest (λ bs. refl) refl e
+word_token (words.Calculate operator.Less) at rest e = identifier at 108 (101 ∷ 115 ∷ 115 ∷ []) rest (λ bs. refl) refl e
+word_token (words.Calculate operator.Equal) at rest e = identifier at 101 (113 ∷ 117 ∷ 97 ∷ 108 ∷ []) rest (λ bs. refl) refl e
 word_token words.Say at rest e = identifier at 115 (97 ∷ 121 ∷ []) rest (λ bs. refl) refl e
 word_token words.Cede at rest e = identifier at 99 (101 ∷ 100 ∷ 101 ∷ []) rest (λ bs. refl) refl e
 word_token words.Never at rest e = identifier at 110 (101 ∷ 118 ∷ 101 ∷ 114 ∷ []) rest (λ bs. refl) refl e

@@ -2,6 +2,7 @@
 use Rattle.std.proofs.Common.{◌≡◌, Bool, true, false, ℕ, List, [], ◌∷◌, Option, Some, refl, ap, sym, subst, ◌∙◌, if◌then◌else◌, find, bytes_eq}
 use Rattle.std.proofs.lemmas.Slice.Eq.{bytes_eq-Decides}
 use Rattle.term_parse.specs.{declared.table.Word.Word, Language.{every_word, word_spelling, parts_of, word_of}, Forms.{Sort, a_term, Completes, Shaped}}
+use Rattle.effect_term.specs.declared.operator.Operator.TheVariants as operator
 use Rattle.term_parse.specs.declared.table.Word.TheVariants as words
 
 -- what the parts of a word's form give is what the word wants
@@ -13,6 +14,12 @@ completed _ m c = cc
 pub word_of-spelled : (w : Word) → word_of (word_spelling w) ≡ Some w
 unfolding word_of word_spelling
 word_of-spelled words.Pure = refl
+word_of-spelled (words.Calculate operator.Difference) = refl
+word_of-spelled (words.Calculate operator.Product) = refl
+word_of-spelled (words.Calculate operator.Quotient) = refl
+word_of-spelled (words.Calculate operator.Remainder) = refl
+word_of-spelled (words.Calculate operator.Less) = refl
+word_of-spelled (words.Calculate operator.Equal) = refl
 word_of-spelled _ = refl
 
 chosen_passes : (p : Word → Bool) (v w : Word) (others : Option Word) (b : Bool) → p v ≡ b → (others ≡ Some w → p w ≡ true) →

@@ -5,11 +5,11 @@ use Rattle.effect_term.specs.declared.term.Name.{Name}
 use Rattle.term_parse.specs.declared.table.Word.{Word}
 use Rattle.term_parse.specs.declared.table.Word.TheVariants as words
 use Rattle.effect_term.specs.declared.term.Term.{Term, Row_of-Term, end_of-Term, more_of-Term}
-use Rattle.effect_term.specs.declared.term.Term.TheVariants.{Pure, Raise, Let', Seq', Handle', If0', Add, Say, Cede}
-use Rattle.effect_term.specs.declared.term.Term.TheVariants.{Never, Canceled, Uncancelable', Poll', OnCancel', Start'}
-use Rattle.effect_term.specs.declared.term.Term.TheVariants.{Join', Cancel, Ref', Get, Set, Modify, Deferred'}
-use Rattle.effect_term.specs.declared.term.Term.TheVariants.{Complete, Await, Repeat', Forever', Guarantee', Bracket'}
-use Rattle.effect_term.specs.declared.term.Term.TheVariants.{BracketCase', BracketFull', Race', Both'}
+use Rattle.effect_term.specs.declared.term.Term.TheVariants.{Pure, Raise, Let', Seq', Handle', If0', Add, Calculate}
+use Rattle.effect_term.specs.declared.term.Term.TheVariants.{Say, Cede, Never, Canceled, Uncancelable', Poll'}
+use Rattle.effect_term.specs.declared.term.Term.TheVariants.{OnCancel', Start', Join', Cancel, Ref', Get, Set, Modify}
+use Rattle.effect_term.specs.declared.term.Term.TheVariants.{Deferred', Complete, Await, Repeat', Forever', Guarantee'}
+use Rattle.effect_term.specs.declared.term.Term.TheVariants.{Bracket', BracketCase', BracketFull', Race', Both'}
 
 pub data Atom : Type 0 where
   word : Word → Atom
@@ -27,6 +27,7 @@ abbrev mutual
   atoms_of (Handle' p0 e0 p1 e1) = word words.Handle ∷ (atoms_of e0 ++ (atoms_of e1 ++ (ended ∷ [])))
   atoms_of (If0' v0 p1 e1 p2 e2) = word words.If0 ∷ (value v0 ∷ (atoms_of e1 ++ (atoms_of e2 ++ (ended ∷ []))))
   atoms_of (Add v0 v1) = word words.Add ∷ (value v0 ∷ value v1 ∷ ended ∷ [])
+  atoms_of (Calculate o v0 v1) = word (words.Calculate o) ∷ (value v0 ∷ value v1 ∷ ended ∷ [])
   atoms_of (Say v0) = word words.Say ∷ (value v0 ∷ ended ∷ [])
   atoms_of Cede = word words.Cede ∷ (ended ∷ [])
   atoms_of Never = word words.Never ∷ (ended ∷ [])

@@ -1,5 +1,6 @@
 -- The meaning of an open form, and the pieces that its word wants.
 use Rattle.std.specs.Prelude.{◌≡◌, ◌≤◌, ◌<◌, ◌+◌, ℕ, suc, List, [], ◌∷◌, ◌++◌, length, drop, Box}
+use Rattle.effect_term.specs.declared.operator.Operator.{Operator}
 use Rattle.effect_term.specs.declared.term.Term as terms
 use Rattle.term_parse.specs.declared.table.Word.{Word}
 use Rattle.term_parse.specs.declared.table.Word.TheVariants as words
@@ -80,6 +81,7 @@ Shaped words.Seq s = (r : List Sort) × (s ≡ a_term ∷ a_term ∷ r) × AllTe
 Shaped words.Handle s = s ≡ a_term ∷ a_term ∷ []
 Shaped words.If0 s = s ≡ a_value ∷ a_term ∷ a_term ∷ []
 Shaped words.Add s = s ≡ a_value ∷ a_value ∷ []
+Shaped (words.Calculate o) s = s ≡ a_value ∷ a_value ∷ []
 Shaped words.Say s = s ≡ a_value ∷ []
 Shaped words.Cede s = s ≡ []
 Shaped words.Never s = s ≡ []
@@ -111,7 +113,7 @@ abbrev pub NotPlain : Word → Type 0
 NotPlain w = (w ≡ words.Pure → ⊥) × (w ≡ words.Raise → ⊥) × (w ≡ words.Add → ⊥) × (w ≡ words.Say → ⊥) ×
     (w ≡ words.Cede → ⊥) × (w ≡ words.Never → ⊥) × (w ≡ words.Canceled → ⊥) × (w ≡ words.Cancel → ⊥) ×
     (w ≡ words.Get → ⊥) × (w ≡ words.Set → ⊥) × (w ≡ words.Modify → ⊥) × (w ≡ words.Complete → ⊥) ×
-    (w ≡ words.Await → ⊥)
+    (w ≡ words.Await → ⊥) × ((o : Operator) → w ≡ words.Calculate o → ⊥)
 
 -- the word is none of those with one term in their form
 abbrev pub NotOne : Word → Type 0

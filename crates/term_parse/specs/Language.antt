@@ -1,6 +1,9 @@
 -- The language: the spelling of each word, and the parts of its form.
 use Rattle.std.specs.Prelude.{ℕ, List, [], ◌∷◌, Option, codes, find}
 use Rattle.std.specs.Str.{bytes_eq}
+use Rattle.effect_term.specs.Arithmetic.{operator_spelling}
+use Rattle.effect_term.specs.declared.operator.Operator.TheVariants.{Difference, Product, Quotient, Remainder, Less}
+use Rattle.effect_term.specs.declared.operator.Operator.TheVariants.{Equal}
 use Rattle.effect_term.specs.declared.term.Kind.TheVariants as kinds
 use Rattle.term_parse.specs.declared.table.Word.{Word}
 use Rattle.term_parse.specs.declared.table.Word.TheVariants as words
@@ -10,8 +13,10 @@ use Rattle.term_parse.specs.declared.table.Part.TheVariants.{Bind, Use, Value, T
 -- the words
 abbrev pub every_word : List Word
 every_word =
-    words.Pure ∷ words.Raise ∷ words.Let ∷ words.Seq ∷ words.Handle ∷ words.If0 ∷ words.Add ∷ words.Say ∷
-    words.Cede ∷ words.Never ∷ words.Canceled ∷ words.Uncancelable ∷ words.Poll ∷ words.OnCancel ∷ words.Start ∷
+    words.Pure ∷ words.Raise ∷ words.Let ∷ words.Seq ∷ words.Handle ∷ words.If0 ∷ words.Add ∷
+    words.Calculate Difference ∷ words.Calculate Product ∷ words.Calculate Quotient ∷ words.Calculate Remainder ∷
+    words.Calculate Less ∷ words.Calculate Equal ∷ words.Say ∷ words.Cede ∷ words.Never ∷ words.Canceled ∷
+    words.Uncancelable ∷ words.Poll ∷ words.OnCancel ∷ words.Start ∷
     words.Join ∷ words.Cancel ∷ words.Ref ∷ words.Get ∷ words.Set ∷ words.Modify ∷ words.Deferred ∷ words.Complete ∷
     words.Await ∷ words.Repeat ∷ words.Forever ∷ words.Guarantee ∷ words.Bracket ∷ words.BracketCase ∷
     words.BracketFull ∷ words.Race ∷ words.Both ∷ []
@@ -25,6 +30,7 @@ word_spelling words.Seq = codes "seq"
 word_spelling words.Handle = codes "handle"
 word_spelling words.If0 = codes "if0"
 word_spelling words.Add = codes "add"
+word_spelling (words.Calculate o) = operator_spelling o
 word_spelling words.Say = codes "say"
 word_spelling words.Cede = codes "cede"
 word_spelling words.Never = codes "never"
@@ -69,6 +75,8 @@ parts_of words.Handle = Term ∷ Bind kinds.Value ∷ Under 0 ∷ Close ∷ []
 parts_of words.If0 = Value ∷ Term ∷ Term ∷ Close ∷ []
 -- (add v w)
 parts_of words.Add = Value ∷ Value ∷ Close ∷ []
+-- (sub v w), and so on
+parts_of (words.Calculate o) = Value ∷ Value ∷ Close ∷ []
 -- (say v)
 parts_of words.Say = Value ∷ Close ∷ []
 -- (cede)

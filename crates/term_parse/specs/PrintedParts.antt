@@ -3,11 +3,11 @@ use Rattle.std.specs.Prelude.{◌≡◌, ℕ, List, [], ◌∷◌, ◌++◌, Opt
 use Rattle.effect_term.specs.declared.term.Operand.{Operand}
 use Rattle.effect_term.specs.declared.term.Name.{Name}
 use Rattle.effect_term.specs.declared.term.Term.{Term, items-the_row-Term}
-use Rattle.effect_term.specs.declared.term.Term.TheVariants.{Pure, Raise, Let', Seq', Handle', If0', Add, Say, Cede}
-use Rattle.effect_term.specs.declared.term.Term.TheVariants.{Never, Canceled, Uncancelable', Poll', OnCancel', Start'}
-use Rattle.effect_term.specs.declared.term.Term.TheVariants.{Join', Cancel, Ref', Get, Set, Modify, Deferred'}
-use Rattle.effect_term.specs.declared.term.Term.TheVariants.{Complete, Await, Repeat', Forever', Guarantee', Bracket'}
-use Rattle.effect_term.specs.declared.term.Term.TheVariants.{BracketCase', BracketFull', Race', Both'}
+use Rattle.effect_term.specs.declared.term.Term.TheVariants.{Pure, Raise, Let', Seq', Handle', If0', Add, Calculate}
+use Rattle.effect_term.specs.declared.term.Term.TheVariants.{Say, Cede, Never, Canceled, Uncancelable', Poll'}
+use Rattle.effect_term.specs.declared.term.Term.TheVariants.{OnCancel', Start', Join', Cancel, Ref', Get, Set, Modify}
+use Rattle.effect_term.specs.declared.term.Term.TheVariants.{Deferred', Complete, Await, Repeat', Forever', Guarantee'}
+use Rattle.effect_term.specs.declared.term.Term.TheVariants.{Bracket', BracketCase', BracketFull', Race', Both'}
 use Rattle.term_parse.specs.declared.printer.PrintedPart.{PrintedPart}
 use Rattle.term_parse.specs.declared.printer.PrintedPart.TheVariants as held
 use Rattle.term_parse.specs.declared.table.Part.{Part}
@@ -89,6 +89,7 @@ term_word (Seq' p a q b shape more) = words.Seq
 term_word (Handle' p e q h) = words.Handle
 term_word (If0' v p s q e) = words.If0
 term_word (Add v w) = words.Add
+term_word (Calculate o v w) = words.Calculate o
 term_word (Say v) = words.Say
 term_word Cede = words.Cede
 term_word Never = words.Never
@@ -124,6 +125,7 @@ held_of (Seq' p a q b shape more) = inner a ∷ inner b ∷ []
 held_of (Handle' p e q h) = inner e ∷ inner h ∷ []
 held_of (If0' v p s q e) = a_value v ∷ inner s ∷ inner e ∷ []
 held_of (Add v w) = a_value v ∷ a_value w ∷ []
+held_of (Calculate o v w) = a_value v ∷ a_value w ∷ []
 held_of (Say v) = a_value v ∷ []
 held_of Cede = []
 held_of Never = []
@@ -159,6 +161,7 @@ more_of (Let' p e q k) = []
 more_of (Handle' p e q h) = []
 more_of (If0' v p s q e) = []
 more_of (Add v w) = []
+more_of (Calculate o v w) = []
 more_of (Say v) = []
 more_of Cede = []
 more_of Never = []

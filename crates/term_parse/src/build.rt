@@ -263,6 +263,10 @@ pub(crate) fn build(
             let (first, second) = two_values(pieces);
             Ok(Term::Add(first, second))
         }
+        Word::Calculate(operator) => {
+            let (first, second) = two_values(pieces);
+            Ok(Term::Calculate(operator, first, second))
+        }
         Word::Cede => Ok(Term::Cede),
         Word::Never => Ok(Term::Never),
         Word::Canceled => Ok(Term::Canceled),

@@ -119,6 +119,7 @@ fn term_word(term: &Term) -> Word
         Term::Handle(_, _) => Word::Handle,
         Term::If0(_, _, _) => Word::If0,
         Term::Add(_, _) => Word::Add,
+        Term::Calculate(operator, _, _) => Word::Calculate(*operator),
         Term::Say(_) => Word::Say,
         Term::Cede => Word::Cede,
         Term::Never => Word::Never,
@@ -158,7 +159,10 @@ fn pieces_in(term: &Term) -> [Option<PrintedPart<'_>>; 5]
         Term::Uncancelable(e) | Term::Deferred(e) | Term::Forever(e) => one_piece(PrintedPart::Term(
             e,
         )),
-        Term::Add(v, w) => two_pieces(PrintedPart::Value(v), PrintedPart::Value(w)),
+        Term::Add(v, w) | Term::Calculate(_, v, w) => two_pieces(
+            PrintedPart::Value(v),
+            PrintedPart::Value(w),
+        ),
         Term::Set(n, v) | Term::Modify(n, v) | Term::Complete(n, v) => {
             two_pieces(PrintedPart::Name(*n), PrintedPart::Value(v))
         }
@@ -198,8 +202,8 @@ fn more_of(term: &Term) -> &[Term]
 {
     match term {
         Term::Seq(_, _, more) => more,
-        Term::Pure(_) | Term::Raise(_) | Term::Add(_, _) | Term::Say(_) => &[],
-        Term::Cede | Term::Never | Term::Canceled | Term::Cancel(_) => &[],
+        Term::Pure(_) | Term::Raise(_) | Term::Add(_, _) | Term::Calculate(_, _, _) => &[],
+        Term::Say(_) | Term::Cede | Term::Never | Term::Canceled | Term::Cancel(_) => &[],
         Term::Get(_) | Term::Set(_, _) | Term::Modify(_, _) => &[],
         Term::Complete(_, _) | Term::Await(_) => &[],
         Term::Uncancelable(_) | Term::Poll(_, _) | Term::Ref(_, _) => &[],

@@ -10,9 +10,10 @@ ghost use Rattle.term_parse.specs.Language.{every_word, word_spelling, parts_of,
 ghost use Rattle.term_parse.specs.Lookup.{words_from};
 
 use crate::spelling::is_same;
-use effect_term::Kind;
+use effect_term::{Kind, Operator};
 
-/// The 32 words of the language. The spelling of each is the name of its variant in small letters.
+/// The 38 words of the language. The spelling of each is the name of its variant in small letters; the words of
+/// arithmetic are spelled as their operators.
 #[derive(Clone, Copy)]
 pub enum Word {
     Pure,
@@ -22,6 +23,7 @@ pub enum Word {
     Handle,
     If0,
     Add,
+    Calculate(Operator),
     Say,
     Cede,
     Never,
@@ -70,7 +72,7 @@ pub enum Part {
     Close,
 }
 
-/// All words, in the order of [`Word`].
+/// All words, in the order of [`Word`] and of [`Operator`].
 pub fn every_word() -> &'static [Word]
     ensures { result.now ≡ every_word }
 {
@@ -82,6 +84,12 @@ pub fn every_word() -> &'static [Word]
         Word::Handle,
         Word::If0,
         Word::Add,
+        Word::Calculate(Operator::Difference),
+        Word::Calculate(Operator::Product),
+        Word::Calculate(Operator::Quotient),
+        Word::Calculate(Operator::Remainder),
+        Word::Calculate(Operator::Less),
+        Word::Calculate(Operator::Equal),
         Word::Say,
         Word::Cede,
         Word::Never,
@@ -124,6 +132,7 @@ pub fn spelling_of(word: Word) -> &'static [u8]
         Word::Handle => b"handle",
         Word::If0 => b"if0",
         Word::Add => b"add",
+        Word::Calculate(operator) => operator.spelling(),
         Word::Say => b"say",
         Word::Cede => b"cede",
         Word::Never => b"never",
@@ -174,7 +183,7 @@ pub fn parts_of(word: Word) -> &'static [Part]
             Part::Close,
         ],
         Word::If0 => &[Part::Value, Part::Term, Part::Term, Part::Close],
-        Word::Add => &[Part::Value, Part::Value, Part::Close],
+        Word::Add | Word::Calculate(_) => &[Part::Value, Part::Value, Part::Close],
         Word::Cede | Word::Never | Word::Canceled => &[Part::Close],
         Word::Uncancelable => &[Part::Bind(Kind::Poll), Part::Under(0), Part::Close],
         Word::Poll => &[Part::Use(Kind::Poll), Part::Term, Part::Close],
@@ -263,19 +272,30 @@ fn words_from(first: u8) -> &'static [Word]
             Word::Both,
         ],
         b'c' => &[Word::Cede, Word::Canceled, Word::Cancel, Word::Complete],
-        b'd' => &[Word::Deferred],
+        b'd' => &[Word::Deferred, Word::Calculate(Operator::Quotient)],
+        b'e' => &[Word::Calculate(Operator::Equal)],
         b'f' => &[Word::Forever],
         b'g' => &[Word::Get, Word::Guarantee],
         b'h' => &[Word::Handle],
         b'i' => &[Word::If0],
         b'j' => &[Word::Join],
-        b'l' => &[Word::Let],
-        b'm' => &[Word::Modify],
+        b'l' => &[Word::Let, Word::Calculate(Operator::Less)],
+        b'm' => &[
+            Word::Modify,
+            Word::Calculate(Operator::Product),
+            Word::Calculate(Operator::Remainder),
+        ],
         b'n' => &[Word::Never],
         b'o' => &[Word::OnCancel],
         b'p' => &[Word::Pure, Word::Poll],
         b'r' => &[Word::Raise, Word::Ref, Word::Repeat, Word::Race],
-        b's' => &[Word::Seq, Word::Say, Word::Start, Word::Set],
+        b's' => &[
+            Word::Seq,
+            Word::Say,
+            Word::Start,
+            Word::Set,
+            Word::Calculate(Operator::Difference),
+        ],
         b'u' => &[Word::Uncancelable],
         _ => &[],
     }
