@@ -389,6 +389,7 @@ module _ (b : Given) where
     named-expansion (term.Handle' _ e _ k) g m s d q h w = (q, (named-expansion e g m s d q h w.0, bound g m s d q h kind.Value k (named-expansion k) w.1))
     named-expansion (term.If0' v _ x _ y) g m s d q h w = (named-expansion x g m s d q h w.1, named-expansion y g m s d q h w.2)
     named-expansion (term.Add v u) g m s d q h w = tt
+    named-expansion (term.Calculate o v u) g m s d q h w = tt
     named-expansion (term.Say v) g m s d q h w = tt
     named-expansion term.Cede g m s d q h w = tt
     named-expansion term.Never g m s d q h w = tt

@@ -23,6 +23,7 @@ mutual
   words_expansion (term.Handle' _ e _ h) m d = omega (arith, words_expansion e m d, words_expansion h (m ++ d ∷ []) (d + 1))
   words_expansion (term.If0' v _ s _ e) m d = omega (arith, words_expansion s m d, words_expansion e m d)
   words_expansion (term.Add v w) m d = refl
+  words_expansion (term.Calculate o v w) m d = refl
   words_expansion (term.Say v) m d = refl
   words_expansion term.Cede m d = refl
   words_expansion term.Never m d = refl
@@ -135,6 +136,7 @@ mutual
   masks_expansion (term.Handle' _ e _ h) m d = rw (masks_expansion e m d, masks_expansion h (m ++ d ∷ []) (d + 1)) refl
   masks_expansion (term.If0' v _ s _ e) m d = rw (masks_expansion s m d, masks_expansion e m d) refl
   masks_expansion (term.Add v w) m d = refl
+  masks_expansion (term.Calculate o v w) m d = refl
   masks_expansion (term.Say v) m d = refl
   masks_expansion term.Cede m d = refl
   masks_expansion term.Never m d = refl

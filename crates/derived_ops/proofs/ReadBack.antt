@@ -10,10 +10,10 @@ use Rattle.derived_ops.specs.Private.Writing.{stored_turns, stored_value}
 use Rattle.derived_ops.specs.Source as source
 use Rattle.derived_ops.specs.Source.{Source}
 use Rattle.derived_ops.specs.Tree as tree
-use Rattle.derived_ops.specs.Tree.{Operand, Number, Slot, Handle, Known, Open_slot, Mask, Named, Pair, Action, Add, Say, Cede, Never, Canceled, Request}
-use Rattle.derived_ops.specs.Tree.{Ending, Get, Set, Modify, Complete, Await, Bracket_mark, Acquired, Releasing, Released, Maker, New_ref, New_deferred}
-use Rattle.derived_ops.specs.Tree.{Turns, Times, Always, Rest, Last, More, Tree, Pure, Raise, Act, Note, Cancel, Let, Seq, Handled, If0, Join, Make}
-use Rattle.derived_ops.specs.Tree.{Start, Loop, Uncancelable, Poll, On_cancel}
+use Rattle.derived_ops.specs.Tree.{Operand, Number, Slot, Handle, Known, Open_slot, Mask, Named, Pair, Action, Add, Calculate, Say, Cede, Never, Canceled}
+use Rattle.derived_ops.specs.Tree.{Request, Ending, Get, Set, Modify, Complete, Await, Bracket_mark, Acquired, Releasing, Released, Maker, New_ref}
+use Rattle.derived_ops.specs.Tree.{New_deferred, Turns, Times, Always, Rest, Last, More, Tree, Pure, Raise, Act, Note, Cancel, Let, Seq, Handled, If0, Join}
+use Rattle.derived_ops.specs.Tree.{Make, Start, Loop, Uncancelable, Poll, On_cancel}
 use Rattle.derived_ops.specs.Words.{rest_of, tree_at}
 
 -- ---- what has words: no number in the place of a name, and no form that only a running fiber has
@@ -77,6 +77,7 @@ mask_back (Pair f m) e = absurd (cc)
 
 action_back : (a : Action) → action_has a ≡ true → action_in_core (stored_action a) ≡ a
 action_back (Add v w) e = ap₂ Add (value_back v) (value_back w)
+action_back (Calculate o v w) e = ap₂ (Calculate o) (value_back v) (value_back w)
 action_back (Say v) e = ap Say (value_back v)
 action_back Cede e = refl
 action_back Never e = refl

@@ -17,6 +17,7 @@ stored_value_of (operand.Slot s) = refl
 
 pub stored_action_of : (a : Action) → stored_action (action_in_core a) ≡ a
 stored_action_of (action.Add v w) = rw (stored_value_of v, stored_value_of w) refl
+stored_action_of (action.Calculate o v w) = rw (stored_value_of v, stored_value_of w) refl
 stored_action_of (action.Say v) = rw (stored_value_of v) refl
 stored_action_of action.Cede = refl
 stored_action_of action.Never = refl

@@ -3,11 +3,12 @@
 -- of a name, and with words that aren't words of a program.
 use Rattle.std.specs.Prelude.{ℕ, List, [], ◌∷◌, ◌++◌, codes}
 use Rattle.std.specs.Fmt.{decimal, signed_decimal}
-use Rattle.derived_ops.specs.Tree.{Operand, Number, Slot, Handle, Known, Open_slot, Mask, Named, Pair, Action, Add, Say}
-use Rattle.derived_ops.specs.Tree.{Cede, Never, Canceled, Request, Ending, Get, Set, Modify, Complete, Await}
-use Rattle.derived_ops.specs.Tree.{Bracket_mark, Acquired, Releasing, Released, New_ref, New_deferred, Times, Always}
-use Rattle.derived_ops.specs.Tree.{Rest, Last, More, Tree, Pure, Raise, Act, Note, Cancel, Let, Seq, Handled, If0}
-use Rattle.derived_ops.specs.Tree.{Join, Make, Start, Loop, Uncancelable, Poll, On_cancel, Masked, Polled, Guarded}
+use Rattle.effect_term.specs.Arithmetic.{operator_spelling}
+use Rattle.derived_ops.specs.Tree.{Operand, Number, Slot, Handle, Known, Open_slot, Mask, Named, Pair, Action, Add}
+use Rattle.derived_ops.specs.Tree.{Calculate, Say, Cede, Never, Canceled, Request, Ending, Get, Set, Modify, Complete}
+use Rattle.derived_ops.specs.Tree.{Await, Bracket_mark, Acquired, Releasing, Released, New_ref, New_deferred, Times}
+use Rattle.derived_ops.specs.Tree.{Always, Rest, Last, More, Tree, Pure, Raise, Act, Note, Cancel, Let, Seq, Handled}
+use Rattle.derived_ops.specs.Tree.{If0, Join, Make, Start, Loop, Uncancelable, Poll, On_cancel, Masked, Polled, Guarded}
 
 -- parts with one space between them
 abbrev pub spaced : List (List ℕ) → List ℕ
@@ -43,6 +44,7 @@ deferred_text d = handle_text (codes "d") d
 
 abbrev pub action_text : Action → List ℕ
 action_text (Add v w) = form (codes "add" ∷ value_text v ∷ value_text w ∷ [])
+action_text (Calculate o v w) = form (operator_spelling o ∷ value_text v ∷ value_text w ∷ [])
 action_text (Say v) = form (codes "say" ∷ value_text v ∷ [])
 action_text Cede = form (codes "cede" ∷ [])
 action_text Never = form (codes "never" ∷ [])

@@ -1,10 +1,10 @@
 -- The expansions of the words of a program. A derived word takes the slot d of its first new binder; its parts are
 -- above the slots that are bound around them.
 use Rattle.std.specs.Prelude.{ℕ, zero, suc, ◌+◌, pos, List, [], ◌∷◌, ◌++◌}
-use Rattle.derived_ops.specs.Tree.{Operand, Number, Slot, Open_slot, Mask, Named, Add, Say, Cede, Never, Canceled, Get}
-use Rattle.derived_ops.specs.Tree.{Set, Modify, Complete, Await, Acquired, Releasing, Released, New_ref, New_deferred}
-use Rattle.derived_ops.specs.Tree.{Times, Always, Last, More, Tree, Pure, Raise, Act, Note, Cancel, Let, Seq, Handled}
-use Rattle.derived_ops.specs.Tree.{If0, Join, Make, Start, Loop, Uncancelable, Poll, On_cancel}
+use Rattle.derived_ops.specs.Tree.{Operand, Number, Slot, Open_slot, Mask, Named, Add, Calculate, Say, Cede, Never}
+use Rattle.derived_ops.specs.Tree.{Canceled, Get, Set, Modify, Complete, Await, Acquired, Releasing, Released, New_ref}
+use Rattle.derived_ops.specs.Tree.{New_deferred, Times, Always, Last, More, Tree, Pure, Raise, Act, Note, Cancel, Let}
+use Rattle.derived_ops.specs.Tree.{Seq, Handled, If0, Join, Make, Start, Loop, Uncancelable, Poll, On_cancel}
 use Rattle.derived_ops.specs.Source as word
 use Rattle.derived_ops.specs.Source.{Source}
 
@@ -167,6 +167,7 @@ expansion m d (word.Seq w e k) = Seq w (expansion m d e) (expansion m d k)
 expansion m d (word.Handle e h) = Handled (expansion m d e) d (expansion (m ++ d ∷ []) (d + 1) h)
 expansion m d (word.If0 v s e) = If0 (value_in m v) (expansion m d s) (expansion m d e)
 expansion m d (word.Add v w) = Act (Add (value_in m v) (value_in m w))
+expansion m d (word.Calculate o v w) = Act (Calculate o (value_in m v) (value_in m w))
 expansion m d (word.Say v) = Act (Say (value_in m v))
 expansion m d word.Cede = Act Cede
 expansion m d word.Never = Act Never

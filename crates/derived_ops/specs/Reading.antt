@@ -21,6 +21,7 @@ abbrev mutual
   source_of (term.Handle' _ e _ h) = word.Handle (source_of e) (source_of h)
   source_of (term.If0' v _ s _ e) = word.If0 (value_of v) (source_of s) (source_of e)
   source_of (term.Add v w) = word.Add (value_of v) (value_of w)
+  source_of (term.Calculate o v w) = word.Calculate o (value_of v) (value_of w)
   source_of (term.Say v) = word.Say (value_of v)
   source_of term.Cede = word.Cede
   source_of term.Never = word.Never

@@ -1,6 +1,7 @@
--- The terms of a program, in all 32 words, without pointers. A name is the slot of its binder, which is the number of
+-- The terms of a program, in all 38 words, without pointers. A name is the slot of its binder, which is the number of
 -- binders around it. The parts are in the order in which they are written.
 use Rattle.std.specs.Prelude.{ℕ}
+use Rattle.effect_term.specs.declared.operator.Operator.{Operator}
 use Rattle.derived_ops.specs.Tree.{Operand, Rest}
 
 pub data Source : Type 0 where
@@ -11,6 +12,7 @@ pub data Source : Type 0 where
   Handle : (e h : Source) → Source
   If0 : Operand → (s e : Source) → Source
   Add : Operand → Operand → Source
+  Calculate : Operator → Operand → Operand → Source
   Say : Operand → Source
   Cede : Source
   Never : Source

@@ -2,11 +2,14 @@
 use Rattle.std.specs.Prelude.{ℕ, zero, suc, ℤ, ◌⊎◌, refl, List, [], ◌∷◌}
 use Rattle.std.specs.Coded.{Coded, code_by, coded_ℕ, coded_ℤ, coded_list, coded×, coded⊎}
 use Rattle.std.proofs.Common.{◌≡◌, ap, ◌∙◌, inl, inr}
-use Rattle.derived_ops.specs.Tree.{Operand, Number, Slot, Handle, Known, Open_slot, Mask, Named, Pair, Add, Say, Cede}
-use Rattle.derived_ops.specs.Tree.{Never, Canceled, Request, Ending, Get, Set, Modify, Complete, Await, Acquired}
-use Rattle.derived_ops.specs.Tree.{Releasing, Released, New_ref, New_deferred, Times, Always, Last, More, Tree, Pure}
-use Rattle.derived_ops.specs.Tree.{Raise, Act, Note, Cancel, Let, Seq, Handled, If0, Join, Make, Start, Loop}
-use Rattle.derived_ops.specs.Tree.{Uncancelable, Poll, On_cancel, Masked, Polled, Guarded}
+use Rattle.effect_term.specs.declared.operator.Operator.{Operator}
+use Rattle.effect_term.specs.declared.operator.Operator.TheVariants.{Difference, Product, Quotient, Remainder, Less}
+use Rattle.effect_term.specs.declared.operator.Operator.TheVariants.{Equal}
+use Rattle.derived_ops.specs.Tree.{Operand, Number, Slot, Handle, Known, Open_slot, Mask, Named, Pair, Add, Calculate}
+use Rattle.derived_ops.specs.Tree.{Say, Cede, Never, Canceled, Request, Ending, Get, Set, Modify, Complete, Await}
+use Rattle.derived_ops.specs.Tree.{Acquired, Releasing, Released, New_ref, New_deferred, Times, Always, Last, More}
+use Rattle.derived_ops.specs.Tree.{Tree, Pure, Raise, Act, Note, Cancel, Let, Seq, Handled, If0, Join, Make, Start}
+use Rattle.derived_ops.specs.Tree.{Loop, Uncancelable, Poll, On_cancel, Masked, Polled, Guarded}
 
 abbrev value_stored : Operand → ℤ ⊎ ℕ
 value_stored (Number z) = inl z
@@ -53,6 +56,31 @@ mask_again (Pair f m) = refl
 abbrev pub mask_code : Coded Mask
 mask_code = code_by (ℕ ⊎ (ℕ × ℕ)) (coded⊎ coded_ℕ (coded× coded_ℕ coded_ℕ)) mask_stored mask_read mask_again
 
+-- the operators by their numbers
+abbrev operator_stored : Operator → ℕ
+operator_stored Difference = 0
+operator_stored Product = 1
+operator_stored Quotient = 2
+operator_stored Remainder = 3
+operator_stored Less = 4
+operator_stored Equal = 5
+
+abbrev operator_read : ℕ → Operator
+operator_read 0 = Difference
+operator_read 1 = Product
+operator_read 2 = Quotient
+operator_read 3 = Remainder
+operator_read 4 = Less
+operator_read _ = Equal
+
+pub operator_again : (o : Operator) → operator_read (operator_stored o) ≡ o
+operator_again Difference = refl
+operator_again Product = refl
+operator_again Quotient = refl
+operator_again Remainder = refl
+operator_again Less = refl
+operator_again Equal = refl
+
 -- a piece of a term: a word, with its operands and the slots that it binds
 pub record Piece : Type 0 where
   pub word : ℕ
@@ -95,6 +123,7 @@ abbrev pieces : Tree → List Piece → List Piece
 pieces (Pure v) rest = with_values 0 v (Slot 0) ∷ rest
 pieces (Raise v) rest = with_values 1 v (Slot 0) ∷ rest
 pieces (Act (Add v w)) rest = with_values 2 v w ∷ rest
+pieces (Act (Calculate o v w)) rest = (record (with_values 35 v w) { slot = operator_stored o }) ∷ rest
 pieces (Act (Say v)) rest = with_values 3 v (Slot 0) ∷ rest
 pieces (Act Cede) rest = bare 4 0 ∷ rest
 pieces (Act Never) rest = bare 5 0 ∷ rest
@@ -160,7 +189,8 @@ words p =
     two (λ a b. Handled a p.slot b) ∷ two (If0 p.value) ∷ three (λ a b c. Join p.handle p.slot a p.second b c) ∷
     one (Make (New_ref p.value) p.slot) ∷ one (Make New_deferred p.slot) ∷ two (Start p.slot) ∷
     one (Loop (Times p.value)) ∷ one (Loop Always) ∷ one (Uncancelable p.slot) ∷ one (Poll p.mask) ∷
-    two On_cancel ∷ one (Masked p.slot) ∷ one (Polled p.mask) ∷ two Guarded ∷ []
+    two On_cancel ∷ one (Masked p.slot) ∷ one (Polled p.mask) ∷ two Guarded ∷
+    (λ ts. Act (Calculate (operator_read p.slot) p.value p.other) ∷ ts) ∷ []
 
 abbrev built : Piece → List Tree → List Tree
 built p = pick p.word (words p)
@@ -174,6 +204,7 @@ pub built_again : (t : Tree) (rest : List Piece) (ts : List Tree) → all_built 
 built_again (Pure v) rest ts = refl
 built_again (Raise v) rest ts = refl
 built_again (Act (Add v w)) rest ts = refl
+built_again (Act (Calculate o v w)) rest ts = ap (λ p. all_built rest (Act (Calculate p v w) ∷ ts)) (operator_again o)
 built_again (Act (Say v)) rest ts = refl
 built_again (Act Cede) rest ts = refl
 built_again (Act Never) rest ts = refl

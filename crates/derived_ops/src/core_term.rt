@@ -1,6 +1,6 @@
 //! The operands and actions in the words of a code.
 
-use effect_term::Value;
+use effect_term::{Operator, Value};
 
 /// An operand: a value or an error code, known or bound.
 #[derive(Clone, Copy)]
@@ -17,6 +17,8 @@ pub enum Operand {
 pub enum Action {
     /// Gives the sum; raises 1001 if it is out of range.
     Add(Operand, Operand),
+    /// Gives what the operator makes of the two values, in this order; raises 1001 if it makes no value of them.
+    Calculate(Operator, Operand, Operand),
     /// Notes the value, and gives 0.
     Say(Operand),
     /// Yields, and gives 0.

@@ -103,6 +103,12 @@ fn push_action(text: &mut Vec<u8>, action: &Action) -> Result<(), AllocError>
             push_valued(text, b"(add ", v)?;
             push_valued_word(text, b" ", w)
         }
+        Action::Calculate(operator, v, w) => {
+            text.push(b'(')?;
+            text.extend_from_slice(operator.spelling())?;
+            push_valued(text, b" ", v)?;
+            push_valued_word(text, b" ", w)
+        }
         Action::Say(v) => push_valued_word(text, b"(say ", v),
         Action::Cede => text.extend_from_slice(b"(cede)"),
         Action::Never => text.extend_from_slice(b"(never)"),

@@ -207,6 +207,10 @@ pub(crate) fn shape_of<'a>(slots: &[u32], term: &'a Term, depth: u32) -> Shape<'
         Term::Add(v, w) => {
             Shape::Bare(Bare::Act(Action::Add(value(slots, *v), value(slots, *w))))
         }
+        Term::Calculate(operator, v, w) => {
+            let action = Action::Calculate(*operator, value(slots, *v), value(slots, *w));
+            Shape::Bare(Bare::Act(action))
+        }
         Term::Say(v) => Shape::Bare(Bare::Act(Action::Say(value(slots, *v)))),
         Term::Cede => Shape::Bare(Bare::Act(Action::Cede)),
         Term::Never => Shape::Bare(Bare::Act(Action::Never)),

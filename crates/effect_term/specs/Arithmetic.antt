@@ -3,7 +3,8 @@ use Rattle.std.specs.Prelude.{ℕ, zero, suc, ◌-◌, ◌/◌, ◌%◌, ◌^◌
 use Rattle.std.specs.Prelude.{false, List, Option, Some, None, if◌then◌else◌, codes}
 use Rattle.std.specs.Ordering.{int_eq}
 use Rattle.effect_term.specs.declared.operator.Operator.{Operator}
-use Rattle.effect_term.specs.declared.operator.Operator.TheVariants.{Difference, Product, Quotient, Remainder, Less, Equal}
+use Rattle.effect_term.specs.declared.operator.Operator.TheVariants.{Difference, Product, Quotient, Remainder, Less}
+use Rattle.effect_term.specs.declared.operator.Operator.TheVariants.{Equal}
 
 -- the word of each operator
 abbrev pub operator_spelling : Operator → List ℕ

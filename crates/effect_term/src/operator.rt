@@ -1,8 +1,8 @@
 //! What is computed from two values.
 
 ghost use Rattle.std.specs.Prelude.{◌≡◌, ◌≤◌, ◌-ℤ◌, ◌*ℤ◌, length};
-ghost use Rattle.effect_term.specs.Arithmetic.{calculated, divided, in_range, left_over, operator_spelling, rounded_down};
-ghost use Rattle.effect_term.specs.Arithmetic.{truth};
+ghost use Rattle.effect_term.specs.Arithmetic.{calculated, divided, in_range, left_over, operator_spelling};
+ghost use Rattle.effect_term.specs.Arithmetic.{rounded_down, truth};
 
 use crate::value::Value;
 

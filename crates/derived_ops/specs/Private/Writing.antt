@@ -35,6 +35,7 @@ stored_mask (Pair f m) = 0
 
 abbrev pub stored_action : tree.Action → Action
 stored_action (tree.Add v w) = action.Add (stored_value v) (stored_value w)
+stored_action (tree.Calculate o v w) = action.Calculate o (stored_value v) (stored_value w)
 stored_action (tree.Say v) = action.Say (stored_value v)
 stored_action tree.Cede = action.Cede
 stored_action tree.Canceled = action.Canceled
