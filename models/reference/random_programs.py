@@ -14,10 +14,13 @@ LARGE = ["4611686018427387903", "-4611686018427387904", "4611686018427387901", "
          "4611686000000000001"]
 # How often a term is made of each word: those that don't nest, and those that do.
 SMALL = {"say": 8, "get": 6, "set": 6, "modify": 8, "complete": 4, "await": 4, "cede": 1, "never": 1, "canceled": 1,
-         "raise": 2, "add": 2, "pure": 1, "cancel": 6, "wait": 3, "value-of": 2, "part": 6, "spin-until-zero": 0.5}
+         "raise": 2, "arithmetic": 5, "pure": 1, "cancel": 6, "wait": 3, "value-of": 2, "part": 6, "spin-until-zero": 0.5}
 NESTED = {"handle": 4, "condition": 6, "if0": 2, "do": 2, "uncancelable": 5, "poll": 6, "oncancel": 5, "guarantee": 5,
           "bracket": 4, "bracketcase": 3, "bracketfull": 2, "guarantee-case": 2, "race": 5, "both": 4, "join": 4,
           "repeat": 1, "forever": 1, "ignore-errors": 1, "defined": 9, "bind": 2}
+# Words and signs of arithmetic.
+ARITHMETIC = ["add", "sub", "mul", "div", "mod", "less", "equal", "+", "+", "-", "-", "*", "/", "%", "%"]
+COMPARISONS = ["=", "=", "=", "!=", "<", "<=", ">", ">="]
 STATEMENTS = {"let": 6, "ref": 2, "deferred": 2, "start": 4, "starts": 1, "refs": 1, "deferreds": 1}
 
 
@@ -205,12 +208,28 @@ class Maker:
         term = self.one(terms)
         return [term.spelling] + [self.one(refs) if it == "ref" else self.value(scope, deep) for it in term.takes]
 
-    def make_condition(self, scope, deep):
-        """`if`, `when` or `unless`"""
+    def make_arithmetic(self, scope, deep):
+        """A word or a sign of arithmetic with two values, of which some are at the ends of the range"""
+        values = [self.one(LARGE[:2]) if self.chance(0.1) else self.value(scope, deep) for _ in range(2)]
+        return [self.one(ARITHMETIC)] + values
+
+    def condition(self, scope, deep, nested=2):
+        """A condition of `if`, `when` or `unless`."""
+        if nested > 0 and self.chance(0.3):
+            word = self.one(["and", "or", "not"])
+            many = 1 if word == "not" else self.random.randint(1, 3)
+            return [word] + [self.condition(scope, deep, nested - 1) for _ in range(many)]
         numbers = ["0", "0", "1", "1", "2"]
         numbers += [it.spelling for it in self.seen(scope, "value") if it.most is not None]
+        values = [self.value(scope, max(deep, 1)), self.one(numbers) if self.chance(0.6) else self.value(scope, deep)]
+        if self.chance(0.1):
+            values.reverse()
+        return [self.one(COMPARISONS)] + values
+
+    def make_condition(self, scope, deep):
+        """`if`, `when` or `unless`"""
         word = self.one(["if", "when", "unless"])
-        made = [word, ["=", self.value(scope, max(deep, 1)), self.one(numbers)]]
+        made = [word, self.condition(scope, deep)]
         made += [self.body(scope, deep)] if word == "if" else []
         return made + self.block(scope, 2, deep)
 
@@ -280,6 +299,7 @@ class Maker:
         refs = self.uses(scope, "ref")
         steps = [["cede"], ["uncancelable", "_", ["cede"]]] + [["await", it] for it in self.uses(scope, "deferred")]
         steps += [["set", it, "2"] for it in refs] + [["when", ["=", ["get", it], "1"], ["raise", "9"]] for it in refs]
+        steps += [["set", it, ["%", ["+", ["get", it], "1"], "3"]] for it in refs if self.chance(0.2)]
         steps += [["say", "5"]] if self.chance(0.2) else []
         return ["forever"] + [self.one(steps) for _ in range(self.random.randint(1, 2))]
 

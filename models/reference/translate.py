@@ -12,10 +12,14 @@ from terms import MAIN, UNNAMED, Terms, Use
 # it are bound, and P, F, R, D the use of a poll, a fiber, a ref, a deferred.
 FORMS = {
     "pure": "v", "raise": "v", "handle": "tbk", "if0": "vtt", "add": "vv", "say": "v", "cede": "",
-    "never": "", "canceled": "", "poll": "Pt", "oncancel": "tt", "cancel": "F", "get": "R", "set": "Rv",
+    "sub": "vv", "mul": "vv", "div": "vv", "mod": "vv", "less": "vv", "equal": "vv", "never": "", "canceled": "", "poll": "Pt", "oncancel": "tt", "cancel": "F", "get": "R", "set": "Rv",
     "modify": "Rv", "complete": "Dv", "await": "D", "repeat": "vt", "forever": "t", "guarantee": "tt", "race": "tt",
 }
 KINDS = {"P": "poll", "F": "fiber", "R": "ref", "D": "deferred"}
+# The words of the signs of arithmetic.
+SIGNS = {"+": "add", "-": "sub", "*": "mul", "/": "div", "%": "mod"}
+# The comparisons that hold if another one doesn't.
+NEGATED = {"!=": "=", "<=": ">", ">=": "<"}
 # The forms whose last part is a block, with the number of the parts before it.
 BLOCKS = {"uncancelable": 1, "poll": 1, "forever": 0, "repeat": 1, "if": 2, "when": 1, "unless": 1}
 # The statements that bind a name for the rest of their block, with the number of their parts.
@@ -204,7 +208,7 @@ class Translation:
         """The term of a form."""
         if isinstance(form, str):
             return self.terms.pure(self.constant(form, scope))
-        word, parts = form[0], form[1:]
+        word, parts = SIGNS.get(form[0], form[0]), form[1:]
         if isinstance(scope.get(word), Argument):
             return self.argument(scope[word], parts, scope)
         if word in self.file.definitions:
@@ -217,28 +221,50 @@ class Translation:
             head = parts[:BLOCKS[word]]
             return self.of([word] + head + [["do"] + parts[BLOCKS[word]:]], scope)
         if word in ("if", "when", "unless"):
-            return self.condition(word, parts, scope)
+            return self.choice(word, parts, scope)
         special = getattr(self, "of_" + word, None)
         return special(parts, scope) if special else self.plain(word, parts, scope)
 
-    def condition(self, word, parts, scope):
+    def choice(self, word, parts, scope):
         """The term of `if`, `when` or `unless`."""
-        lifts = []
-        _, value, number = parts[0]
-        tested = self.less(self.value(value, scope, lifts), self.constant(number, scope), lifts)
-        then = self.of(parts[1], scope)
-        other = self.of(parts[2], scope) if word == "if" else self.terms.pure(0)
-        if word == "unless":
-            then, other = other, then
-        return self.lifted(lifts, self.terms.make("if0", tested, then, other))
+        yes = self.of(parts[1], scope)
+        no = self.of(parts[2], scope) if word == "if" else self.terms.pure(0)
+        return self.condition(parts[0], *((no, yes) if word == "unless" else (yes, no)), scope)
 
-    def less(self, value, number, lifts):
-        """A value less a number. The difference gets a new name, which is added to `lifts`, unless the number is 0."""
-        if number == 0:
-            return value
+    def condition(self, form, yes, no, scope):
+        """The term that is `yes` if a condition holds, and else `no`."""
+        word, parts = form[0], form[1:]
+        if word == "not":
+            return self.condition(parts[0], no, yes, scope)
+        if word in NEGATED:
+            return self.condition([NEGATED[word]] + parts, no, yes, scope)
+        if word in ("and", "or"):
+            return self.if_one(self.joined(word, parts, scope), yes, no)
+        lifts = []
+        left, right = [self.value(it, scope, lifts) for it in parts]
+        if word == "=":
+            return self.lifted(lifts, self.equal(left, right, yes, no))
+        compared = self.terms.make("less", *((left, right) if word == "<" else (right, left)))
+        return self.lifted(lifts, self.if_one(compared, yes, no))
+
+    def joined(self, word, conditions, scope):
+        """The term that gives 1 if all (`and`) or some (`or`) of the conditions hold, and else 0."""
+        one, zero = self.terms.pure(1), self.terms.pure(0)
+        if not conditions:
+            return one if word == "and" else zero
+        rest = self.joined(word, conditions[1:], scope)
+        return self.condition(conditions[0], *((rest, zero) if word == "and" else (one, rest)), scope)
+
+    def if_one(self, term, yes, no):
+        """The term that is `yes` if a term gives 1, and `no` if it gives 0."""
         binder, use = self.terms.name("t")
-        lifts.append((binder, self.terms.make("add", value, -number)))
-        return use
+        return self.terms.make("let", binder, term, self.terms.make("if0", use, no, yes))
+
+    def equal(self, left, right, yes, no):
+        """The term that is `yes` if two values are equal, and else `no`."""
+        if right == 0:
+            return self.terms.make("if0", left, yes, no)
+        return self.if_one(self.terms.make("equal", left, right), yes, no)
 
     def plain(self, word, parts, scope):
         """The term of a form that the table describes."""
@@ -274,9 +300,7 @@ class Translation:
         """The term of each use, of which the value picks one; raises 1002 if there is none."""
         term = self.terms.make("raise", 1002)
         for number, use in reversed(list(enumerate(pick.uses))):
-            lifts = []
-            tested = self.less(pick.value, number, lifts)
-            term = self.lifted(lifts, self.terms.make("if0", tested, of(use), term))
+            term = self.equal(pick.value, number, of(use), term)
         return term
 
     def core(self, word, made):

@@ -133,6 +133,7 @@ fn spread_parts(
     } = parts;
     match word {
         Word::Pure | Word::Raise | Word::Add | Word::Say => plain(tasks, place, &[]),
+        Word::Calculate(_) => plain(tasks, place, &[]),
         Word::Cede | Word::Never | Word::Canceled | Word::Cancel => plain(tasks, place, &[]),
         Word::Get | Word::Set | Word::Modify => plain(tasks, place, &[]),
         Word::Complete | Word::Await | Word::Seq => plain(tasks, place, &[]),

@@ -28,7 +28,7 @@ const SIDES: &str = "`(both a b x y k)`, in one another for more than two: model
 const EACH: &str = "one after the other: `(do a b ..)`, or `(repeat v e ..)` for the same v times";
 
 const WHILE: &str =
-    "a loop that an error ends: `(handle (forever (if (= v N) (raise 1) (do e ..))) _ 0)`";
+    "a loop that an error ends: `(handle (forever (if (= v w) (raise 1) (do e ..))) _ 0)`";
 
 const UNDECIDED_RACE: &str =
     "no such word: `(race a b)` cancels the loser; else start both, and let each complete one deferred at last";
@@ -58,24 +58,26 @@ const DISPATCHER: &str = "no such word: a worker fiber that starts the tasks: mo
 
 const CALLBACK: &str = "a deferred, which another fiber completes: `(await d)`";
 
-const TEST: &str = "no such word: `(if (= v N) e else ..)` is the only test";
+const LESS: &str = "a word of conditions: `(if (< v w) e else ..)`; `(less v w)` gives 1 or 0";
+
+const EQUAL: &str = "a word of conditions: `(if (= v w) e else ..)`; `(equal v w)` gives 1 or 0";
+
+const JOINED: &str = "a word of conditions: `(if (and c (not d)) e else ..)`";
 
 /// The names, in the order of their bytes, each with what says the same in models.
-pub const NOTES: [(&str, &str); 157] = [
-    ("!=", "`(unless (= v N) e ..)`"),
+pub const NOTES: [(&str, &str); 155] = [
+    ("!=", EQUAL),
     ("!>", "`(do (ignore-errors a) b)`"),
     ("&>", SIDES),
     ("*>", IN_ORDER),
-    ("+", "`(add v w)`"),
-    ("-", "`(add v w)`, with w negative"),
-    ("<", TEST),
+    ("<", LESS),
     ("<&", SIDES),
     ("<*", "`(let x a)`, then b, then x"),
-    ("<=", TEST),
-    ("=", TEST),
-    ("==", TEST),
-    (">", TEST),
-    (">=", TEST),
+    ("<=", LESS),
+    ("=", EQUAL),
+    ("==", "`(if (= v w) e else ..)`; `(equal v w)` gives 1 or 0"),
+    (">", LESS),
+    (">=", LESS),
     (">>", IN_ORDER),
     (">>=", LET),
     ("AtomicCell", ATOMIC_CELL),
@@ -107,7 +109,7 @@ pub const NOTES: [(&str, &str); 157] = [
     ("acquireN", SEMAPHORE),
     ("adaptError", "`(handle e x (raise v))`"),
     ("allocated", RESOURCE),
-    ("and", TEST),
+    ("and", JOINED),
     (
         "andWait",
         "`(do e (cede))`: there are no clocks, and every order of moves is explored",
@@ -163,7 +165,7 @@ pub const NOTES: [(&str, &str); 157] = [
     ("guaranteeCase", "`(guarantee-case e done failed cut)`"),
     ("handleError", HANDLED),
     ("handleErrorWith", HANDLED),
-    ("ifM", "`(if (= v N) e else ..)`"),
+    ("ifM", "`(if (= v w) e else ..)`"),
     ("interruptible", NOTED),
     ("iterateUntil", WHILE),
     ("iterateWhile", WHILE),
@@ -184,12 +186,12 @@ pub const NOTES: [(&str, &str); 157] = [
     ),
     ("modifyState", LOCKED),
     ("monotonic", NO_CLOCK),
-    ("not", TEST),
+    ("not", JOINED),
     ("of", "`(ref r v)` before what sees r"),
     ("offer", QUEUE),
     ("onCancel", "`(oncancel e fin)`"),
     ("onError", "`(handle e x (do h (raise x)))`"),
-    ("or", TEST),
+    ("or", JOINED),
     ("orElse", "`(handle e _ h)`"),
     ("parMapN", SIDES),
     ("parProduct", SIDES),
@@ -212,8 +214,8 @@ pub const NOTES: [(&str, &str); 157] = [
     ("racePair", UNDECIDED_RACE),
     ("raceWith", UNDECIDED_RACE),
     ("raiseError", "`(raise v)`"),
-    ("raiseUnless", "`(unless (= v N) (raise w))`"),
-    ("raiseWhen", "`(when (= v N) (raise w))`"),
+    ("raiseUnless", "`(unless (= v w) (raise x))`"),
+    ("raiseWhen", "`(when (= v w) (raise x))`"),
     ("realTime", NO_CLOCK),
     ("recover", HANDLED),
     ("recoverWith", HANDLED),
@@ -262,7 +264,7 @@ pub const NOTES: [(&str, &str); 157] = [
     ("tryUpdate", LOCKED),
     ("tupled", PAIR),
     ("unit", "`(pure 0)`"),
-    ("unlessA", "`(unless (= v N) e ..)`"),
+    ("unlessA", "`(unless (= v w) e ..)`"),
     ("unsafeRunAndForget", DISPATCHER),
     ("unsafeRunSync", DISPATCHER),
     ("untilM_", WHILE),
@@ -274,6 +276,6 @@ pub const NOTES: [(&str, &str); 157] = [
     ("use", RESOURCE),
     ("void", "`(do e 0)`"),
     ("voidError", "`(ignore-errors e)`"),
-    ("whenA", "`(when (= v N) e ..)`"),
+    ("whenA", "`(when (= v w) e ..)`"),
     ("whileM_", WHILE),
 ];

@@ -12,10 +12,11 @@ abbrev pub is_no_number : Option ℤ → Bool
 is_no_number None = true
 is_no_number (Some n) = false
 
--- the bytes begin like a number and aren't one
+-- the bytes begin like a number and aren't one: a digit alone is a number, and `-` alone is a word
 abbrev pub is_bad_number : List ℕ → Bool
 is_bad_number [] = false
-is_bad_number (b ∷ bs) = ((b == 45) || is_digit b) && is_no_number (number_of (b ∷ bs))
+is_bad_number (b ∷ []) = false
+is_bad_number (b ∷ c ∷ bs) = ((b == 45) || is_digit b) && is_no_number (number_of (b ∷ c ∷ bs))
 
 abbrev pub or_else : Option ItemFault → Option ItemFault → Option ItemFault
 or_else (Some e) o = Some e

@@ -1,5 +1,5 @@
 //! The checks of statements: each list begins with a word, no form is a text, and a word that begins like a number is
-//! one.
+//! one. `-` alone is a word like others.
 
 ghost use Rattle.std.specs.Prelude.{◌≡◌, slice_range};
 ghost use Rattle.model_forms.specs.Rows.{Row, IsBlock};
@@ -13,8 +13,9 @@ use model_forms::{Block, Form, FormKind, form_bytes};
 fn is_bad_number(bytes: &[u8]) -> bool
     ensures { result ≡ is_bad_number bytes.now }
 {
+    // A digit alone is a number.
     match bytes {
-        [] => false,
+        [] | [_] => false,
         [first, ..] => (*first == b'-' || is_digit(*first)) && read_number(bytes).is_none(),
     }
 }

@@ -1,6 +1,7 @@
 //! Forms of the language.
 
 use crate::binder::{BinderName, NameKind};
+use crate::condition::let_result;
 use crate::look::{
     behind_of, bound_at, dot_at, enter, fresh_at, front_of, is_hidden, meaning_of, name_at, under,
     value, wrong_at,
@@ -11,7 +12,7 @@ use crate::scope::{FiberName, Here, Meaning, Operand};
 use crate::task::{Follow, Task};
 use crate::writing::Writing;
 use crate::wrong::{Stop, Wrong};
-use effect_term::Kind;
+use effect_term::{Kind, Operator};
 use model_forms::{Block, FormKind, behind_first};
 use term_parse::{Part, Word, parts_of};
 
@@ -34,6 +35,18 @@ pub(crate) fn kind_of(kind: Kind) -> NameKind {
         Kind::Fiber => NameKind::Fiber,
         Kind::Ref => NameKind::Ref,
         Kind::Deferred => NameKind::Deferred,
+    }
+}
+
+/// The word of the language that a sign of arithmetic means, if the spelling is one.
+pub(crate) fn sign_word(spelled: &[u8]) -> Option<Word> {
+    match spelled {
+        b"+" => Some(Word::Add),
+        b"-" => Some(Word::Calculate(Operator::Difference)),
+        b"*" => Some(Word::Calculate(Operator::Product)),
+        b"/" => Some(Word::Calculate(Operator::Quotient)),
+        b"%" => Some(Word::Calculate(Operator::Remainder)),
+        _ => None,
     }
 }
 
@@ -178,35 +191,24 @@ fn picked_row(
 
 // Plans the form once for each name of a row; the value selects which one runs.
 fn pick(out: &mut Writing, at: usize, row: PickedRow, here: Here) -> Result<(), Stop> {
-    let mut open: usize = 0;
-    for number in 0..row.count {
-        let mut tested = row.value;
-        if number > 0 {
-            tested = out.fresh(b"t")?;
-            out.then(Task::Open(Word::Let, at))?;
-            out.then(Task::Bind(tested, NameKind::Value, BinderName::Hidden))?;
-            out.then(Task::Open(Word::Add, at))?;
-            out.then(Task::Operand(Operand::Name(row.value)))?;
-            out.then(Task::Operand(Operand::Number(below_zero(number))))?;
-            out.then(Task::Close(1))?;
-            open = open.saturating_add(1);
-        }
+    let value = Operand::Name(row.value);
+    out.then(Task::Open(Word::If0, at))?;
+    out.then(Task::Operand(value))?;
+    out.then(Task::One(at, row.first, here))?;
+    for number in 1..row.count {
+        let compared = Operand::Number(i64::try_from(number).unwrap_or(0));
+        let is_one = let_result(out, at, Operator::Equal, value, compared)?;
         out.then(Task::Open(Word::If0, at))?;
-        out.then(Task::Operand(Operand::Name(tested)))?;
-        out.then(Task::One(at, row.first.saturating_add(number), here))?;
-        open = open.saturating_add(1);
+        out.then(Task::Operand(Operand::Name(is_one)))?;
     }
     out.then(Task::Open(Word::Raise, at))?;
     out.then(Task::Operand(Operand::Number(1002)))?;
-    out.then(Task::Close(open.saturating_add(1)))
-}
-
-// The negative of a number.
-fn below_zero(number: usize) -> i64 {
-    match i64::try_from(number) {
-        Ok(number) => number.saturating_neg(),
-        Err(_) => 0,
+    out.then(Task::Close(1))?;
+    for number in (1..row.count).rev() {
+        out.then(Task::One(at, row.first.saturating_add(number), here))?;
+        out.then(Task::Close(2))?;
     }
+    out.then(Task::Close(1))
 }
 
 /// Writes the form with this number, with `name` as its first part.
@@ -477,12 +479,20 @@ fn plan_use(
     out.then(Task::Operand(Operand::Name(name)))
 }
 
+// The number of values among the parts of a form of this word before the part with this number.
+fn values_before(word: Word, number: usize) -> usize {
+    let mut count: usize = 0;
+    for part in parts_of(word).iter().take(number) {
+        if matches!(*part, Part::Value) {
+            count = count.saturating_add(1);
+        }
+    }
+    count
+}
+
 // Plans the value that is the part of a form with this number.
 fn plan_value(out: &mut Writing, work: FormWork, number: usize) -> Result<(), Stop> {
-    let index = match work.word {
-        Word::Add => number,
-        _ => 0,
-    };
+    let index = values_before(work.word, number);
     match out.values.get(index).copied() {
         Some(operand) => out.then(Task::Operand(operand)),
         None => Ok(()),

@@ -223,11 +223,11 @@ fn name_in(meaning: Meaning, kind: NameKind) -> Result<usize, Wrong> {
     }
 }
 
-// Whether a spelling begins like a number.
+// Whether a spelling begins like a number. `-` alone doesn't.
 fn is_numeric(spelled: &[u8]) -> bool {
-    match spelled.first() {
-        Some(byte) => *byte == b'-' || byte.is_ascii_digit(),
-        None => false,
+    match spelled {
+        [] => false,
+        [first, rest @ ..] => first.is_ascii_digit() || (*first == b'-' && !rest.is_empty()),
     }
 }
 

@@ -1,6 +1,7 @@
 //! The forms of the words of models, for messages.
 
 use crate::told::{tell, tell_quoted};
+use effect_term::Operator;
 use std::alloc::{AllocError, Global};
 use term_parse::{Word, word_of};
 
@@ -14,6 +15,7 @@ fn language_shape(word: Word) -> &'static str {
         Word::Handle => "`(handle e x h)`: h with the code x, if e raises one",
         Word::If0 => "`(if0 v s e)`: s if v is 0, else e",
         Word::Add => "`(add v w)`",
+        Word::Calculate(operator) => operator_shape(operator),
         Word::Say => "`(say v)`",
         Word::Cede => "`(cede)`",
         Word::Never => "`(never)`",
@@ -44,6 +46,18 @@ fn language_shape(word: Word) -> &'static str {
     }
 }
 
+// The form of a word of arithmetic, with a letter for each part.
+fn operator_shape(operator: Operator) -> &'static str {
+    match operator {
+        Operator::Difference => "`(sub v w)`: v less w",
+        Operator::Product => "`(mul v w)`",
+        Operator::Quotient => "`(div v w)`: the quotient, rounded down",
+        Operator::Remainder => "`(mod v w)`: what the quotient, rounded down, leaves of v",
+        Operator::Less => "`(less v w)`: 1 if v is less than w, else 0",
+        Operator::Equal => "`(equal v w)`: 1 if v and w are equal, else 0",
+    }
+}
+
 /// The form of a word, with a letter or a short name for each part; none if the word is neither one of the language nor
 /// one of models.
 pub fn shape_of(word: &[u8]) -> Option<&'static str> {
@@ -53,9 +67,14 @@ pub fn shape_of(word: &[u8]) -> Option<&'static str> {
         b"starts" => "`(starts w N e)`, or `(starts (w i) N e)` with the number i of each in e",
         b"deferreds" => "`(deferreds d N)`",
         b"refs" => "`(refs r N v)`",
-        b"if" => "`(if (= v N) e else ..)`",
-        b"when" => "`(when (= v N) e ..)`",
-        b"unless" => "`(unless (= v N) e ..)`",
+        b"if" => "`(if c e else ..)`, with a condition c as `(= v w)`",
+        b"when" => "`(when c e ..)`, with a condition c as `(= v w)`",
+        b"unless" => "`(unless c e ..)`, with a condition c as `(= v w)`",
+        b"+" => "`(+ v w)`",
+        b"-" => "`(- v w)`: v less w",
+        b"*" => "`(* v w)`",
+        b"/" => "`(/ v w)`: the quotient, rounded down",
+        b"%" => "`(% v w)`: what the quotient, rounded down, leaves of v",
         _ => return Some(language_shape(word_of(word)?)),
     };
     Some(own)

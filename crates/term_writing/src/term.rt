@@ -1,7 +1,7 @@
 //! Writes terms and statements, step by step.
 
-use crate::condition::{condition, condition_word};
-use crate::form::{FormWork, form, is_binder, one_form, parts_wanted, plan_form};
+use crate::condition::{choice, choice_word, choose, side};
+use crate::form::{FormWork, form, is_binder, one_form, parts_wanted, plan_form, sign_word};
 use crate::look::{value, wrong_at};
 use crate::named::NamedItem;
 use crate::probe::note_torn;
@@ -44,6 +44,8 @@ fn step(read: Reading, out: &mut Writing, task: Task) -> Result<(), Stop> {
         Task::Bind(name, kind, binder) => out.write_binder(name, kind, binder),
         Task::Term(at, here) => term(read, out, at, here),
         Task::Statements(block, is_open, here) => statements(read, out, block, is_open, here),
+        Task::Choose(choice) => choose(read, out, choice),
+        Task::Side(at, it, here) => side(read, out, at, it, here),
         Task::One(at, name, here) => one(read, out, at, name, here),
         Task::Torn(start, name) => note_torn(out, start, name),
     }
@@ -124,10 +126,10 @@ fn worded(
     if let Some(word) = row_word(spelled) {
         return row_form(read, out, at, word, here);
     }
-    if let Some(word) = condition_word(spelled) {
-        return condition(read, out, at, word, here);
+    if let Some(word) = choice_word(spelled) {
+        return choice(read, out, at, word, here);
     }
-    match word_of(spelled) {
+    match sign_word(spelled).or(word_of(spelled)) {
         Some(word) => form(read, out, at, word, here),
         None => Err(wrong_at(read, Wrong::UnknownWord, head, here.view)),
     }

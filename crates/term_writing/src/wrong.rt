@@ -63,8 +63,6 @@ pub enum Wrong {
     StrayText,
     /// A number is expected, or the number is out of range.
     NoNumber,
-    /// A number is expected whose opposite is in range, and this one is the least.
-    NoOpposite,
     /// The size of a row is expected.
     HowMany,
     /// A row has no name with this number: the row's name, its size, and the number.
