@@ -7,7 +7,8 @@ use Rattle.fiber_frames.proofs.Prelude.{Maker, Mask, Masked, Modify, New_deferre
 use Rattle.fiber_frames.proofs.Prelude.{Request, Seq, Set, Start, Times, Tree, Turns, Uncancelable, Outcome, Reply, Ask, In_guarded, In_handle, In_let}
 use Rattle.fiber_frames.proofs.Prelude.{In_masked, In_polled, In_seq, undone, Row, action_row, after_end, after_read, branch, fits, is_ended, is_positive}
 use Rattle.fiber_frames.proofs.Prelude.{is_zero, looped, number_in, number_of, one_less, outcome_in, read_in, unit, ActionFits, A_deferred, A_fiber, A_ref}
-use Rattle.fiber_frames.proofs.Prelude.{Closed, Given, HandleFits, No_handle, Place, given_of, made_by, AskNamed, NamedLive, NumberGiven, PathStep}
+use Rattle.fiber_frames.proofs.Prelude.{Closed, Given, HandleFits, No_handle, Place, given_of, made_by, AskNamed, NamedLive, NumberGiven, PathStep, Calculate}
+use Rattle.fiber_frames.proofs.Prelude.{calculated, value_or_raise}
 use Rattle.fiber_frames.proofs.Walk.{End, Gives, Throws, Works, end_of, under, walk}
 use Rattle.fiber_frames.proofs.Marks.Actions.{If_born, none_born, wait_none}
 use Rattle.derived_ops.specs.Naming.{Named}
@@ -259,6 +260,8 @@ module _ (b : Given) (i n : ℕ) (r : Reply) where
   act_named m (Add v w) h =
       on _ tt tt (elim (fits (number_of v +ℤ number_of w)) as
       (λ t. NamedLive b (if t then Pure (Number (number_of v +ℤ number_of w)) else Raise (Number (pos 1001)))) [ true ↦ (0, tt) | false ↦ (0, tt) ])
+  act_named m (Calculate o v w) h =
+      on _ tt tt (elim (calculated o (number_of v) (number_of w)) as (λ t. NamedLive b (value_or_raise t)) [ None ↦ (0, tt) | Some z ↦ (0, tt) ])
   act_named m Canceled h = record { becomes = λ g. (0, tt); born = tt; asks = inl refl }
   act_named m (Request f) h = record {
     becomes = λ g. elim (is_ended r) as (λ t. NamedLive b (if t then unit else Act (Ending f))) [ true ↦ (0, tt) | false ↦ (m, h) ];

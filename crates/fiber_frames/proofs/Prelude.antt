@@ -9,6 +9,7 @@ pub use Rattle.std.proofs.lemmas.Grind.{common_steps}
 pub use Rattle.std.proofs.lemmas.List.{append-nil, length-map, length-set, map_more, replicate_more, reverse-append}
 pub use Rattle.std.proofs.lemmas.Result.{IfOk-weaker, on_ok_weaker}
 pub use Rattle.std.specs.Prelude.{max, min}
+pub use Rattle.effect_term.specs.Arithmetic.{calculated}
 pub use Rattle.effect_term.specs.declared.reply.Outcome.{Outcome}
 pub use Rattle.effect_term.specs.declared.reply.Reply.{Reply}
 pub use Rattle.effect_term.specs.declared.reply.Reply.TheVariants.{Done}
@@ -25,7 +26,7 @@ pub use Rattle.derived_ops.specs.Source.{Source}
 pub use Rattle.derived_ops.specs.Tree.{Acquired, Act, Action, Add, Always, Await, Bracket_mark, Cancel, Canceled, Complete, Ending, Get, Guarded, Handle}
 pub use Rattle.derived_ops.specs.Tree.{Handled, If0, Join, Known, Last, Let, Loop, Make, Maker, Mask, Masked, Modify, More, Named, Never, New_deferred, New_ref}
 pub use Rattle.derived_ops.specs.Tree.{Note, Number, On_cancel, Open_slot, Operand, Pair, Poll, Polled, Pure, Raise, Released, Releasing, Request, Rest, Say}
-pub use Rattle.derived_ops.specs.Tree.{Seq, Set, Slot, Start, Times, Tree, Turns, Uncancelable}
+pub use Rattle.derived_ops.specs.Tree.{Calculate, Seq, Set, Slot, Start, Times, Tree, Turns, Uncancelable}
 pub use Rattle.derived_ops.specs.Words.{rest_of, second, third, tree_at, word_at, word_or_never, word_tree}
 pub use Rattle.derived_ops.specs.declared.core_word.CoreWord.{CoreWord}
 pub use mathlib.Core.List.{reverse_aux}
@@ -47,7 +48,7 @@ pub use Rattle.fiber_frames.specs.Machine.{act_ask, act_row_end, acted, awaited,
 pub use Rattle.fiber_frames.specs.Machine.{descend, ending, error_at_root, finalized, framed, given, gives, gone, gone_to, handle_found, is_form, is_inside}
 pub use Rattle.fiber_frames.specs.Machine.{joined, landed, leaf_ask, leaf_row, leaf_row_end, made, mask_found, mask_noted, noted, number_at, others, passed}
 pub use Rattle.fiber_frames.specs.Machine.{polled, result_ask, result_row_end, root_ask, root_row_end, row_ask, row_end_in, row_in, sum_leaf, thrown, turned}
-pub use Rattle.fiber_frames.specs.Machine.{turns_of, undoes, value_at_root, value_found, waits, with_leaf, word_ask, word_row, word_row_end}
+pub use Rattle.fiber_frames.specs.Machine.{leaf_or_error, turns_of, undoes, value_at_root, value_found, waits, with_leaf, word_ask, word_row, word_row_end}
 pub use Rattle.fiber_frames.specs.Machines.{Begins, IsBorn, IsOver, Kept, SameCourse, SameParts, fiber_in, state_of}
 pub use Rattle.fiber_frames.specs.Marks.{AreLawful, Bracket_step, EndsLawfully, Has, IsCutOnce, IsOpenBalanced, IsPolled, Nested, NoCut, UncutRegions, bracket}
 pub use Rattle.fiber_frames.specs.Marks.{bracket_steps, empty, times_acquired, two}
@@ -60,7 +61,7 @@ pub use Rattle.fiber_frames.specs.Reached.{Reached, born, broken, moved, root}
 pub use Rattle.fiber_frames.specs.Rows.{Born, Ceded, Ended, Plain, Row, RowKind, Waited, action_row, after_end, after_read, branch, calls, completed_in, enters}
 pub use Rattle.fiber_frames.specs.Rows.{error_row, error_under, fits, handle_number, is_ended, is_positive, is_zero, looped, mask_number, note_mark, notes}
 pub use Rattle.fiber_frames.specs.Rows.{number_in, number_of, one_less, outcome_in, placed, read_in, row, row_at, sum_or_raise, switches, unit, value_in}
-pub use Rattle.fiber_frames.specs.Rows.{value_row, value_under, wait}
+pub use Rattle.fiber_frames.specs.Rows.{value_or_raise, value_row, value_under, wait}
 pub use Rattle.fiber_frames.specs.Shapes.{entry_placed, frame_placed, numbers_in, path_masks, stage_placed}
 pub use Rattle.fiber_frames.specs.SlotNames.{Agree, AreSameAt, Names, Needs, NeedsAt, many_parts}
 pub use Rattle.fiber_frames.specs.Told.{BornReached, kind_of_row_end, told_by}

@@ -7,7 +7,7 @@ use Rattle.fiber_frames.proofs.Prelude.{Poll, Polled, Pure, Raise, Request, Say,
 use Rattle.fiber_frames.proofs.Prelude.{In_guarded, In_handle, In_let, In_masked, In_polled, In_seq, PathStep, around, is_effective, same_mask, undone}
 use Rattle.fiber_frames.proofs.Prelude.{without_first, Born, Ceded, Ended, Plain, Row, RowKind, Waited, action_row, after_end, after_read, branch, fits}
 use Rattle.fiber_frames.proofs.Prelude.{is_ended, is_positive, is_zero, looped, mask_number, number_in, number_of, one_less, outcome_in, read_in, unit, wait}
-use Rattle.fiber_frames.proofs.Prelude.{mask_to, masks_on, number_to, renumbered}
+use Rattle.fiber_frames.proofs.Prelude.{mask_to, masks_on, number_to, renumbered, Calculate, calculated, value_or_raise}
 use Rattle.fiber_frames.proofs.Walk.{End, Gives, Throws, Works, end_of, under, walk}
 
 -- what a kind of move starts, with its masks' numbers changed
@@ -39,6 +39,7 @@ module _ (i : ℕ) (to : ℕ → ℕ → Mask) (closed : (p : Put) (g m : ℕ) �
   module _ (p p' : Put) (same : SamePut p p') where
     action_same : (a : Action) → action_at p' a ≡ action_at p a
     action_same (Add v w) = ap₂ Add (same.value v) (same.value w)
+    action_same (Calculate o v w) = ap₂ (Calculate o) (same.value v) (same.value w)
     action_same (Say v) = ap Say (same.value v)
     action_same (Request f) = ap Request (same.handle f)
     action_same (Ending f) = ap Ending (same.handle f)
@@ -204,6 +205,11 @@ module _ (i : ℕ) (to : ℕ → ℕ → Mask) (closed : (p : Put) (g m : ℕ) �
         | true ↦ refl
         | false ↦ refl
       ];
+      kind = refl;
+    }
+    act_alike (Calculate o v w) = record {
+      call = refl;
+      becomes = elim (calculated o (number_of v) (number_of w)) as (λ t. value_or_raise t ≡ R (value_or_raise t)) [ None ↦ refl | Some z ↦ refl ];
       kind = refl;
     }
     act_alike (Request f) = record {

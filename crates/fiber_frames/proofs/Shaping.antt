@@ -9,7 +9,7 @@ use Rattle.fiber_frames.proofs.Prelude.{close_maker, close_mask, close_turns, cl
 use Rattle.fiber_frames.proofs.Prelude.{finalizers_of, leaf_of, running_in, running_of, step_of, Leaf, leaf_in, fiber_in, state_of, In_guarded, In_handle}
 use Rattle.fiber_frames.proofs.Prelude.{In_let, In_masked, In_polled, In_seq, PathStep, Running, around, whole, entry_placed, frame_placed, numbers_in}
 use Rattle.fiber_frames.proofs.Prelude.{path_masks, stage_placed, all_renumbered, mask_to, masks_of, masks_on, number_to, placed_in, renumbered, run_renumbered}
-use Rattle.fiber_frames.proofs.Prelude.{run_unmarked, unmarked, Mask_code}
+use Rattle.fiber_frames.proofs.Prelude.{run_unmarked, unmarked, Mask_code, Calculate}
 use Rattle.fiber_frames.specs.declared.frame.Place.{Place}
 
 -- ---- terms without numbers of masks, and without the forms that only a running fiber has
@@ -129,6 +129,7 @@ module _ (i : ℕ) (ms : List ℕ) where
 
     action_close : (a : Action) → close_action g a ≡ close_action after a
     action_close (Add v w) = ap₂ Add (value_close v) (value_close w)
+    action_close (Calculate o v w) = ap₂ (Calculate o) (value_close v) (value_close w)
     action_close (Say v) = ap Say (value_close v)
     action_close (Request f) = ap Request (handle_close f)
     action_close (Ending f) = ap Ending (handle_close f)

@@ -8,6 +8,7 @@ use Rattle.fiber_frames.proofs.Prelude.{No_handle, Place, Outcome, Reply, Ask, U
 use Rattle.fiber_frames.proofs.Prelude.{action_row, after_end, after_read, branch, fits, handle_number, is_ended, is_positive, is_zero, looped, number_in}
 use Rattle.fiber_frames.proofs.Prelude.{number_of, one_less, outcome_in, read_in, unit, Apart, AskApart, Bound, NumberApart, By_none, By_other, Scope}
 use Rattle.fiber_frames.proofs.Prelude.{action_uses, all_open, bound_by, handle_count, of_use, open_count, tree_uses, under_binder, used_place, PathStep}
+use Rattle.fiber_frames.proofs.Prelude.{Calculate, calculated, value_or_raise}
 use Rattle.fiber_frames.proofs.Walk.{End, Gives, Throws, Works, end_of, under, walk}
 use Rattle.fiber_frames.proofs.Marks.Actions.{If_born, none_born, wait_none}
 
@@ -282,6 +283,8 @@ module _ (u : Use) (n : ℕ) where
     act_unused (Add v w) h =
         on _ tt tt (elim (fits (number_of v +ℤ number_of w)) as
         (λ t. Unused (if t then Pure (Number (number_of v +ℤ number_of w)) else Raise (Number (pos 1001)))) [ true ↦ refl | false ↦ refl ])
+    act_unused (Calculate o v w) h =
+        on _ tt tt (elim (calculated o (number_of v) (number_of w)) as (λ t. Unused (value_or_raise t)) [ None ↦ refl | Some z ↦ refl ])
     act_unused Canceled h = record { becomes = λ g. refl; born = tt; asks = λ e. inl refl }
     act_unused (Request f) h = record {
       becomes = λ g. elim (is_ended r) as (λ t. Unused (if t then unit else Act (Ending f))) [ true ↦ refl | false ↦ none_second _ _ h ];

@@ -120,9 +120,10 @@ impl Machine {
         ensures silent { result ≡ true → leaf_ask (state_of self.now) (leaf_in self.now.place) ≡ asks.Silent }
     {
         match self.place.kind {
-            WordKind::Cede | WordKind::Never | WordKind::Add | WordKind::Say | WordKind::Times =>
-                true,
-            WordKind::Always
+            WordKind::Cede | WordKind::Never | WordKind::Add | WordKind::Calculate => true,
+            WordKind::Say
+            | WordKind::Times
+            | WordKind::Always
             | WordKind::Note
             | WordKind::If0
             | WordKind::OnCancel
@@ -179,10 +180,10 @@ impl Machine {
             WordKind::NewRef => Ask::NewRef,
             WordKind::NewDeferred => Ask::NewDeferred,
             WordKind::Start => Ask::Start,
-            WordKind::Cede | WordKind::Never | WordKind::Add | WordKind::Say | WordKind::Times =>
+            WordKind::Cede | WordKind::Never | WordKind::Add | WordKind::Calculate =>
                 unreachable!(),
-            WordKind::Always | WordKind::Note | WordKind::If0 | WordKind::OnCancel =>
-                unreachable!(),
+            WordKind::Say | WordKind::Times | WordKind::Always | WordKind::Note => unreachable!(),
+            WordKind::If0 | WordKind::OnCancel => unreachable!(),
             WordKind::Turns | WordKind::Value | WordKind::Error | WordKind::Form => unreachable!(),
         }
     }

@@ -281,6 +281,9 @@ impl Same for Action {
             (Action::Add(one, two), Action::Add(one_too, two_too)) => {
                 one.same(one_too) && two.same(two_too)
             }
+            (Action::Calculate(way, one, two), Action::Calculate(way_too, one_too, two_too)) => {
+                *way == *way_too && one.same(one_too) && two.same(two_too)
+            }
             (Action::Say(one), Action::Say(other)) => one.same(other),
             (Action::Cede, Action::Cede)
             | (Action::Never, Action::Never)

@@ -40,6 +40,7 @@ fn of_action(action: &Action) -> u64
 {
     match action {
         Action::Add(one, other) => of_value(*one) | of_value(*other),
+        Action::Calculate(_, one, other) => of_value(*one) | of_value(*other),
         Action::Say(value) => of_value(*value),
         Action::Cede | Action::Never | Action::Canceled => 0,
         Action::Get(it) | Action::Await(it) => of_slot(*it),

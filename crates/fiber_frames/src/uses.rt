@@ -93,7 +93,7 @@ fn action_uses(action: &Action, env: &[EnvEntry], level: usize, sought: Sought) 
         (close_action (env_of env.now level) (action_in_core action.now)) ≡ 0 }
 {
     match action {
-        Action::Add(_, _) | Action::Say(_) => false,
+        Action::Add(_, _) | Action::Calculate(_, _, _) | Action::Say(_) => false,
         Action::Cede | Action::Never | Action::Canceled => false,
         Action::Get(slot) => slot_uses(Use::Gets, *slot, env, level, sought),
         Action::Set(slot, _) => slot_uses(Use::Stores, *slot, env, level, sought),

@@ -1,7 +1,8 @@
 -- What a row of a word without parts makes: a value, an error or such a word, no child, and no mark but that of `say`.
 use Rattle.fiber_frames.proofs.Prelude.{ℕ, true, false, if◌then◌else◌, List, [], ◌∷◌, Option, Some, None, ℤ, pos, ◌+ℤ◌, Act, Action, Add, Await, Ending, Handle}
 use Rattle.fiber_frames.proofs.Prelude.{Never, Number, Pure, Raise, Request, Say, Tree, Operand, Outcome, Reply, Born, RowKind, Row, action_row, after_end}
-use Rattle.fiber_frames.proofs.Prelude.{after_read, fits, is_ended, number_of, outcome_in, read_in, sum_or_raise, unit, wait, Ask, Mark}
+use Rattle.fiber_frames.proofs.Prelude.{after_read, fits, is_ended, number_of, outcome_in, read_in, sum_or_raise, unit, wait, Ask, Mark, Calculate, calculated}
+use Rattle.fiber_frames.proofs.Prelude.{value_or_raise}
 
 -- a value, an error, or a word without parts
 pub data Simple : Tree → Type 0 where
@@ -40,6 +41,10 @@ module _ (i next : ℕ) (r : Reply) where
   sum_simple : (z : ℤ) → Simple (sum_or_raise z)
   sum_simple z = elim (fits z) as (λ b. Simple (if b then Pure (Number z) else Raise (Number (pos 1001)))) [ true ↦ a_value _ | false ↦ an_error _ ]
 
+  calculated_simple : (z : Option ℤ) → Simple (value_or_raise z)
+  calculated_simple None = an_error _
+  calculated_simple (Some z) = a_value _
+
   end_simple : (o : Option Outcome) (f : Handle) → Simple (after_end o f)
   end_simple None f = an_action _
   end_simple (Some o) f = a_value _
@@ -54,6 +59,7 @@ module _ (i next : ℕ) (r : Reply) where
 
   pub action_case : (P : Row Tree → Type 0) → ActionRow P → (c : Action) → P (action_row i next r c)
   action_case P f (Add v w) = f _ _ _ _ (sum_simple (number_of v +ℤ number_of w)) silent tt
+  action_case P f (Calculate o v w) = f _ _ _ _ (calculated_simple (calculated o (number_of v) (number_of w))) silent tt
   action_case P f (Say v) = f _ _ _ _ (a_value _) (said _) tt
   action_case P f Never = f _ _ _ _ (an_action _) silent tt
   action_case P f (Request y) =

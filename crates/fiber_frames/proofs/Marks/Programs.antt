@@ -219,6 +219,7 @@ mutual
   sound (term.Handle' _ e _ h) g m d V s w = part_handle V d _ d _ (sound e g m d V s w.0) (bound g m d V s Kind.Value not_poll_value h (sound h) w.1)
   sound (term.If0' v _ a _ b) g m d V s w = part_if0 V d (value_in m (value_of v)) _ _ (sound a g m d V s w.1) (sound b g m d V s w.2)
   sound (term.Add v u) g m d V s w = part_act V d _
+  sound (term.Calculate o v u) g m d V s w = part_act V d _
   sound (term.Say v) g m d V s w = part_act V d _
   sound term.Cede g m d V s w = part_act V d _
   sound term.Never g m d V s w = part_act V d _

@@ -10,6 +10,10 @@ Named slots a = Needs slots (λ (g : Env). close_action g (action_in_core a))
 pub returns-in-Add : goal.returns-in-Add
 returns-in-Add c = subst (Named _) (sym c.in-Add.is) (needs_two tree.Add _ _ _ _ c.of_value.ensures c.of_value-in-Add.ensures)
 
+pub returns-in-Calculate : goal.returns-in-Calculate
+returns-in-Calculate c =
+    subst (Named _) (sym c.in-Calculate.is) (needs_two (tree.Calculate _) _ _ _ _ c.of_value-in-Calculate.ensures c.of_value-in-Calculate-2.ensures)
+
 pub returns-in-Set : goal.returns-in-Set
 returns-in-Set c = subst (Named _) (sym c.in-Set.is)
     (needs_two (λ o v. tree.Set (handle_or c.in-Set.it o) v) _ _ _ _ c.of_slot.ensures c.of_value-in-Set.ensures)
