@@ -10,5 +10,6 @@ pub mod Naming
 pub mod Stored
 pub mod Cores
 pub mod Words
+pub mod Computing
 pub mod CoreText
 pub mod Private

@@ -1,9 +1,9 @@
 -- What is counted over a row of terms, read at the items of its `Vec`.
-use Rattle.std.proofs.Common.{◌≡◌, ℕ, ◌+◌, ◌≤◌, ◌<◌, zero, suc, max, ◌||◌, List, [], ◌∷◌, ◌++◌, length, get_or, ap, refl, arith}
+use Rattle.std.proofs.Common.{◌≡◌, ℕ, ◌+◌, ◌≤◌, ◌<◌, zero, suc, max, ◌||◌, ◌&&◌, List, [], ◌∷◌, ◌++◌, length, get_or, ap, refl, arith}
 use Rattle.effect_term.specs.{declared.term.Term.{Term, Row_of-Term, end_of-Term, more_of-Term, items-the_row-Term}, ExpansionSize.expansion_size_of}
 use Rattle.effect_term.specs.{ExpansionSize.{expansion_sizes_of, total_expansion_size}, Masks.{masks_of, most_masks_of, most_masks}, Names.uses_of}
 use Rattle.effect_term.specs.{Names.{uses_of_row, uses_of_all}, Sizes.{size_of, sizes_of, total_size, nest_of, nests_of, deepest}, Starts.starts_fiber}
-use Rattle.effect_term.specs.Starts.{any_starts_fiber, some_starts_fiber}
+use Rattle.effect_term.specs.{Starts.{any_starts_fiber, some_starts_fiber}, EffectFree.{is_effect_free, all_effect_free, are_effect_free}}
 
 pub sizes_of-row : (m : _) (row : Row_of-Term m) → sizes_of row ≡ total_size (items-the_row-Term m row)
 sizes_of-row _ end_of-Term = refl
@@ -26,6 +26,11 @@ pub any_starts_fiber-row : (m : _) (row : Row_of-Term m) → any_starts_fiber ro
 any_starts_fiber-row _ end_of-Term = refl
 any_starts_fiber-row _ (more_of-Term t rest) =
     ap (λ b. starts_fiber t || b) (any_starts_fiber-row _ rest)
+
+pub all_effect_free-row : (m : _) (row : Row_of-Term m) → all_effect_free row ≡ are_effect_free (items-the_row-Term m row)
+all_effect_free-row _ end_of-Term = refl
+all_effect_free-row _ (more_of-Term t rest) =
+    ap (λ b. is_effect_free t && b) (all_effect_free-row _ rest)
 
 pub uses_of_row-row : (around : _) (m : _) (row : Row_of-Term m) → uses_of_row around row ≡ uses_of_all around (items-the_row-Term m row)
 uses_of_row-row around _ end_of-Term = refl

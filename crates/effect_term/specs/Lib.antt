@@ -1,4 +1,6 @@
 pub mod Arithmetic
+pub mod Computing
+pub mod EffectFree
 pub mod ExpansionSize
 pub mod Kinds
 pub mod Masks

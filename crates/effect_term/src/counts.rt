@@ -1,6 +1,8 @@
-//! How large a term is, how deep, and how many masks can be active in it at most.
+//! How large a term is, how deep, and how many masks can be active in it at most; whether it starts fibers, and whether
+//! it is effect-free.
 
 ghost use Rattle.std.specs.Prelude.{◌≡◌, ◌+◌, ◌-◌, ◌*◌, ◌^◌, ◌<◌, min, max};
+ghost use Rattle.effect_term.specs.EffectFree.{is_effect_free};
 ghost use Rattle.effect_term.specs.ExpansionSize.{expansion_size_of};
 ghost use Rattle.effect_term.specs.Masks.{masks_of};
 ghost use Rattle.effect_term.specs.Sizes.{size_of, nest_of};
@@ -201,6 +203,37 @@ impl Term {
                 }
                 starts
             }
+        }
+    }
+
+    /// Whether the term is effect-free: it has only the words `pure`, `raise`, `let`, `seq`, `handle`, `if0`, `add`,
+    /// `sub`, `mul`, `div`, `mod`, `less` and `equal`. They make no call, have no loop and note nothing, so the term
+    /// comes to a value or a code. Its depth on the stack is the depth of the term.
+    pub fn is_effect_free(&self) -> bool
+        ensures { result ≡ is_effect_free self.now }
+    {
+        match self {
+            Term::Pure(_) | Term::Raise(_) | Term::Add(_, _) | Term::Calculate(_, _, _) => true,
+            Term::Let(a, b) | Term::Handle(a, b) | Term::If0(_, a, b) => {
+                a.is_effect_free() && b.is_effect_free()
+            }
+            Term::Seq(a, b, more) => {
+                let mut free = a.is_effect_free() && b.is_effect_free();
+                for t in more {
+                    free &= t.is_effect_free();
+                }
+                free
+            }
+            Term::Say(_) | Term::Cede | Term::Never => false,
+            Term::Canceled | Term::Cancel(_) => false,
+            Term::Get(_) | Term::Set(_, _) | Term::Modify(_, _) => false,
+            Term::Complete(_, _) | Term::Await(_) => false,
+            Term::Uncancelable(_) | Term::Poll(_, _) | Term::Ref(_, _) => false,
+            Term::Deferred(_) | Term::Repeat(_, _) | Term::Forever(_) => false,
+            Term::OnCancel(_, _) | Term::Guarantee(_, _) | Term::Start(_, _) => false,
+            Term::Join(_, _, _, _) | Term::Bracket(_, _, _) => false,
+            Term::BracketCase(_, _, _, _, _) | Term::BracketFull(_, _, _, _, _) => false,
+            Term::Race(_, _) | Term::Both(_, _, _) => false,
         }
     }
 }

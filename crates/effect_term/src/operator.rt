@@ -57,9 +57,9 @@ impl Operator {
     }
 }
 
-// The value of a number, if it is in range.
+/// The value of a number, if it is in range.
 #[tactic(auto, using(crate::proofs::ArithmeticLaws::in_range_value, crate::proofs::ArithmeticLaws::in_range_past))]
-fn in_range(number: i64) -> Option<Value>
+pub(crate) fn in_range(number: i64) -> Option<Value>
     ensures { result ≡ in_range number }
 {
     let value = Value::of(number)?;

@@ -46,6 +46,7 @@ pub mod Spines
 pub mod RenumberedMoves
 pub mod MoveSpines
 pub mod Composing
+pub mod Computations
 pub mod Placing
 pub mod Freshness
 pub mod Unmarking

@@ -12,6 +12,7 @@ pub mod Machine
 pub mod Machines
 pub mod SlotNames
 pub mod Cases
+pub mod Computing
 pub mod Told
 pub mod Leading
 pub mod Naming

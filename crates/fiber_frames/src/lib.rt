@@ -26,6 +26,7 @@
 
 mod ask;
 mod asks;
+mod computing;
 mod config;
 mod copies;
 mod env;
