@@ -16,7 +16,7 @@ syntax match fiberModelComment ";.*$" contains=fiberModelTodo,@Spell
 syntax keyword fiberModelTodo contained TODO FIXME
 syntax region fiberModelText start=+"+ end=+"+ oneline contains=@Spell
 
-" a word that begins with a digit or `-` is a number, or a fault
+" a word that begins with a digit, or with `-` and isn't `-` alone, is a number, or a fault
 syntax match fiberModelBadNumber "\%(^\|[[:space:]()]\)\@1<=-\?[0-9][^[:space:]();\"]*"
 syntax match fiberModelNumber "\%(^\|[[:space:]()]\)\@1<=\%(0\|-\?[1-9][0-9]*\)\%([[:space:]();\"]\|$\)\@="
 
@@ -39,6 +39,8 @@ syntax match fiberModelBlock "(\@1<=\%(do\|seq\|if\|if0\|when\|unless\|repeat\|f
 syntax match fiberModelMask "(\@1<=\%(uncancelable\|poll\|oncancel\|guarantee\|bracket\|bracketcase\|bracketfull\)\>"
 syntax match fiberModelWord "(\@1<=\%(pure\|raise\|handle\|add\|say\|cede\|never\|canceled\)\>"
 syntax match fiberModelWord "(\@1<=\%(join\|cancel\|get\|set\|modify\|complete\|await\|race\|both\)\>"
+syntax match fiberModelWord "(\@1<=\%(sub\|mul\|div\|mod\|less\|equal\)\>"
+syntax match fiberModelWord "(\@1<=\%(+\|-\|\*\|/\|%\)[[:space:]]\@="
 syntax match fiberModelPrelude "(\@1<=\%(wait\|value-of\|spin-until-zero\|ignore-errors\|guarantee-case\)\>"
 
 highlight default link fiberModelComment Comment

@@ -66,11 +66,11 @@ operator_stored Less = 4
 operator_stored Equal = 5
 
 abbrev operator_read : ℕ → Operator
-operator_read 0 = Difference
-operator_read 1 = Product
-operator_read 2 = Quotient
-operator_read 3 = Remainder
-operator_read 4 = Less
+operator_read zero = Difference
+operator_read (suc zero) = Product
+operator_read (suc (suc zero)) = Quotient
+operator_read (suc (suc (suc zero))) = Remainder
+operator_read (suc (suc (suc (suc zero)))) = Less
 operator_read _ = Equal
 
 pub operator_again : (o : Operator) → operator_read (operator_stored o) ≡ o

@@ -30,8 +30,8 @@ pub fn frame_bytes(program: &Program, limits: Limits) -> usize {
 // The most frames that are nested while a term runs, at most the greatest `u64`.
 fn frames_in(term: &Term) -> u64 {
     match term {
-        Term::Pure(_) | Term::Raise(_) | Term::Add(_, _) | Term::Say(_) => 0,
-        Term::Cede | Term::Never | Term::Canceled | Term::Cancel(_) => 0,
+        Term::Pure(_) | Term::Raise(_) | Term::Add(_, _) | Term::Calculate(_, _, _) => 0,
+        Term::Say(_) | Term::Cede | Term::Never | Term::Canceled | Term::Cancel(_) => 0,
         Term::Get(_) | Term::Set(_, _) | Term::Modify(_, _) => 0,
         Term::Complete(_, _) | Term::Await(_) => 0,
         Term::Ref(_, e) | Term::Deferred(e) => frames_in(e),

@@ -104,8 +104,19 @@ const BOTH: &[u8] =
 const NUMBERS: &[u8] =
     b"(seq (add 4611686018427387903 -4611686018427387904) (say 2147483648) (raise -2147483649))";
 
+// The words of arithmetic.
+const ARITHMETIC: &[u8] =
+    b"(let x (sub 7 2) (let y (mul x 3) (seq (div y x) (mod y x) (less x y) (equal x y))))";
+
+const ARITHMETIC_IN_SLOTS: &[u8] =
+    b"(let v0 (sub 7 2) (let v1 (mul v0 3) (seq (div v1 v0) (mod v1 v0) (less v0 v1) (equal v0 v1))))";
+
 // Programs of core words, each with the text of its expansion.
-const CORE_PROGRAMS: &[(&[u8], &[u8])] = &[(CORE_WORDS, CORE_WORDS_IN_SLOTS), (NUMBERS, NUMBERS)];
+const CORE_PROGRAMS: &[(&[u8], &[u8])] = &[
+    (CORE_WORDS, CORE_WORDS_IN_SLOTS),
+    (NUMBERS, NUMBERS),
+    (ARITHMETIC, ARITHMETIC_IN_SLOTS),
+];
 
 #[test]
 fn core_words_are_expanded_part_by_part(rt: HostRuntime) -> Result<(), Fail> {

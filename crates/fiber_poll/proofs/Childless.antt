@@ -1,13 +1,14 @@
 -- A fiber in whose term nothing is started: it never asks for a start.
 use Rattle.std.{proofs.Common.{ℕ, Bool, true, false, List, [], ◌∷◌, ◌++◌, Option, Some, None, sym, subst}, specs.Prelude.{◌+ℤ◌, pos, if◌then◌else◌}}
 use Rattle.effect_term.specs.declared.reply.{Outcome.Outcome, Reply.Reply}
-use Rattle.derived_ops.specs.Tree.{Act, Action, Add, Always, Await, Cancel, Canceled, Ending, Guarded, Handle, Handled, If0, Join, Let}
+use Rattle.effect_term.specs.Arithmetic.{calculated}
+use Rattle.derived_ops.specs.Tree.{Act, Action, Add, Always, Await, Calculate, Cancel, Canceled, Ending, Guarded, Handle, Handled, If0, Join, Let}
 use Rattle.derived_ops.specs.Tree.{Loop, Make, Mask, Masked, New_deferred, New_ref, Note, Number, On_cancel, Pair, Poll, Polled, Pure, Raise}
 use Rattle.derived_ops.specs.{Tree.{Request, Rest, Seq, Start, Times, Tree, Turns, Uncancelable}, Put.{Put, Put_handle, Put_mask, Put_value}}
 use Rattle.derived_ops.specs.Put.{put}
 use Rattle.fiber_frames.specs.{declared.ask.Ask.Ask, Path.{At_final, At_term, Broken, Final, Over, Running, Runs, focus, is_effective, undone}}
 use Rattle.fiber_frames.specs.Rows.{Row, after_end, after_read, branch, fits, is_ended, is_positive, is_zero, looped, number_in, number_of, outcome_in, read_in}
-use Rattle.fiber_frames.specs.{Rows.{row_at, unit}, Fiber.{Cuts, Fiber, Looks, Move_case, Reduces, Rests, ask_in, ask_of, move, move_case, move_in}}
+use Rattle.fiber_frames.specs.{Rows.{row_at, unit, value_or_raise}, Fiber.{Cuts, Fiber, Looks, Move_case, Reduces, Rests, ask_in, ask_of, move, move_case, move_in}}
 use Rattle.fiber_frames.proofs.Walk.{End, Gives, Throws, Works, end_of, finalizers_below, pending_root, root_row, row_root, walk}
 use Rattle.effect_term.specs.declared.reply.Outcome.TheVariants as outcome
 use Rattle.effect_term.specs.declared.reply.Reply.TheVariants as reply
@@ -97,6 +98,11 @@ module _ (i n : ℕ) (r : Reply) where
       record {
         becomes = elim (fits (number_of v +ℤ number_of w)) as
             (λ b. IsChildless (if b then Pure (Number (number_of v +ℤ number_of w)) else Raise (Number (pos 1001)))) [ true ↦ tt | false ↦ tt ];
+        other = tt;
+      }
+  action_quiet (Calculate o v w) =
+      record {
+        becomes = elim (calculated o (number_of v) (number_of w)) as (λ z. IsChildless (value_or_raise z)) [ None ↦ tt | Some z ↦ tt ];
         other = tt;
       }
   action_quiet (Request f) =

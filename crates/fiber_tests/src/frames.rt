@@ -291,6 +291,43 @@ fn errors_go_to_the_handler_or_end_the_fiber(rt: HostRuntime) -> Result<(), Fail
 }
 
 #[test]
+fn quotients_are_rounded_down(rt: HostRuntime) -> Result<(), Fail> {
+    let alloc = rt.alloc();
+    assert!(rt; is_run(alloc, b"(div -7 2)", &[], Some(succeeded(-4)))?);
+    assert!(rt; is_run(alloc, b"(mod -7 2)", &[], Some(succeeded(1)))?);
+    assert!(rt; is_run(alloc, b"(div 7 2)", &[], Some(succeeded(3)))?);
+    assert!(rt; is_run(alloc, b"(mod 7 2)", &[], Some(succeeded(1)))?);
+    let refused = Some(Outcome::Errored(number(1001)));
+    assert!(rt; is_run(alloc, b"(div 7 0)", &[], refused)?);
+    assert!(rt; is_run(alloc, b"(mod 7 -2)", &[], refused)?);
+    Ok(())
+}
+
+#[test]
+fn differences_and_products_have_63_bits(rt: HostRuntime) -> Result<(), Fail> {
+    let alloc = rt.alloc();
+    let overflow = Some(Outcome::Errored(number(1001)));
+    assert!(rt; is_run(alloc, b"(sub -4611686018427387904 1)", &[], overflow)?);
+    assert!(rt; is_run(alloc, b"(sub 0 -4611686018427387904)", &[], overflow)?);
+    assert!(rt; is_run(alloc, b"(mul 2147483648 2147483648)", &[], overflow)?);
+    assert!(rt; is_run(alloc, b"(mul 4294967296 4294967296)", &[], overflow)?);
+    let least = Some(Outcome::Succeeded(Value::MIN));
+    assert!(rt; is_run(alloc, b"(mul 2147483648 -2147483648)", &[], least)?);
+    assert!(rt; is_run(alloc, b"(sub 3 5)", &[], Some(succeeded(-2)))?);
+    Ok(())
+}
+
+#[test]
+fn comparisons_give_1_or_0(rt: HostRuntime) -> Result<(), Fail> {
+    let alloc = rt.alloc();
+    assert!(rt; is_run(alloc, b"(less -1 0)", &[], Some(succeeded(1)))?);
+    assert!(rt; is_run(alloc, b"(less 4 4)", &[], Some(succeeded(0)))?);
+    assert!(rt; is_run(alloc, b"(equal 4 4)", &[], Some(succeeded(1)))?);
+    assert!(rt; is_run(alloc, b"(equal 4 -4)", &[], Some(succeeded(0)))?);
+    Ok(())
+}
+
+#[test]
 fn sums_have_63_bits(rt: HostRuntime) -> Result<(), Fail> {
     let alloc = rt.alloc();
     let overflow = Some(Outcome::Errored(number(1001)));

@@ -63,6 +63,16 @@ const DIFFERENCES: &[Difference<'static>] = &[
         ends: &[End::Errored(1001)],
     },
     Difference {
+        rule: "a quotient is rounded down",
+        program: "(div -7 2)",
+        ends: &[End::Succeeded(-4)],
+    },
+    Difference {
+        rule: "a division by a negative number is an error",
+        program: "(mod 7 -2)",
+        ends: &[End::Errored(1001)],
+    },
+    Difference {
         rule: "finalizers run innermost first",
         program: "(ref r 0 (start f (oncancel (oncancel (canceled) (modify r 1)) (let n (get r) (modify r n))) \
             (join f x (pure 0) y (pure 0) (get r))))",

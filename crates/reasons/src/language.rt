@@ -1,6 +1,6 @@
 //! How the reasons name the words of the language and their parts.
 
-use effect_term::Kind;
+use effect_term::{Kind, Operator};
 use term_parse::{Part, Word};
 
 /// The form of a word, with a letter or a short name for each part.
@@ -13,6 +13,14 @@ pub(crate) fn form_of(word: Word) -> &'static str {
         Word::Handle => "(handle e x h)",
         Word::If0 => "(if0 v s e)",
         Word::Add => "(add v w)",
+        Word::Calculate(operator) => match operator {
+            Operator::Difference => "(sub v w)",
+            Operator::Product => "(mul v w)",
+            Operator::Quotient => "(div v w)",
+            Operator::Remainder => "(mod v w)",
+            Operator::Less => "(less v w)",
+            Operator::Equal => "(equal v w)",
+        },
         Word::Say => "(say v)",
         Word::Cede => "(cede)",
         Word::Never => "(never)",
