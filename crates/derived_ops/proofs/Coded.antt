@@ -413,6 +413,8 @@ module _ (b : Given) where
     named-expansion (term.Get r) g m s d q h w = h.at r.slot kind.Ref w.0 real_ref
     named-expansion (term.Set r v) g m s d q h w = h.at r.slot kind.Ref w.0.0 real_ref
     named-expansion (term.Modify r v) g m s d q h w = h.at r.slot kind.Ref w.0.0 real_ref
+    named-expansion (term.Update' r _ e) g m s d q h w =
+        (h.at r.slot kind.Ref w.0.0 real_ref, (q, bound g m s d q h kind.Value e (named-expansion e) w.1))
     named-expansion (term.Deferred' _ k) g m s d q h w = (q, bound g m s d q h kind.Deferred k (named-expansion k) w)
     named-expansion (term.Complete c v) g m s d q h w = h.at c.slot kind.Deferred w.0.0 real_deferred
     named-expansion (term.Await c) g m s d q h w = h.at c.slot kind.Deferred w.0 real_deferred

@@ -30,6 +30,7 @@ mutual
   words_expansion term.Canceled m d = refl
   words_expansion (term.Uncancelable' _ e) m d = omega (arith, words_expansion e (m ++ d ∷ []) (d + 1))
   words_expansion (term.Poll' p _ e) m d = omega (arith, words_expansion e m d)
+  words_expansion (term.Update' r _ e) m d = omega (arith, words_expansion e (m ++ d ∷ []) (d + 1))
   words_expansion (term.OnCancel' _ e _ fin) m d = omega (arith, words_expansion e m d, words_expansion fin m d)
   words_expansion (term.Start' _ e _ k) m d = omega (arith, words_expansion e m d, words_expansion k (m ++ d ∷ []) (d + 1))
   words_expansion (term.Join' f _ s _ e _ c) m d =
@@ -143,6 +144,7 @@ mutual
   masks_expansion term.Canceled m d = refl
   masks_expansion (term.Uncancelable' _ e) m d = rw (masks_expansion e (m ++ d ∷ []) (d + 1)) refl
   masks_expansion (term.Poll' p _ e) m d = rw (masks_expansion e m d) refl
+  masks_expansion (term.Update' r _ e) m d = rw (masks_expansion e (m ++ d ∷ []) (d + 1)) refl
   masks_expansion (term.OnCancel' _ e _ fin) m d = rw (masks_expansion e m d, masks_expansion fin m d) refl
   masks_expansion (term.Start' _ e _ k) m d = rw (masks_expansion e m d, masks_expansion k (m ++ d ∷ []) (d + 1)) refl
   masks_expansion (term.Join' f _ s _ e _ c) m d =

@@ -127,6 +127,7 @@ levelled-expansion m d (word.Handle e h) = (refl, (levelled-expansion m d e, lev
 levelled-expansion m d (word.If0 v s e) = (levelled-expansion m d s, levelled-expansion m d e)
 levelled-expansion m d (word.Uncancelable e) = (refl, levelled-expansion (m ++ d ∷ []) (d + 1) e)
 levelled-expansion m d (word.Poll p e) = levelled-expansion m d e
+levelled-expansion m d (word.Update r e) = (refl, levelled-expansion (m ++ d ∷ []) (d + 1) e)
 levelled-expansion m d (word.On_cancel e fin) = (levelled-expansion m d e, levelled-expansion m d fin)
 levelled-expansion m d (word.Start e k) = (refl, (levelled-expansion m d e, levelled-expansion (m ++ d ∷ []) (d + 1) k))
 levelled-expansion m d (word.Join f s e c) =

@@ -13,7 +13,7 @@ use Rattle.derived_ops.specs.Tree as tree
 use Rattle.derived_ops.specs.Tree.{Operand, Number, Slot, Handle, Known, Open_slot, Mask, Named, Pair, Action, Add, Calculate, Say, Cede, Never, Canceled}
 use Rattle.derived_ops.specs.Tree.{Request, Ending, Get, Set, Modify, Complete, Await, Bracket_mark, Acquired, Releasing, Released, Maker, New_ref}
 use Rattle.derived_ops.specs.Tree.{New_deferred, Turns, Times, Always, Rest, Last, More, Tree, Pure, Raise, Act, Note, Cancel, Let, Seq, Handled, If0, Join}
-use Rattle.derived_ops.specs.Tree.{Make, Start, Loop, Uncancelable, Poll, On_cancel}
+use Rattle.derived_ops.specs.Tree.{Make, Start, Loop, Uncancelable, Poll, Update, On_cancel}
 use Rattle.derived_ops.specs.Words.{rest_of, tree_at}
 
 -- ---- what has words: no number in the place of a name, and no form that only a running fiber has
@@ -49,6 +49,7 @@ has_words (Start x e k) = has_words e && has_words k
 has_words (Loop n e) = has_words e
 has_words (Uncancelable x e) = has_words e
 has_words (Poll q e) = mask_has q && has_words e
+has_words (Update r x e) = handle_has r && has_words e
 has_words (On_cancel e fin) = has_words e && has_words fin
 has_words (tree.Masked m e) = false
 has_words (tree.Polled q e) = false
@@ -137,6 +138,7 @@ tree_past (Start x e k) ws i n =
 tree_past (Loop m k) ws i n = let h : 1 + size k + i ≡ suc (size k + i) = omega arith in rw h (tree_past k ws i n)
 tree_past (Uncancelable x k) ws i n = let h : 1 + size k + i ≡ suc (size k + i) = omega arith in rw h (tree_past k ws i n)
 tree_past (Poll q k) ws i n = let h : 1 + size k + i ≡ suc (size k + i) = omega arith in rw h (tree_past k ws i n)
+tree_past (Update r x k) ws i n = let h : 1 + size k + i ≡ suc (size k + i) = omega arith in rw h (tree_past k ws i n)
 tree_past (On_cancel e k) ws i n =
     let h : 1 + (size e + size k) + i ≡ suc (size e + (size k + i)) = omega arith in
     rw h (tree_past e (before k ws) (size k + i) n ∙ tree_past k ws i n)
@@ -209,6 +211,9 @@ tree_before (Uncancelable x k) n ws z l s =
 tree_before (Poll q k) n ws z l s =
     ap₂ Poll (mask_back q (one_of (mask_has q) (has_words k) s))
     (tree_before k n ws (omega (arith, z)) l (other_of (mask_has q) (has_words k) s))
+tree_before (Update r x k) n ws z l s =
+    ap₂ (λ u v. Update u n v) (handle_back r (one_of (handle_has r) (has_words k) s))
+    (tree_before k (n + 1) ws (omega (arith, z)) l.1 (other_of (handle_has r) (has_words k) s)) ∙ ap (λ y. Update r y k) (sym l.0)
 tree_before (On_cancel e k) n ws z l s =
     ap₂ (λ a b. On_cancel a b) (tree_before e n (before k ws) (omega (arith, z)) l.0 (one_of (has_words e) (has_words k) s))
     (tree_next e (before k ws) n (omega (arith, z)) ∙
@@ -235,6 +240,7 @@ size_counted (Start x e k) = omega (arith, size_counted e, size_counted k)
 size_counted (Loop n k) = omega (arith, size_counted k)
 size_counted (Uncancelable x k) = omega (arith, size_counted k)
 size_counted (Poll q k) = omega (arith, size_counted k)
+size_counted (Update r x k) = omega (arith, size_counted k)
 size_counted (On_cancel e k) = omega (arith, size_counted e, size_counted k)
 size_counted (tree.Masked m k) = omega arith
 size_counted (tree.Polled q k) = omega arith
@@ -248,6 +254,7 @@ expansion_has m d (source.Handle e h) = rw (expansion_has m d e, expansion_has (
 expansion_has m d (source.If0 v s e) = rw (expansion_has m d s, expansion_has m d e) refl
 expansion_has m d (source.Uncancelable e) = expansion_has (m ++ d ∷ []) (d + 1) e
 expansion_has m d (source.Poll p e) = expansion_has m d e
+expansion_has m d (source.Update r e) = expansion_has (m ++ d ∷ []) (d + 1) e
 expansion_has m d (source.On_cancel e fin) = rw (expansion_has m d e, expansion_has m d fin) refl
 expansion_has m d (source.Start e k) = rw (expansion_has m d e, expansion_has (m ++ d ∷ []) (d + 1) k) refl
 expansion_has m d (source.Join f s e c) =

@@ -4,7 +4,7 @@ use Rattle.std.proofs.lemmas.List.{length-reverse, reverse-append}
 use Rattle.derived_ops.specs.declared.core_word.CoreWord.{CoreWord}
 use Rattle.derived_ops.specs.Private.Writing.{before, size}
 use Rattle.derived_ops.specs.Tree as tree
-use Rattle.derived_ops.specs.Tree.{Tree, Pure, Raise, Act, Note, Cancel, Let, Seq, Handled, If0, Join, Make, Start, Loop, Uncancelable, Poll, On_cancel}
+use Rattle.derived_ops.specs.Tree.{Tree, Pure, Raise, Act, Note, Cancel, Let, Seq, Handled, If0, Join, Make, Start, Loop, Uncancelable, Poll, Update, On_cancel}
 
 pub reverse_more : {A : Type 0} → (xs ys : List A) → reverse (xs ++ ys) ≡ reverse ys ++ reverse xs
 reverse_more xs ys = reverse-append xs ys
@@ -30,6 +30,7 @@ length_before (Start x e k) ws = omega (arith, length_before e (before k ws), le
 length_before (Loop n e) ws = omega (arith, length_before e ws)
 length_before (Uncancelable x e) ws = omega (arith, length_before e ws)
 length_before (Poll q e) ws = omega (arith, length_before e ws)
+length_before (Update r x e) ws = omega (arith, length_before e ws)
 length_before (On_cancel e fin) ws = omega (arith, length_before e (before fin ws), length_before fin ws)
 length_before (tree.Masked m e) ws = omega arith
 length_before (tree.Polled q e) ws = omega arith

@@ -9,6 +9,7 @@ use Rattle.derived_ops.specs.Tree.{Calculate, Say, Cede, Never, Canceled, Reques
 use Rattle.derived_ops.specs.Tree.{Await, Bracket_mark, Acquired, Releasing, Released, New_ref, New_deferred, Times}
 use Rattle.derived_ops.specs.Tree.{Always, Rest, Last, More, Tree, Pure, Raise, Act, Note, Cancel, Let, Seq, Handled}
 use Rattle.derived_ops.specs.Tree.{If0, Join, Make, Start, Loop, Uncancelable, Poll, On_cancel, Masked, Polled, Guarded}
+use Rattle.derived_ops.specs.Tree.{Update}
 
 -- parts with one space between them
 abbrev pub spaced : List (List ℕ) → List ℕ
@@ -87,6 +88,7 @@ text_in w (Loop (Times v) e) = form (codes "repeat" ∷ value_text v ∷ text_in
 text_in w (Loop Always e) = form (codes "forever" ∷ text_in Last e ∷ [])
 text_in w (Uncancelable p e) = form (codes "uncancelable" ∷ poll_text (Named p) ∷ text_in Last e ∷ [])
 text_in w (Poll p e) = form (codes "poll" ∷ poll_text p ∷ text_in Last e ∷ [])
+text_in w (Update r x e) = form (codes "update" ∷ ref_text r ∷ value_text (Slot x) ∷ text_in Last e ∷ [])
 text_in w (On_cancel e fin) = form (codes "oncancel" ∷ text_in Last e ∷ text_in Last fin ∷ [])
 text_in w (Masked m e) = form (codes "masked" ∷ decimal m ∷ text_in Last e ∷ [])
 text_in w (Polled p e) = form (codes "polled" ∷ poll_text p ∷ text_in Last e ∷ [])

@@ -1,7 +1,7 @@
 -- The number of words and marks of a term, and the greatest number of masks active at once in it.
 use Rattle.std.specs.Prelude.{ℕ, ◌+◌, max}
 use Rattle.derived_ops.specs.Tree.{Last, More, Tree, Cancel, Let, Seq, Handled, If0, Join, Make, Start, Loop}
-use Rattle.derived_ops.specs.Tree.{Uncancelable, Poll, On_cancel, Masked, Polled, Guarded}
+use Rattle.derived_ops.specs.Tree.{Uncancelable, Poll, Update, On_cancel, Masked, Polled, Guarded}
 
 -- the words and marks of a term; a `seq` is one word, however many parts it has
 abbrev pub words : Tree → ℕ
@@ -16,6 +16,7 @@ words (Start x e k) = 1 + words e + words k
 words (Loop n e) = 1 + words e
 words (Uncancelable x e) = 1 + words e
 words (Poll q e) = 1 + words e
+words (Update r x e) = 1 + words e
 words (On_cancel e fin) = 1 + words e + words fin
 words (Masked m e) = 1 + words e
 words (Polled q e) = 1 + words e
@@ -36,5 +37,6 @@ masks (Start x e k) = max (masks e) (masks k)
 masks (Loop n e) = masks e
 masks (Uncancelable x e) = 1 + masks e
 masks (Poll q e) = masks e
+masks (Update r x e) = masks e
 masks (On_cancel e fin) = max (masks e) (1 + masks fin)
 masks _ = 0

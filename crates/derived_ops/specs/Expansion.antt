@@ -4,7 +4,7 @@ use Rattle.std.specs.Prelude.{ℕ, zero, suc, ◌+◌, pos, List, [], ◌∷◌,
 use Rattle.derived_ops.specs.Tree.{Operand, Number, Slot, Open_slot, Mask, Named, Add, Calculate, Say, Cede, Never}
 use Rattle.derived_ops.specs.Tree.{Canceled, Get, Set, Modify, Complete, Await, Acquired, Releasing, Released, New_ref}
 use Rattle.derived_ops.specs.Tree.{New_deferred, Times, Always, Last, More, Tree, Pure, Raise, Act, Note, Cancel, Let}
-use Rattle.derived_ops.specs.Tree.{Seq, Handled, If0, Join, Make, Start, Loop, Uncancelable, Poll, On_cancel}
+use Rattle.derived_ops.specs.Tree.{Seq, Handled, If0, Join, Make, Start, Loop, Uncancelable, Poll, Update, On_cancel}
 use Rattle.derived_ops.specs.Source as word
 use Rattle.derived_ops.specs.Source.{Source}
 
@@ -184,6 +184,7 @@ expansion m d (word.Ref v k) = Make (New_ref (value_in m v)) d (expansion (m ++ 
 expansion m d (word.Get r) = Act (Get (Open_slot (slot_at m r)))
 expansion m d (word.Set r v) = Act (Set (Open_slot (slot_at m r)) (value_in m v))
 expansion m d (word.Modify r v) = Act (Modify (Open_slot (slot_at m r)) (value_in m v))
+expansion m d (word.Update r e) = Update (Open_slot (slot_at m r)) d (expansion (m ++ d ∷ []) (d + 1) e)
 expansion m d (word.Deferred k) = Make New_deferred d (expansion (m ++ d ∷ []) (d + 1) k)
 expansion m d (word.Complete c v) = Act (Complete (Open_slot (slot_at m c)) (value_in m v))
 expansion m d (word.Await c) = Act (Await (Open_slot (slot_at m c)))

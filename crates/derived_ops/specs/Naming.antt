@@ -3,6 +3,7 @@ use Rattle.std.specs.Prelude.{◌≡◌, ℕ, ◌<◌, ◌≤◌, List, [], ◌�
 use Rattle.derived_ops.specs.Tree.{Handle, Known, Open_slot, Action, Request, Ending, Get, Set, Modify, Complete}
 use Rattle.derived_ops.specs.Tree.{Await, Maker, New_ref, New_deferred, Tree, Pure, Raise, Act, Note, Cancel, Let}
 use Rattle.derived_ops.specs.Tree.{Seq, Handled, If0, Join, Make, Start, Loop, Uncancelable, Poll, On_cancel, Masked}
+use Rattle.derived_ops.specs.Tree.{Update}
 use Rattle.derived_ops.specs.Tree.{Polled, Guarded}
 
 -- the next number of each kind: the numbers below it were given
@@ -63,6 +64,7 @@ Named b g (Start x e k) = (x ≡ length g) × (Named b g e × Named b (g ++ A_fi
 Named b g (Loop t e) = Named b g e
 Named b g (Uncancelable x e) = (x ≡ length g) × Named b (g ++ No_handle ∷ []) e
 Named b g (Poll q e) = Named b g e
+Named b g (Update r x e) = HandleFits b g A_ref r × ((x ≡ length g) × Named b (g ++ No_handle ∷ []) e)
 Named b g (On_cancel e fin) = Named b g e × Named b g fin
 Named b g (Masked m e) = ⊥
 Named b g (Polled q e) = ⊥

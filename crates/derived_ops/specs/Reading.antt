@@ -36,6 +36,7 @@ abbrev mutual
   source_of (term.Get r) = word.Get r.slot
   source_of (term.Set r v) = word.Set r.slot (value_of v)
   source_of (term.Modify r v) = word.Modify r.slot (value_of v)
+  source_of (term.Update' r _ e) = word.Update r.slot (source_of e)
   source_of (term.Deferred' _ k) = word.Deferred (source_of k)
   source_of (term.Complete d v) = word.Complete d.slot (value_of v)
   source_of (term.Await d) = word.Await d.slot

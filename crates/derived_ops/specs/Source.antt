@@ -1,4 +1,4 @@
--- The terms of a program, in all 38 words, without pointers. A name is the slot of its binder, which is the number of
+-- The terms of a program, in all 39 words, without pointers. A name is the slot of its binder, which is the number of
 -- binders around it. The parts are in the order in which they are written.
 use Rattle.std.specs.Prelude.{ℕ}
 use Rattle.effect_term.specs.declared.operator.Operator.{Operator}
@@ -27,6 +27,7 @@ pub data Source : Type 0 where
   Get : ℕ → Source
   Set : ℕ → Operand → Source
   Modify : ℕ → Operand → Source
+  Update : ℕ → Source → Source
   Deferred : Source → Source
   Complete : ℕ → Operand → Source
   Await : ℕ → Source

@@ -9,7 +9,7 @@ use Rattle.derived_ops.specs.Tree.{Operand, Number, Slot, Handle, Known, Open_sl
 use Rattle.derived_ops.specs.Tree.{Say, Cede, Never, Canceled, Request, Ending, Get, Set, Modify, Complete, Await}
 use Rattle.derived_ops.specs.Tree.{Acquired, Releasing, Released, New_ref, New_deferred, Times, Always, Last, More}
 use Rattle.derived_ops.specs.Tree.{Tree, Pure, Raise, Act, Note, Cancel, Let, Seq, Handled, If0, Join, Make, Start}
-use Rattle.derived_ops.specs.Tree.{Loop, Uncancelable, Poll, On_cancel, Masked, Polled, Guarded}
+use Rattle.derived_ops.specs.Tree.{Loop, Uncancelable, Poll, Update, On_cancel, Masked, Polled, Guarded}
 
 abbrev value_stored : Operand → ℤ ⊎ ℕ
 value_stored (Number z) = inl z
@@ -157,6 +157,7 @@ pieces (On_cancel e fin) rest = pieces e (pieces fin (bare 31 0 ∷ rest))
 pieces (Masked m e) rest = pieces e (bare 32 m ∷ rest)
 pieces (Polled q e) rest = pieces e (with_mask 33 q ∷ rest)
 pieces (Guarded e fin) rest = pieces e (pieces fin (bare 34 0 ∷ rest))
+pieces (Update r x e) rest = pieces e ((record (with_handle 36 r (Slot 0)) { slot = x }) ∷ rest)
 
 -- a term made of the last parts that were read
 abbrev one : (Tree → Tree) → List Tree → List Tree
@@ -190,7 +191,7 @@ words p =
     one (Make (New_ref p.value) p.slot) ∷ one (Make New_deferred p.slot) ∷ two (Start p.slot) ∷
     one (Loop (Times p.value)) ∷ one (Loop Always) ∷ one (Uncancelable p.slot) ∷ one (Poll p.mask) ∷
     two On_cancel ∷ one (Masked p.slot) ∷ one (Polled p.mask) ∷ two Guarded ∷
-    (λ ts. Act (Calculate (operator_read p.slot) p.value p.other) ∷ ts) ∷ []
+    (λ ts. Act (Calculate (operator_read p.slot) p.value p.other) ∷ ts) ∷ one (Update p.handle p.slot) ∷ []
 
 abbrev built : Piece → List Tree → List Tree
 built p = pick p.word (words p)
@@ -237,6 +238,7 @@ built_again (On_cancel e fin) rest ts = built_again e _ ts ∙ built_again fin _
 built_again (Masked m e) rest ts = built_again e _ ts
 built_again (Polled q e) rest ts = built_again e _ ts
 built_again (Guarded e fin) rest ts = built_again e _ ts ∙ built_again fin _ (e ∷ ts)
+built_again (Update r x e) rest ts = built_again e _ ts
 
 abbrev first_of_all : List Tree → Tree
 first_of_all (t ∷ ts) = t

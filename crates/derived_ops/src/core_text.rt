@@ -182,6 +182,7 @@ fn further(left: Rest, word: &CoreWord) -> Option<(Rest, u32)>
                 | CoreWord::Loop(_)
                 | CoreWord::Uncancelable
                 | CoreWord::Poll(_)
+                | CoreWord::Update(_)
                 | CoreWord::OnCancel(_) => None,
             }
         }
@@ -292,6 +293,11 @@ fn push_word_at(
         CoreWord::Poll(p) => {
             push_named(text, b"(poll p", *p as usize)?;
             push_last(text, words, part, depth)
+        }
+        CoreWord::Update(r) => {
+            push_named(text, b"(update r", *r as usize)?;
+            push_named(text, b" v", depth)?;
+            push_last(text, words, part, depth + 1)
         }
         CoreWord::OnCancel(next) => {
             text.extend_from_slice(b"(oncancel")?;

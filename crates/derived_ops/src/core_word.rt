@@ -49,6 +49,9 @@ pub enum CoreWord {
     Uncancelable,
     /// Runs the term with the mask undone whose poll has this slot.
     Poll(u32),
+    /// Binds the ref's value in the term, sets the ref to what the term comes to, and gives the old value; if the term
+    /// raises a code, raises it, and the ref stays.
+    Update(u32),
     /// Runs the first term; the second is its finalizer, which runs if cancellation is observed in it.
     OnCancel(u32),
 }

@@ -94,6 +94,7 @@ pub(crate) enum Bare {
 pub(crate) enum One {
     Masked,
     Polled(u32),
+    Updated(u32),
     Made(Maker),
     Repeated(Turns),
 }
@@ -147,6 +148,7 @@ pub(crate) fn word_of_one(one: One) -> CoreWord
     match one {
         One::Masked => CoreWord::Uncancelable,
         One::Polled(poll) => CoreWord::Poll(poll),
+        One::Updated(it) => CoreWord::Update(it),
         One::Made(maker) => CoreWord::Make(maker),
         One::Repeated(turns) => CoreWord::Loop(turns),
     }
@@ -234,6 +236,7 @@ pub(crate) fn shape_of<'a>(slots: &[u32], term: &'a Term, depth: u32) -> Shape<'
         Term::Modify(r, v) => {
             Shape::Bare(Bare::Act(Action::Modify(slot(slots, *r), value(slots, *v))))
         }
+        Term::Update(r, e) => Shape::One(One::Updated(slot(slots, *r)), part!(Bound, e)),
         Term::Deferred(k) => Shape::One(One::Made(Maker::Deferred), part!(Bound, k)),
         Term::Complete(d, v) => {
             Shape::Bare(Bare::Act(Action::Complete(slot(slots, *d), value(slots, *v))))

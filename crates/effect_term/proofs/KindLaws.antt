@@ -4,7 +4,7 @@ use Rattle.std.specs.Option.{option_or}
 use Rattle.effect_term.specs.declared.term.{Kind.{Kind, TheVariants.{Value, Poll, Fiber, Ref, Deferred}}, Name.Name, Operand.{Operand, TheVariants.Number}}
 use Rattle.effect_term.specs.declared.term.{Operand.TheVariants.Named, Term.{Term, Row_of-Term, end_of-Term, more_of-Term, TheVariants.{Pure, Raise, Let'}}}
 use Rattle.effect_term.specs.declared.term.Term.TheVariants.{Seq', Handle', If0', Add, Calculate, Say, Uncancelable', Poll', OnCancel', Start'}
-use Rattle.effect_term.specs.declared.term.Term.TheVariants.{Join', Cancel, Ref', Get, Set, Modify, Deferred', Complete, Await, Repeat', Forever', Guarantee'}
+use Rattle.effect_term.specs.declared.term.Term.TheVariants.{Join', Cancel, Ref', Get, Set, Modify, Update', Deferred', Complete, Await, Repeat', Forever', Guarantee'}
 use Rattle.effect_term.specs.declared.{term.Term.TheVariants.{Bracket', BracketCase', BracketFull', Race', Both'}, refusal.TermError.TermError}
 use Rattle.effect_term.specs.{declared.refusal.TermError.TheVariants.WrongKind, Kinds.{Fits, ValueFits, WellKinded, AllWellKinded}, Names.{Use, same_kind}}
 use Rattle.effect_term.{specs.Names.{fault_with, first_fault, use_of, value_uses, uses_of, uses_of_row}, proofs.Faults.{first_fault-append, first_fault-good}}
@@ -167,6 +167,9 @@ mutual
   well_kinded around (Modify r v) good =
       let each = split_two (use_of around Ref r) (value_uses around v) good in
       (name_fits around Ref r each.0, value_fits around v each.1)
+  well_kinded around (Update' r p e) good =
+      let each = split_two (use_of around Ref r) (uses_of (around ++ Value ∷ []) e) good in
+      (name_fits around Ref r each.0, well_kinded (around ++ Value ∷ []) e each.1)
   well_kinded around (Deferred' p k) good = well_kinded (around ++ Deferred ∷ []) k good
   well_kinded around (Complete d v) good =
       let each = split_two (use_of around Deferred d) (value_uses around v) good in
@@ -261,6 +264,9 @@ mutual
   no_fault around (Modify r v) fits =
       join_two (use_of around Ref r) (value_uses around v)
       (name_good around Ref r fits.0) (value_good around v fits.1)
+  no_fault around (Update' r p e) fits =
+      join_two (use_of around Ref r) (uses_of (around ++ Value ∷ []) e)
+      (name_good around Ref r fits.0) (no_fault (around ++ Value ∷ []) e fits.1)
   no_fault around (Deferred' p k) fits = no_fault (around ++ Deferred ∷ []) k fits
   no_fault around (Complete d v) fits =
       join_two (use_of around Deferred d) (value_uses around v)

@@ -4,6 +4,7 @@ use Rattle.effect_term.specs.{declared.term.Term.{Term, Row_of-Term, end_of-Term
 use Rattle.effect_term.specs.{ExpansionSize.{expansion_sizes_of, total_expansion_size}, Masks.{masks_of, most_masks_of, most_masks}, Names.uses_of}
 use Rattle.effect_term.specs.{Names.{uses_of_row, uses_of_all}, Sizes.{size_of, sizes_of, total_size, nest_of, nests_of, deepest}, Starts.starts_fiber}
 use Rattle.effect_term.specs.{Starts.{any_starts_fiber, some_starts_fiber}, EffectFree.{is_effect_free, all_effect_free, are_effect_free}}
+use Rattle.effect_term.specs.EffectFree.{has_pure_updates, all_have_pure_updates, have_pure_updates}
 
 pub sizes_of-row : (m : _) (row : Row_of-Term m) → sizes_of row ≡ total_size (items-the_row-Term m row)
 sizes_of-row _ end_of-Term = refl
@@ -31,6 +32,11 @@ pub all_effect_free-row : (m : _) (row : Row_of-Term m) → all_effect_free row 
 all_effect_free-row _ end_of-Term = refl
 all_effect_free-row _ (more_of-Term t rest) =
     ap (λ b. is_effect_free t && b) (all_effect_free-row _ rest)
+
+pub all_have_pure_updates-row : (m : _) (row : Row_of-Term m) → all_have_pure_updates row ≡ have_pure_updates (items-the_row-Term m row)
+all_have_pure_updates-row _ end_of-Term = refl
+all_have_pure_updates-row _ (more_of-Term t rest) =
+    ap (λ b. has_pure_updates t && b) (all_have_pure_updates-row _ rest)
 
 pub uses_of_row-row : (around : _) (m : _) (row : Row_of-Term m) → uses_of_row around row ≡ uses_of_all around (items-the_row-Term m row)
 uses_of_row-row around _ end_of-Term = refl

@@ -7,7 +7,7 @@ use Rattle.effect_term.specs.declared.term.Operand.{Operand}
 use Rattle.effect_term.specs.declared.term.Operand.TheVariants.{Number, Named}
 use Rattle.effect_term.specs.declared.term.Term.{Term, Row_of-Term, end_of-Term, more_of-Term}
 use Rattle.effect_term.specs.declared.term.Term.TheVariants.{Pure, Raise, Let', Seq', Handle', If0', Add, Calculate}
-use Rattle.effect_term.specs.declared.term.Term.TheVariants.{Say, Cede, Never, Canceled, Uncancelable', Poll'}
+use Rattle.effect_term.specs.declared.term.Term.TheVariants.{Say, Cede, Never, Canceled, Uncancelable', Poll', Update'}
 use Rattle.effect_term.specs.declared.term.Term.TheVariants.{OnCancel', Start', Join', Cancel, Ref', Get, Set, Modify}
 use Rattle.effect_term.specs.declared.term.Term.TheVariants.{Deferred', Complete, Await, Repeat', Forever', Guarantee'}
 use Rattle.effect_term.specs.declared.term.Term.TheVariants.{Bracket', BracketCase', BracketFull', Race', Both'}
@@ -48,6 +48,7 @@ abbrev mutual
   WellKinded around (Get r) = Fits around Ref r
   WellKinded around (Set r v) = Fits around Ref r × ValueFits around v
   WellKinded around (Modify r v) = Fits around Ref r × ValueFits around v
+  WellKinded around (Update' r p e) = Fits around Ref r × WellKinded (around ++ Value ∷ []) e
   WellKinded around (Deferred' p k) = WellKinded (around ++ Deferred ∷ []) k
   WellKinded around (Complete d v) = Fits around Deferred d × ValueFits around v
   WellKinded around (Await d) = Fits around Deferred d

@@ -11,7 +11,7 @@ use Rattle.effect_term.specs.declared.refusal.TermError.{TermError}
 use Rattle.effect_term.specs.declared.refusal.TermError.TheVariants.{NoMemory, Unbound, WrongKind}
 use Rattle.effect_term.specs.declared.term.Term.{Term, Row_of-Term, end_of-Term, more_of-Term}
 use Rattle.effect_term.specs.declared.term.Term.TheVariants.{Pure, Raise, Let', Seq', Handle', If0', Add, Calculate}
-use Rattle.effect_term.specs.declared.term.Term.TheVariants.{Say, Cede, Never, Canceled, Uncancelable', Poll'}
+use Rattle.effect_term.specs.declared.term.Term.TheVariants.{Say, Cede, Never, Canceled, Uncancelable', Poll', Update'}
 use Rattle.effect_term.specs.declared.term.Term.TheVariants.{OnCancel', Start', Join', Cancel, Ref', Get, Set, Modify}
 use Rattle.effect_term.specs.declared.term.Term.TheVariants.{Deferred', Complete, Await, Repeat', Forever', Guarantee'}
 use Rattle.effect_term.specs.declared.term.Term.TheVariants.{Bracket', BracketCase', BracketFull', Race', Both'}
@@ -86,6 +86,7 @@ abbrev mutual
   uses_of around (Get r) = use_of around Ref r
   uses_of around (Set r v) = use_of around Ref r ++ value_uses around v
   uses_of around (Modify r v) = use_of around Ref r ++ value_uses around v
+  uses_of around (Update' r p e) = use_of around Ref r ++ uses_of (around ++ Value ∷ []) e
   uses_of around (Deferred' p k) = uses_of (around ++ Deferred ∷ []) k
   uses_of around (Complete d v) = use_of around Deferred d ++ value_uses around v
   uses_of around (Await d) = use_of around Deferred d

@@ -2,7 +2,7 @@
 use Rattle.std.specs.Prelude.{ℕ, ◌+◌, max, List, [], ◌∷◌}
 use Rattle.effect_term.specs.declared.term.Term.{Term, Row_of-Term, end_of-Term, more_of-Term}
 use Rattle.effect_term.specs.declared.term.Term.TheVariants.{Pure, Raise, Let', Seq', Handle', If0', Add, Calculate}
-use Rattle.effect_term.specs.declared.term.Term.TheVariants.{Say, Cede, Never, Canceled, Uncancelable', Poll'}
+use Rattle.effect_term.specs.declared.term.Term.TheVariants.{Say, Cede, Never, Canceled, Uncancelable', Poll', Update'}
 use Rattle.effect_term.specs.declared.term.Term.TheVariants.{OnCancel', Start', Join', Cancel, Ref', Get, Set, Modify}
 use Rattle.effect_term.specs.declared.term.Term.TheVariants.{Deferred', Complete, Await, Repeat', Forever', Guarantee'}
 use Rattle.effect_term.specs.declared.term.Term.TheVariants.{Bracket', BracketCase', BracketFull', Race', Both'}
@@ -32,6 +32,7 @@ abbrev mutual
   size_of (Get r) = 1
   size_of (Set r v) = 1
   size_of (Modify r v) = 1
+  size_of (Update' r p e) = 1 + size_of e
   size_of (Deferred' p k) = 1 + size_of k
   size_of (Complete d v) = 1
   size_of (Await d) = 1
@@ -80,6 +81,7 @@ abbrev mutual
   nest_of (Get r) = 1
   nest_of (Set r v) = 1
   nest_of (Modify r v) = 1
+  nest_of (Update' r p e) = 1 + nest_of e
   nest_of (Deferred' p k) = 1 + nest_of k
   nest_of (Complete d v) = 1
   nest_of (Await d) = 1

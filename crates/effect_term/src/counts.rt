@@ -2,7 +2,7 @@
 //! it is effect-free.
 
 ghost use Rattle.std.specs.Prelude.{◌≡◌, ◌+◌, ◌-◌, ◌*◌, ◌^◌, ◌<◌, min, max};
-ghost use Rattle.effect_term.specs.EffectFree.{is_effect_free};
+ghost use Rattle.effect_term.specs.EffectFree.{has_pure_updates, is_effect_free};
 ghost use Rattle.effect_term.specs.ExpansionSize.{expansion_size_of};
 ghost use Rattle.effect_term.specs.Masks.{masks_of};
 ghost use Rattle.effect_term.specs.Sizes.{size_of, nest_of};
@@ -24,6 +24,7 @@ impl Term {
             Term::Get(_) | Term::Set(_, _) | Term::Modify(_, _) => 1,
             Term::Complete(_, _) | Term::Await(_) => 1,
             Term::Uncancelable(e) | Term::Poll(_, e) | Term::Ref(_, e) => above(e.size(), 0),
+            Term::Update(_, e) => above(e.size(), 0),
             Term::Deferred(e) | Term::Repeat(_, e) | Term::Forever(e) => above(e.size(), 0),
             Term::Let(a, b) | Term::Handle(a, b) | Term::If0(_, a, b) => above(a.size(), b.size()),
             Term::OnCancel(a, b) | Term::Start(a, b) => above(a.size(), b.size()),
@@ -55,6 +56,7 @@ impl Term {
             Term::Get(_) | Term::Set(_, _) | Term::Modify(_, _) => 1,
             Term::Complete(_, _) | Term::Await(_) => 1,
             Term::Uncancelable(e) | Term::Poll(_, e) | Term::Ref(_, e) => on_top(e.nest(), 0),
+            Term::Update(_, e) => on_top(e.nest(), 0),
             Term::Deferred(e) | Term::Repeat(_, e) | Term::Forever(e) => on_top(e.nest(), 0),
             Term::Let(a, b) | Term::Handle(a, b) | Term::If0(_, a, b) => on_top(a.nest(), b.nest()),
             Term::OnCancel(a, b) | Term::Start(a, b) => on_top(a.nest(), b.nest()),
@@ -88,7 +90,7 @@ impl Term {
             Term::Cancel(_) => within(0, 1),
             Term::Uncancelable(e) => within(e.masks(), 1),
             Term::Poll(_, e) | Term::Ref(_, e) | Term::Deferred(e) => e.masks(),
-            Term::Repeat(_, e) | Term::Forever(e) => e.masks(),
+            Term::Update(_, e) | Term::Repeat(_, e) | Term::Forever(e) => e.masks(),
             Term::Let(a, b) | Term::Handle(a, b) | Term::If0(_, a, b) => a.masks().max(b.masks()),
             Term::Start(a, b) => a.masks().max(b.masks()),
             Term::OnCancel(e, fin) => e.masks().max(within(fin.masks(), 1)),
@@ -130,6 +132,7 @@ impl Term {
             Term::Deferred(e) | Term::Repeat(_, e) | Term::Forever(e) => {
                 over(1, e.expansion_size(), 0)
             }
+            Term::Update(_, e) => over(1, e.expansion_size(), 0),
             Term::Let(a, b) | Term::Handle(a, b) | Term::If0(_, a, b) => {
                 over(1, a.expansion_size(), b.expansion_size())
             }
@@ -182,6 +185,7 @@ impl Term {
             Term::Complete(_, _) | Term::Await(_) => false,
             Term::Uncancelable(e) | Term::Poll(_, e) | Term::Ref(_, e) => e.starts_fiber(),
             Term::Deferred(e) | Term::Repeat(_, e) | Term::Forever(e) => e.starts_fiber(),
+            Term::Update(_, e) => e.starts_fiber(),
             Term::Let(a, b) | Term::Handle(a, b) | Term::If0(_, a, b) => {
                 a.starts_fiber() || b.starts_fiber()
             }
@@ -227,13 +231,52 @@ impl Term {
             Term::Say(_) | Term::Cede | Term::Never => false,
             Term::Canceled | Term::Cancel(_) => false,
             Term::Get(_) | Term::Set(_, _) | Term::Modify(_, _) => false,
-            Term::Complete(_, _) | Term::Await(_) => false,
+            Term::Complete(_, _) | Term::Await(_) | Term::Update(_, _) => false,
             Term::Uncancelable(_) | Term::Poll(_, _) | Term::Ref(_, _) => false,
             Term::Deferred(_) | Term::Repeat(_, _) | Term::Forever(_) => false,
             Term::OnCancel(_, _) | Term::Guarantee(_, _) | Term::Start(_, _) => false,
             Term::Join(_, _, _, _) | Term::Bracket(_, _, _) => false,
             Term::BracketCase(_, _, _, _, _) | Term::BracketFull(_, _, _, _, _) => false,
             Term::Race(_, _) | Term::Both(_, _, _) => false,
+        }
+    }
+
+    /// Whether the term of each `update` is effect-free.
+    pub(crate) fn has_pure_updates(&self) -> bool
+        ensures { result ≡ has_pure_updates self.now }
+    {
+        match self {
+            Term::Update(_, e) => e.is_effect_free(),
+            Term::Pure(_) | Term::Raise(_) | Term::Add(_, _) | Term::Calculate(_, _, _) => true,
+            Term::Say(_) | Term::Cede | Term::Never => true,
+            Term::Canceled | Term::Cancel(_) => true,
+            Term::Get(_) | Term::Set(_, _) | Term::Modify(_, _) => true,
+            Term::Complete(_, _) | Term::Await(_) => true,
+            Term::Uncancelable(e) | Term::Poll(_, e) | Term::Ref(_, e) => e.has_pure_updates(),
+            Term::Deferred(e) | Term::Repeat(_, e) | Term::Forever(e) => e.has_pure_updates(),
+            Term::Let(a, b) | Term::Handle(a, b) | Term::If0(_, a, b) => {
+                a.has_pure_updates() && b.has_pure_updates()
+            }
+            Term::OnCancel(a, b) | Term::Guarantee(a, b) | Term::Start(a, b) | Term::Race(a, b) => {
+                a.has_pure_updates() && b.has_pure_updates()
+            }
+            Term::Join(_, a, b, c) | Term::Bracket(a, b, c) | Term::Both(a, b, c) => {
+                a.has_pure_updates() && b.has_pure_updates() && c.has_pure_updates()
+            }
+            Term::BracketCase(a, b, c, d, e) | Term::BracketFull(a, b, c, d, e) => {
+                a.has_pure_updates()
+                    && b.has_pure_updates()
+                    && c.has_pure_updates()
+                    && d.has_pure_updates()
+                    && e.has_pure_updates()
+            }
+            Term::Seq(a, b, more) => {
+                let mut pure = a.has_pure_updates() && b.has_pure_updates();
+                for t in more {
+                    pure &= t.has_pure_updates();
+                }
+                pure
+            }
         }
     }
 }

@@ -1,6 +1,7 @@
 //! Programs: the terms that a fiber can run.
 
-ghost use Rattle.std.specs.Prelude.{◌≡◌, [], None, IfOk, OnOk, IfErr, IsOkUnless, IsTrue, ◌↔◌};
+ghost use Rattle.std.specs.Prelude.{◌≡◌, [], true, None, IfOk, OnOk, IfErr, IsOkUnless, IsTrue, ◌↔◌};
+ghost use Rattle.effect_term.specs.EffectFree.{has_pure_updates};
 ghost use Rattle.effect_term.specs.Kinds.{WellKinded};
 ghost use Rattle.effect_term.specs.Programs.{IsPastLimit, IsProgram, IsRefusal, refusal_of};
 ghost use Rattle.effect_term.specs.Starts.{starts_fiber};
@@ -17,7 +18,8 @@ const MASKS_LIMIT: u64 = 250;
 // The greatest number of words and marks of a program's expansion.
 const EXPANSION_LIMIT: u64 = 1_000_000;
 
-/// A closed, well-kinded term with at most 250 masks, whose expansion has at most 1,000,000 words and marks.
+/// A closed, well-kinded term with at most 250 masks, whose expansion has at most 1,000,000 words and marks. The term
+/// of each `update` in it is effect-free.
 #[derive(Drop)]
 pub struct Program {
     term: Term,
@@ -40,11 +42,12 @@ impl Model for Program {
 
 impl Program {
     /// Returns the program of a term, or why the term isn't one. On a refusal the term is dropped. A closed,
-    /// well-kinded term is refused only for a limit.
+    /// well-kinded term in which the term of each `update` is effect-free is refused only for a limit.
     ///
     /// Refusals, in this order: the first name in reading order that has no binder ([`TermError::Unbound`]) or one of
-    /// another kind ([`TermError::WrongKind`]); more than 250 masks ([`TermError::DeepMasks`]); an expansion of more
-    /// than 1,000,000 words and marks ([`TermError::Large`]). If there is no memory for the table of the binders'
+    /// another kind ([`TermError::WrongKind`]); an `update` whose term isn't effect-free ([`TermError::NotPure`]); more
+    /// than 250 masks ([`TermError::DeepMasks`]); an expansion of more than 1,000,000 words and marks
+    /// ([`TermError::Large`]). If there is no memory for the table of the binders'
     /// kinds, [`TermError::NoMemory`] takes the place of these.
     pub fn check(alloc: Global, term: Term) -> Result<Program, TermError>
         ensures kept { IfOk result (λ program. program ≡ term) }
@@ -52,10 +55,13 @@ impl Program {
         ensures good { OnOk result (refusal_of term ≡ None) }
         ensures only { IsProgram term → IsOkUnless result TermError.NoMemory }
         ensures refused { IfErr result (IsRefusal term) }
-        ensures limits { WellKinded [] term → IfErr result (IsPastLimit term) }
+        ensures limits { WellKinded [] term → has_pure_updates term ≡ true → IfErr result (IsPastLimit term) }
     {
         let mut kinds = Vec::new(alloc);
         check_names(&mut kinds, &term)?;
+        if !term.has_pure_updates() {
+            return Err(TermError::NotPure);
+        }
         let masks = term.masks();
         if masks > MASKS_LIMIT {
             return Err(TermError::DeepMasks(masks));

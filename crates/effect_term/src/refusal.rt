@@ -14,6 +14,8 @@ pub enum TermError {
     Unbound(u32),
     /// The binder with this slot, the name and its place don't have the same kind.
     WrongKind(u32),
+    /// The term of an `update` has a word that isn't effect-free.
+    NotPure,
     /// The bound on the masks that can be active at once, above 250; at most the greatest `u64`.
     DeepMasks(u64),
     /// The expansion has more than 1,000,000 words and marks.

@@ -1,7 +1,7 @@
-//! The terms of effect programs, as boxed trees of the 38 words.
+//! The terms of effect programs, as boxed trees of the 39 words.
 //!
 //! The words are those of Cats Effect 3's `MonadCancel`, `GenSpawn` and `GenConcurrent`, with terms in place of
-//! functions and whole numbers in place of values, and six words of arithmetic.
+//! functions and whole numbers in place of values, and six words of arithmetic and `update`, which changes a ref by a term.
 
 use crate::operator::Operator;
 use crate::value::Value;
@@ -89,6 +89,9 @@ pub enum Term {
     Set(Name, Operand),
     /// Adds to the ref modulo 2^63, and gives the old value.
     Modify(Name, Operand),
+    /// Binds the ref's value, sets the ref to what the term comes to, which is effect-free, and gives the old value. If
+    /// the term raises a code, raises it, and the ref stays.
+    Update(Name, Box<Term>),
     /// Makes an empty deferred, and binds it.
     Deferred(Box<Term>),
     /// Completes the deferred. Gives 1 if this call did it, else 0.

@@ -57,6 +57,7 @@ Answers i ask.NewRef r = IsNumber r
 Answers i (ask.Get x) r = IsValue r
 Answers i (ask.Set x v) r = IsDone r
 Answers i (ask.Modify x v) r = IsValue r
+Answers i (ask.Update x) r = IsValue r
 Answers i ask.NewDeferred r = IsNumber r
 Answers i (ask.Complete d v) r = IsCompleted r
 Answers i (ask.Read d) r = IsRead r

@@ -2,7 +2,7 @@
 use Rattle.std.specs.Prelude.{ℕ, ◌+◌, nat_eq, if◌then◌else◌, List, [], ◌∷◌}
 use Rattle.derived_ops.specs.Tree.{Handle, Known, Open_slot, Action, Request, Ending, Get, Set, Modify, Complete}
 use Rattle.derived_ops.specs.Tree.{Await, Never, Tree, Pure, Raise, Act, Note, Cancel, Let, Seq, Handled, If0, Join}
-use Rattle.derived_ops.specs.Tree.{Make, Start, Loop, Uncancelable, Poll, On_cancel, Masked, Polled, Guarded}
+use Rattle.derived_ops.specs.Tree.{Make, Start, Loop, Uncancelable, Poll, Update, On_cancel, Masked, Polled, Guarded}
 use Rattle.derived_ops.specs.declared.core_word.CoreWord.{CoreWord}
 use Rattle.derived_ops.specs.declared.core_word.CoreWord.TheVariants as word
 use Rattle.derived_ops.specs.Words.{second, tree_at, word_tree}
@@ -50,6 +50,7 @@ module _ (u : Use) (n : ℕ) where
   tree_hits (Loop t e) = tree_hits e
   tree_hits (Uncancelable x e) = tree_hits e
   tree_hits (Poll q e) = tree_hits e
+  tree_hits (Update r x e) = of_use u use_of.Gets (hit n r) + (of_use u use_of.Stores (hit n r) + tree_hits e)
   tree_hits (On_cancel e fin) = tree_hits e + tree_hits fin
   tree_hits (Masked m e) = tree_hits e
   tree_hits (Polled q e) = tree_hits e

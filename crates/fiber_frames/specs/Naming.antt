@@ -35,6 +35,7 @@ AskNamed b i (ask.Join f) = f < b.fibers
 AskNamed b i (ask.Get r) = r < b.refs
 AskNamed b i (ask.Set r v) = r < b.refs
 AskNamed b i (ask.Modify r v) = r < b.refs
+AskNamed b i (ask.Update r) = r < b.refs
 AskNamed b i (ask.Complete d v) = d < b.deferreds
 AskNamed b i (ask.Read d) = d < b.deferreds
 AskNamed b i _ = Unit {0}

@@ -42,6 +42,7 @@ many_parts (word.Start j) = 2
 many_parts (word.Loop t) = 1
 many_parts word.Uncancelable = 1
 many_parts (word.Poll p) = 1
+many_parts (word.Update r) = 1
 many_parts (word.OnCancel j) = 2
 
 -- the two lists hold the same at each of these slots

@@ -2,6 +2,7 @@
 use Rattle.std.specs.Prelude.{ℕ, zero, suc, nat_eq, if◌then◌else◌, List, [], ◌∷◌, length}
 use Rattle.derived_ops.specs.Tree.{Mask, Named, Pair, Tree, Pure, Raise, Act, Note, Cancel, Let, Seq, Handled, If0}
 use Rattle.derived_ops.specs.Tree.{Join, Make, Start, Loop, Uncancelable, Poll, On_cancel, Masked, Polled, Guarded}
+use Rattle.derived_ops.specs.Tree.{Update}
 use Rattle.fiber_frames.specs.Path.{Running, Runs, Final, Over, Broken}
 use Rattle.fiber_frames.specs.Rows.{mask_number}
 use Rattle.fiber_frames.specs.Fiber.{Fiber}
@@ -32,6 +33,7 @@ module _ (i : ℕ) (to : ℕ → ℕ → Mask) where
   renumbered (Loop n e) = Loop n (renumbered e)
   renumbered (Uncancelable x e) = Uncancelable x (renumbered e)
   renumbered (Poll q e) = Poll (mask_to q) (renumbered e)
+  renumbered (Update r x e) = Update r x (renumbered e)
   renumbered (On_cancel e fin) = On_cancel (renumbered e) (renumbered fin)
   renumbered (Masked m e) = Masked (number_to m) (renumbered e)
   renumbered (Polled q e) = Polled (mask_to q) (renumbered e)

@@ -4,7 +4,7 @@ use Rattle.effect_term.specs.declared.reply.Reply.{Reply}
 use Rattle.derived_ops.specs.Tree.{Handle, Known, Open_slot, Action, Request, Ending, Get, Set, Modify, Complete}
 use Rattle.derived_ops.specs.Tree.{Await, Tree, Pure, Raise, Act, Note, Cancel, Let, Seq, Handled, If0, Join, Make}
 use Rattle.derived_ops.specs.Tree.{Maker, New_deferred, New_ref}
-use Rattle.derived_ops.specs.Tree.{Start, Loop, Uncancelable, Poll, On_cancel, Masked, Polled, Guarded}
+use Rattle.derived_ops.specs.Tree.{Start, Loop, Uncancelable, Poll, Update, On_cancel, Masked, Polled, Guarded}
 use Rattle.derived_ops.specs.Naming.{Place, A_fiber, A_ref, A_deferred, made_by}
 use Rattle.fiber_frames.specs.declared.ask.Ask.{Ask}
 use Rattle.fiber_frames.specs.declared.ask.Ask.TheVariants as ask
@@ -110,6 +110,8 @@ module _ (u : Use) (n : ℕ) where
   tree_uses b (Loop t e) = tree_uses b e
   tree_uses b (Uncancelable x e) = tree_uses b e
   tree_uses b (Poll q e) = tree_uses b e
+  tree_uses b (Update r x e) =
+      of_use u use_of.Gets (handle_count n b r) + (of_use u use_of.Stores (handle_count n b r) + tree_uses b e)
   tree_uses b (On_cancel e fin) = tree_uses b e + tree_uses b fin
   tree_uses b (Masked m e) = tree_uses b e
   tree_uses b (Polled q e) = tree_uses b e
@@ -137,6 +139,7 @@ module _ (u : Use) (n : ℕ) where
   AskApart i (ask.Get r) = u ≡ use_of.Gets → r ≢ n
   AskApart i (ask.Set r v) = u ≡ use_of.Stores → r ≢ n
   AskApart i (ask.Modify r v) = u ≡ use_of.Stores → r ≢ n
+  AskApart i (ask.Update r) = (u ≡ use_of.Gets → r ≢ n) × (u ≡ use_of.Stores → r ≢ n)
   AskApart i (ask.Complete d v) = u ≡ use_of.Completes → d ≢ n
   AskApart i (ask.Read d) = u ≡ use_of.Awaits → d ≢ n
   AskApart i ask.Start = u ≢ use_of.Starts

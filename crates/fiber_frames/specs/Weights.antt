@@ -3,6 +3,7 @@
 use Rattle.std.specs.Prelude.{ℕ, ◌+◌, ◌*◌, List, [], ◌∷◌}
 use Rattle.derived_ops.specs.Tree.{Action, Request, Ending, Turns, Times, Always, Tree, Pure, Raise, Act, Note, Cancel}
 use Rattle.derived_ops.specs.Tree.{Let, Seq, Handled, If0, Join, Make, Start, Loop, Uncancelable, Poll, On_cancel}
+use Rattle.derived_ops.specs.Tree.{Update}
 use Rattle.derived_ops.specs.Tree.{Masked, Polled, Guarded}
 use Rattle.derived_ops.specs.declared.core_term.Turns.TheVariants as turns
 use Rattle.derived_ops.specs.declared.core_word.CoreWord.{CoreWord}
@@ -29,7 +30,8 @@ action_weight (Request f) = 3
 action_weight (Ending f) = 2
 action_weight _ = 4
 
--- A result weighs least. A word that becomes several forms weighs more than they do.
+-- A result weighs least. A word that becomes several forms weighs more than they do. The term of an `update` has no
+-- weight, since it is computed in one move.
 abbrev pub tree_weight : Tree → ℕ
 tree_weight (Pure v) = 1
 tree_weight (Raise v) = 1
@@ -46,6 +48,7 @@ tree_weight (Start x e k) = 8 + (tree_weight e + tree_weight k)
 tree_weight (Loop t e) = 4 + turns_in t * (8 + tree_weight e)
 tree_weight (Uncancelable x e) = 4 + tree_weight e
 tree_weight (Poll q e) = 4 + tree_weight e
+tree_weight (Update r x e) = 4
 tree_weight (On_cancel e fin) = 4 + (tree_weight e + tree_weight fin)
 tree_weight (Masked m e) = 2 + tree_weight e
 tree_weight (Polled q e) = 2 + tree_weight e
@@ -89,6 +92,7 @@ weight_of f = weight_in f.running (look_weight f.look)
 -- how often the last part of a word counts
 abbrev pub turns_at : List EnvEntry → ℕ → CoreWord → ℕ
 turns_at es level (word.Loop (turns.Times v)) = turns_of (number_at es level v)
+turns_at es level (word.Update r) = 0
 turns_at es level _ = 1
 
 -- the weight of a word whose last part counts so often, without its parts

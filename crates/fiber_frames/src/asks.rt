@@ -19,7 +19,7 @@ use crate::frame::{Frame, RunStage};
 use crate::kind::WordKind;
 use crate::machine::{Machine, handle, mask, undoes};
 use crate::move_case::MoveCase;
-use crate::table::{awaited, completed, got, joined, modified, polled, set};
+use crate::table::{awaited, completed, got, joined, modified, polled, set, updated};
 use derived_ops::Operand;
 use effect_term::{Outcome, Value};
 
@@ -159,6 +159,10 @@ impl Machine {
                 let (it, value) = modified(self.words.as_slice(), self.place.index);
                 Ask::Modify(self.handle_number(it), self.value_number(value))
             }
+            WordKind::Update => Ask::Update(self.handle_number(updated(
+                self.words.as_slice(),
+                self.place.index,
+            ))),
             WordKind::Complete => {
                 let (it, value) = completed(self.words.as_slice(), self.place.index);
                 Ask::Complete(self.handle_number(it), self.value_number(value))

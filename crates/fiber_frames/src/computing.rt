@@ -143,6 +143,7 @@ fn step(
         CoreWord::Uncancelable | CoreWord::Poll(_) | CoreWord::OnCancel(_) => Ok(Step::Done(
             Computed::Comes(Value::ZERO),
         )),
+        CoreWord::Update(_) => Ok(Step::Done(Computed::Comes(Value::ZERO))),
     }
 }
 

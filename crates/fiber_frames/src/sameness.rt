@@ -361,6 +361,7 @@ impl Same for CoreWord {
             (CoreWord::Loop(one), CoreWord::Loop(other)) => one.same(other),
             (CoreWord::Uncancelable, CoreWord::Uncancelable) => true,
             (CoreWord::Poll(one), CoreWord::Poll(other)) => *one == *other,
+            (CoreWord::Update(one), CoreWord::Update(other)) => *one == *other,
             (CoreWord::OnCancel(one), CoreWord::OnCancel(other)) => *one == *other,
             _ => false,
         }

@@ -62,6 +62,7 @@ fn of_word(word: &CoreWord) -> u64
         CoreWord::Act(action) => of_action(action),
         CoreWord::Note(_, slot) | CoreWord::Cancel(slot) => of_slot(*slot),
         CoreWord::Join(slot, _, _) | CoreWord::Poll(slot) => of_slot(*slot),
+        CoreWord::Update(slot) => of_slot(*slot),
         CoreWord::Make(Maker::Deferred) | CoreWord::Loop(Turns::Always) | CoreWord::Uncancelable =>
             0,
         CoreWord::Let(_) | CoreWord::Seq(_, _) | CoreWord::Handle(_) => 0,
@@ -77,6 +78,7 @@ pub(crate) fn parts_of(word: &CoreWord) -> u8
         CoreWord::Pure(_) | CoreWord::Raise(_) | CoreWord::Act(_) => 0,
         CoreWord::Note(_, _) | CoreWord::Cancel(_) => 0,
         CoreWord::Make(_) | CoreWord::Loop(_) | CoreWord::Uncancelable | CoreWord::Poll(_) => 1,
+        CoreWord::Update(_) => 1,
         CoreWord::Let(_) | CoreWord::Seq(_, _) | CoreWord::Handle(_) | CoreWord::If0(_, _) => 2,
         CoreWord::Start(_) | CoreWord::OnCancel(_) => 2,
         CoreWord::Join(_, _, _) => 3,
@@ -95,7 +97,7 @@ pub(crate) fn second(word: &CoreWord) -> u32
         CoreWord::Start(jump) | CoreWord::OnCancel(jump) | CoreWord::Join(_, jump, _) => *jump,
         CoreWord::Pure(_) | CoreWord::Raise(_) | CoreWord::Act(_) | CoreWord::Note(_, _) => 0,
         CoreWord::Cancel(_) | CoreWord::Make(_) | CoreWord::Loop(_) | CoreWord::Uncancelable => 0,
-        CoreWord::Poll(_) => 0,
+        CoreWord::Poll(_) | CoreWord::Update(_) => 0,
     }
 }
 

@@ -28,7 +28,7 @@ pub enum Use {
     Joins,
     /// The value of a ref is read.
     Gets,
-    /// The value of a ref is set, or changed by an addition.
+    /// The value of a ref is set, or changed by an addition or by an `update`, which also reads it.
     Stores,
     /// A deferred is completed.
     Completes,
@@ -115,6 +115,10 @@ fn word_uses(word: &CoreWord, env: &[EnvEntry], level: usize, sought: Sought) ->
                 || slot_uses(Use::Joins, *slot, env, level, sought)
         }
         CoreWord::Join(slot, _, _) => slot_uses(Use::Joins, *slot, env, level, sought),
+        CoreWord::Update(slot) => {
+            slot_uses(Use::Gets, *slot, env, level, sought)
+                || slot_uses(Use::Stores, *slot, env, level, sought)
+        }
         CoreWord::Pure(_) | CoreWord::Raise(_) | CoreWord::Note(_, _) => false,
         CoreWord::Let(_) | CoreWord::Seq(_, _) | CoreWord::Handle(_) => false,
         CoreWord::Make(Maker::Ref(_)) => is_use(sought.what, Use::MakesRefs),

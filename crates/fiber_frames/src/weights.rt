@@ -21,12 +21,14 @@ use crate::slots::{parts_of, second};
 use crate::uses::last;
 use derived_ops::{CoreWord, Turns};
 
-// How often the last part of a word counts: that of a loop once for each turn.
+// How often the last part of a word counts: that of a loop once for each turn, and the term of an `update`, which is
+// computed in one move, never.
 fn turns(word: &CoreWord, env: &[EnvEntry], level: usize) -> u64
     ensures { result ≡ turns_at env.now level word.now }
 {
     match word {
         CoreWord::Loop(Turns::Times(value)) => turns_of(number(closed(env, level, *value))) as u64,
+        CoreWord::Update(_) => 0,
         _ => 1,
     }
 }
@@ -43,7 +45,7 @@ fn own_weight(word: &CoreWord, turns: u64) -> u64
         CoreWord::Act(_) | CoreWord::Note(_, _) => 4,
         CoreWord::Let(_) | CoreWord::Seq(_, _) | CoreWord::Handle(_) => 4,
         CoreWord::If0(_, _) | CoreWord::Join(_, _, _) | CoreWord::OnCancel(_) => 4,
-        CoreWord::Uncancelable | CoreWord::Poll(_) => 4,
+        CoreWord::Uncancelable | CoreWord::Poll(_) | CoreWord::Update(_) => 4,
     }
 }
 

@@ -6,7 +6,7 @@ use Rattle.term_parse.specs.declared.table.Word.{Word}
 use Rattle.term_parse.specs.declared.table.Word.TheVariants as words
 use Rattle.effect_term.specs.declared.term.Term.{Term, Row_of-Term, end_of-Term, more_of-Term}
 use Rattle.effect_term.specs.declared.term.Term.TheVariants.{Pure, Raise, Let', Seq', Handle', If0', Add, Calculate}
-use Rattle.effect_term.specs.declared.term.Term.TheVariants.{Say, Cede, Never, Canceled, Uncancelable', Poll'}
+use Rattle.effect_term.specs.declared.term.Term.TheVariants.{Say, Cede, Never, Canceled, Uncancelable', Poll', Update'}
 use Rattle.effect_term.specs.declared.term.Term.TheVariants.{OnCancel', Start', Join', Cancel, Ref', Get, Set, Modify}
 use Rattle.effect_term.specs.declared.term.Term.TheVariants.{Deferred', Complete, Await, Repeat', Forever', Guarantee'}
 use Rattle.effect_term.specs.declared.term.Term.TheVariants.{Bracket', BracketCase', BracketFull', Race', Both'}
@@ -34,6 +34,7 @@ abbrev mutual
   atoms_of Canceled = word words.Canceled ∷ (ended ∷ [])
   atoms_of (Uncancelable' p0 e0) = word words.Uncancelable ∷ (atoms_of e0 ++ (ended ∷ []))
   atoms_of (Poll' n0 p1 e1) = word words.Poll ∷ (name n0 ∷ (atoms_of e1 ++ (ended ∷ [])))
+  atoms_of (Update' n0 p1 e1) = word words.Update ∷ (name n0 ∷ (atoms_of e1 ++ (ended ∷ [])))
   atoms_of (OnCancel' p0 e0 p1 e1) = word words.OnCancel ∷ (atoms_of e0 ++ (atoms_of e1 ++ (ended ∷ [])))
   atoms_of (Start' p0 e0 p1 e1) = word words.Start ∷ (atoms_of e0 ++ (atoms_of e1 ++ (ended ∷ [])))
   atoms_of (Join' n0 p1 e1 p2 e2 p3 e3) =

@@ -5,7 +5,7 @@ use Rattle.effect_term.specs.declared.term.Term as terms
 use Rattle.term_parse.specs.declared.table.Word.{Word}
 use Rattle.term_parse.specs.declared.table.Word.TheVariants as words
 use Rattle.term_parse.specs.declared.table.Part.{Part}
-use Rattle.term_parse.specs.declared.table.Part.TheVariants.{Bind, Use, Value, Term, Under, UnderBoth, More, Close}
+use Rattle.term_parse.specs.declared.table.Part.TheVariants.{Bind, Use, Value, Term, Under, Pure, UnderBoth, More, Close}
 use Rattle.term_parse.specs.declared.error.ParseError.{ParseError}
 use Rattle.term_parse.specs.declared.form.ReadPart.{ReadPart}
 use Rattle.term_parse.specs.declared.form.ReadPart.TheVariants as pieces
@@ -70,6 +70,7 @@ Completes (Use k ∷ ps) s = (r : List Sort) × (s ≡ a_name ∷ r) × Complete
 Completes (Value ∷ ps) s = (r : List Sort) × (s ≡ a_value ∷ r) × Completes ps r
 Completes (Term ∷ ps) s = (r : List Sort) × (s ≡ a_term ∷ r) × Completes ps r
 Completes (Under i ∷ ps) s = (r : List Sort) × (s ≡ a_term ∷ r) × Completes ps r
+Completes (Pure i ∷ ps) s = (r : List Sort) × (s ≡ a_term ∷ r) × Completes ps r
 Completes (UnderBoth i j ∷ ps) s = (r : List Sort) × (s ≡ a_term ∷ r) × Completes ps r
 
 -- the pieces that make a term of this word
@@ -96,6 +97,7 @@ Shaped words.Ref s = s ≡ a_value ∷ a_term ∷ []
 Shaped words.Get s = s ≡ a_name ∷ []
 Shaped words.Set s = s ≡ a_name ∷ a_value ∷ []
 Shaped words.Modify s = s ≡ a_name ∷ a_value ∷ []
+Shaped words.Update s = s ≡ a_name ∷ a_term ∷ []
 Shaped words.Deferred s = s ≡ a_term ∷ []
 Shaped words.Complete s = s ≡ a_name ∷ a_value ∷ []
 Shaped words.Await s = s ≡ a_name ∷ []
@@ -118,7 +120,7 @@ NotPlain w = (w ≡ words.Pure → ⊥) × (w ≡ words.Raise → ⊥) × (w ≡
 -- the word is none of those with one term in their form
 abbrev pub NotOne : Word → Type 0
 NotOne w = (w ≡ words.Uncancelable → ⊥) × (w ≡ words.Poll → ⊥) × (w ≡ words.Ref → ⊥) × (w ≡ words.Deferred → ⊥) ×
-    (w ≡ words.Repeat → ⊥) × (w ≡ words.Forever → ⊥)
+    (w ≡ words.Repeat → ⊥) × (w ≡ words.Forever → ⊥) × (w ≡ words.Update → ⊥)
 
 -- the word is none of those with two terms in their form
 abbrev pub NotTwo : Word → Type 0
@@ -141,7 +143,7 @@ pub record Awaits (text : List ℕ) (f : OpenForm) : Type 0 where
 
 -- what the form wants
 abbrev pub want_of : List ℕ → OpenForm → Want
-want_of text f = parts (bounds text f.scope) (bounds text f.bound) (drop f.next (parts_of f.word))
+want_of text f = parts f.pure (bounds text f.scope) (bounds text f.bound) (drop f.next (parts_of f.word))
 
 -- the atoms of what has been read of the form
 abbrev pub front_of : OpenForm → List Atom
@@ -171,6 +173,7 @@ after p ps = ps
 -- g is f with this piece added, and with this part wanted next
 pub record Adds (f : OpenForm) (p : ReadPart) (next : ℕ) (g : OpenForm) : Type 0 where
   pub same_word : g.word ≡ f.word
+  pub same_pure : g.pure ≡ f.pure
   pub next_is : g.next ≡ next
   pub same_scope : g.scope ≡ f.scope
   pub same_bound : g.bound ≡ f.bound
@@ -209,8 +212,8 @@ pub record Closes (text : List ℕ) (at : ℕ) (f : OpenForm) (next : ℕ) : Typ
 abbrev pub Stepped : List ℕ → ℕ → ℕ → List Binding → Form → List Binding → Form → FormStep → Type 0
 Stepped text at depth s f t g (steps.Read next) =
     Reads text at (innermost s f) (innermost t g) next × (at < next) × (next ≤ length text)
-Stepped text at depth s f t g (steps.Opened w next) =
-    Opens text at depth (innermost s f) (outer t g) (begun_form w t) next × (g.scope ≡ length s) ×
+Stepped text at depth s f t g (steps.Opened w u next) =
+    Opens text at depth (innermost s f) (outer t g) (begun_form w u t) next × (g.scope ≡ length s) ×
     (length s ≤ length t) × (at + 2 ≤ next) × (next ≤ length text)
 Stepped text at depth s f t g (steps.Closed next) =
     Closes text at (innermost s f) next × (g ≡ f) × (t ≡ s) × (at < next) × (next ≤ length text)
@@ -266,5 +269,5 @@ Turned text at o (turns.Done t end) = IsWhole text t end
 -- a closed form has the pieces that its word wants
 abbrev pub Buildable : Form → FormStep → Type 0
 Buildable f (steps.Read next) = Unit {0}
-Buildable f (steps.Opened w next) = Unit {0}
+Buildable f (steps.Opened w u next) = Unit {0}
 Buildable f (steps.Closed next) = Shaped f.word (sorts f.pieces.items)

@@ -1,15 +1,15 @@
 -- The grammar: the parts of a form and its meaning, as a relation apart from any reading.
-use Rattle.std.specs.Prelude.{◌≡◌, ◌≤◌, ℕ, suc, max, ℤ, List, [], ◌∷◌, ◌++◌, length}
+use Rattle.std.specs.Prelude.{◌≡◌, ◌≤◌, ℕ, suc, max, ℤ, Bool, true, false, List, [], ◌∷◌, ◌++◌, length}
 use Rattle.term_parse.specs.Atoms.{Atom, word, value, name, ended}
 use Rattle.effect_term.specs.declared.term.Kind.TheVariants as kinds
 use Rattle.effect_term.specs.declared.term.Name.{Name}
 use Rattle.effect_term.specs.declared.term.Operand.TheVariants.{Number, Named}
 use Rattle.term_parse.specs.declared.table.Word.{Word}
 use Rattle.term_parse.specs.declared.table.Part.{Part}
-use Rattle.term_parse.specs.declared.table.Part.TheVariants.{Bind, Use, Value, Term, Under, UnderBoth, More, Close}
+use Rattle.term_parse.specs.declared.table.Part.TheVariants.{Bind, Use, Value, Term, Under, Pure, UnderBoth, More, Close}
 use Rattle.term_parse.specs.Lexemes.{opens, closes, called, number, Placed, lexemes_at}
 use Rattle.term_parse.specs.Innermost.{IsInnermost}
-use Rattle.term_parse.specs.Language.{word_spelling, parts_of}
+use Rattle.term_parse.specs.Language.{admits, word_spelling, parts_of}
 use Rattle.term_parse.specs.Reading.{Bound, entered}
 
 -- the content of a form behind its word, up to its closing bracket; each token with its place
@@ -36,25 +36,34 @@ depth_of (counted a n p) = depth_of p
 depth_of (form a c w q p) = max (suc (depth_of q)) (depth_of p)
 
 -- In this scope and under these binders the phrase is these parts and means these atoms. A use of a name means the
--- innermost binder of its spelling, which must have the kind that the part wants.
-abbrev pub Means : List Bound → List Bound → List Part → Phrase → List Atom → Type 0
-Means s b (Close ∷ ps) (done a) xs = xs ≡ ended ∷ []
-Means s b (More ∷ ps) (done a) xs = xs ≡ ended ∷ []
-Means s b (Bind k ∷ ps) (spelled a x p) xs = Means s (b ++ record { spelling = x; kind = k } ∷ []) ps p xs
-Means s b (Use k ∷ ps) (spelled a x p) xs =
-    (n : Name) × (rest : List Atom) × IsInnermost s x n × (n.kind ≡ k) × (xs ≡ name n ∷ rest) × Means s b ps p rest
-Means s b (Value ∷ ps) (spelled a x p) xs = (n : Name) × (rest : List Atom) × IsInnermost s x n ×
-    (n.kind ≡ kinds.Value) × (xs ≡ value (Named n) ∷ rest) × Means s b ps p rest
-Means s b (Value ∷ ps) (counted a n p) xs = (rest : List Atom) × (xs ≡ value (Number n) ∷ rest) × Means s b ps p rest
-Means s b (Term ∷ ps) (form a c w q p) xs = (first : List Atom) × (rest : List Atom) ×
-    (xs ≡ word w ∷ (first ++ rest)) × Means (entered s b Term) [] (parts_of w) q first × Means s b ps p rest
-Means s b (Under i ∷ ps) (form a c w q p) xs = (first : List Atom) × (rest : List Atom) ×
-    (xs ≡ word w ∷ (first ++ rest)) × Means (entered s b (Under i)) [] (parts_of w) q first × Means s b ps p rest
-Means s b (UnderBoth i j ∷ ps) (form a c w q p) xs = (first : List Atom) × (rest : List Atom) ×
-    (xs ≡ word w ∷ (first ++ rest)) × Means (entered s b (UnderBoth i j)) [] (parts_of w) q first × Means s b ps p rest
-Means s b (More ∷ ps) (form a c w q p) xs = (first : List Atom) × (rest : List Atom) ×
-    (xs ≡ word w ∷ (first ++ rest)) × Means (entered s b More) [] (parts_of w) q first × Means s b (More ∷ ps) p rest
-Means s b ps p xs = ⊥
+-- innermost binder of its spelling, which must have the kind that the part wants. In the term of an `update` each word
+-- is effect-free.
+abbrev pub Means : Bool → List Bound → List Bound → List Part → Phrase → List Atom → Type 0
+Means u s b (Close ∷ ps) (done a) xs = xs ≡ ended ∷ []
+Means u s b (More ∷ ps) (done a) xs = xs ≡ ended ∷ []
+Means u s b (Bind k ∷ ps) (spelled a x p) xs = Means u s (b ++ record { spelling = x; kind = k } ∷ []) ps p xs
+Means u s b (Use k ∷ ps) (spelled a x p) xs =
+    (n : Name) × (rest : List Atom) × IsInnermost s x n × (n.kind ≡ k) × (xs ≡ name n ∷ rest) × Means u s b ps p rest
+Means u s b (Value ∷ ps) (spelled a x p) xs = (n : Name) × (rest : List Atom) × IsInnermost s x n ×
+    (n.kind ≡ kinds.Value) × (xs ≡ value (Named n) ∷ rest) × Means u s b ps p rest
+Means u s b (Value ∷ ps) (counted a n p) xs =
+    (rest : List Atom) × (xs ≡ value (Number n) ∷ rest) × Means u s b ps p rest
+Means u s b (Term ∷ ps) (form a c w q p) xs = (first : List Atom) × (rest : List Atom) ×
+    (xs ≡ word w ∷ (first ++ rest)) × (admits u w ≡ true) × Means u (entered s b Term) [] (parts_of w) q first ×
+    Means u s b ps p rest
+Means u s b (Under i ∷ ps) (form a c w q p) xs = (first : List Atom) × (rest : List Atom) ×
+    (xs ≡ word w ∷ (first ++ rest)) × (admits u w ≡ true) × Means u (entered s b (Under i)) [] (parts_of w) q first ×
+    Means u s b ps p rest
+Means u s b (Pure i ∷ ps) (form a c w q p) xs = (first : List Atom) × (rest : List Atom) ×
+    (xs ≡ word w ∷ (first ++ rest)) × (admits true w ≡ true) ×
+    Means true (entered s b (Pure i)) [] (parts_of w) q first × Means u s b ps p rest
+Means u s b (UnderBoth i j ∷ ps) (form a c w q p) xs = (first : List Atom) × (rest : List Atom) ×
+    (xs ≡ word w ∷ (first ++ rest)) × (admits u w ≡ true) ×
+    Means u (entered s b (UnderBoth i j)) [] (parts_of w) q first × Means u s b ps p rest
+Means u s b (More ∷ ps) (form a c w q p) xs = (first : List Atom) × (rest : List Atom) ×
+    (xs ≡ word w ∷ (first ++ rest)) × (admits u w ≡ true) × Means u (entered s b More) [] (parts_of w) q first ×
+    Means u s b (More ∷ ps) p rest
+Means u s b ps p xs = ⊥
 
 -- the text is one closed term with space around its tokens, within the limits, and means these atoms
 pub record Spells (text : List ℕ) (atoms : List Atom) : Type 0 where
@@ -69,5 +78,5 @@ pub record Spells (text : List ℕ) (atoms : List Atom) : Type 0 where
     lexeme = opens;
     place = opening_place;
   } ∷ record { lexeme = called (word_spelling first); place = word_place } ∷ tokens_of rest
-  pub means : Means [] [] (parts_of first) rest inner
+  pub means : Means false [] [] (parts_of first) rest inner
   pub atoms_are : atoms ≡ word first ∷ inner

@@ -1,5 +1,5 @@
 -- The language: the spelling of each word, and the parts of its form.
-use Rattle.std.specs.Prelude.{ℕ, List, [], ◌∷◌, Option, codes, find}
+use Rattle.std.specs.Prelude.{ℕ, Bool, true, false, List, [], ◌∷◌, Option, codes, find}
 use Rattle.std.specs.Str.{bytes_eq}
 use Rattle.effect_term.specs.Arithmetic.{operator_spelling}
 use Rattle.effect_term.specs.declared.operator.Operator.TheVariants.{Difference, Product, Quotient, Remainder, Less}
@@ -8,7 +8,7 @@ use Rattle.effect_term.specs.declared.term.Kind.TheVariants as kinds
 use Rattle.term_parse.specs.declared.table.Word.{Word}
 use Rattle.term_parse.specs.declared.table.Word.TheVariants as words
 use Rattle.term_parse.specs.declared.table.Part.{Part}
-use Rattle.term_parse.specs.declared.table.Part.TheVariants.{Bind, Use, Value, Term, Under, UnderBoth, More, Close}
+use Rattle.term_parse.specs.declared.table.Part.TheVariants.{Bind, Use, Value, Term, Under, Pure, UnderBoth, More, Close}
 
 -- the words
 abbrev pub every_word : List Word
@@ -17,8 +17,8 @@ every_word =
     words.Calculate Difference ∷ words.Calculate Product ∷ words.Calculate Quotient ∷ words.Calculate Remainder ∷
     words.Calculate Less ∷ words.Calculate Equal ∷ words.Say ∷ words.Cede ∷ words.Never ∷ words.Canceled ∷
     words.Uncancelable ∷ words.Poll ∷ words.OnCancel ∷ words.Start ∷
-    words.Join ∷ words.Cancel ∷ words.Ref ∷ words.Get ∷ words.Set ∷ words.Modify ∷ words.Deferred ∷ words.Complete ∷
-    words.Await ∷ words.Repeat ∷ words.Forever ∷ words.Guarantee ∷ words.Bracket ∷ words.BracketCase ∷
+    words.Join ∷ words.Cancel ∷ words.Ref ∷ words.Get ∷ words.Set ∷ words.Modify ∷ words.Update ∷ words.Deferred ∷
+    words.Complete ∷ words.Await ∷ words.Repeat ∷ words.Forever ∷ words.Guarantee ∷ words.Bracket ∷ words.BracketCase ∷
     words.BracketFull ∷ words.Race ∷ words.Both ∷ []
 
 -- the spelling of each word
@@ -45,6 +45,7 @@ word_spelling words.Ref = codes "ref"
 word_spelling words.Get = codes "get"
 word_spelling words.Set = codes "set"
 word_spelling words.Modify = codes "modify"
+word_spelling words.Update = codes "update"
 word_spelling words.Deferred = codes "deferred"
 word_spelling words.Complete = codes "complete"
 word_spelling words.Await = codes "await"
@@ -58,8 +59,8 @@ word_spelling words.Race = codes "race"
 word_spelling words.Both = codes "both"
 
 -- The parts of each form behind its word, in the order of writing. A form's binders are counted from 0 in that order.
--- `Under i` is a term that sees binder i, `UnderBoth i j` one that sees i and, inside it, j, and `Term` sees none of
--- them.
+-- `Under i` is a term that sees binder i, `Pure i` one that sees it and is effect-free, `UnderBoth i j` one that sees i
+-- and, inside it, j, and `Term` sees none of them.
 unfoldable pub parts_of : Word → List Part
 -- (pure v)
 parts_of words.Pure = Value ∷ Close ∷ []
@@ -105,6 +106,8 @@ parts_of words.Get = Use kinds.Ref ∷ Close ∷ []
 parts_of words.Set = Use kinds.Ref ∷ Value ∷ Close ∷ []
 -- (modify r v)
 parts_of words.Modify = Use kinds.Ref ∷ Value ∷ Close ∷ []
+-- (update r x e)
+parts_of words.Update = Use kinds.Ref ∷ Bind kinds.Value ∷ Pure 0 ∷ Close ∷ []
 -- (deferred d k)
 parts_of words.Deferred = Bind kinds.Deferred ∷ Under 0 ∷ Close ∷ []
 -- (complete d v)
@@ -133,3 +136,25 @@ parts_of words.Both = Term ∷ Term ∷ Bind kinds.Value ∷ Bind kinds.Value �
 -- the word with this spelling, if there is one
 unfoldable pub word_of : List ℕ → Option Word
 word_of x = find (λ w. bytes_eq (word_spelling w) x) every_word
+
+-- the words that make no call, have no loop and note nothing
+unfoldable pub is_effect_free : Word → Bool
+is_effect_free words.Pure = true
+is_effect_free words.Raise = true
+is_effect_free words.Let = true
+is_effect_free words.Seq = true
+is_effect_free words.Handle = true
+is_effect_free words.If0 = true
+is_effect_free words.Add = true
+is_effect_free (words.Calculate o) = true
+is_effect_free _ = false
+
+-- whether a word may be here: in the term of an `update` it is effect-free
+abbrev pub admits : Bool → Word → Bool
+admits true w = is_effect_free w
+admits false w = true
+
+-- whether a term in this part is the term of an `update`
+abbrev pub is_pure : Part → Bool
+is_pure (Pure i) = true
+is_pure _ = false

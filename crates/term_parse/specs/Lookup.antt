@@ -25,5 +25,5 @@ words_from first =
     else if first == 112 then words.Pure ∷ words.Poll ∷ []
     else if first == 114 then words.Raise ∷ words.Ref ∷ words.Repeat ∷ words.Race ∷ []
     else if first == 115 then words.Seq ∷ words.Say ∷ words.Start ∷ words.Set ∷ words.Calculate Difference ∷ []
-    else if first == 117 then words.Uncancelable ∷ []
+    else if first == 117 then words.Uncancelable ∷ words.Update ∷ []
     else []

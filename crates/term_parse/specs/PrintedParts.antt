@@ -4,7 +4,7 @@ use Rattle.effect_term.specs.declared.term.Operand.{Operand}
 use Rattle.effect_term.specs.declared.term.Name.{Name}
 use Rattle.effect_term.specs.declared.term.Term.{Term, items-the_row-Term}
 use Rattle.effect_term.specs.declared.term.Term.TheVariants.{Pure, Raise, Let', Seq', Handle', If0', Add, Calculate}
-use Rattle.effect_term.specs.declared.term.Term.TheVariants.{Say, Cede, Never, Canceled, Uncancelable', Poll'}
+use Rattle.effect_term.specs.declared.term.Term.TheVariants.{Say, Cede, Never, Canceled, Uncancelable', Poll', Update'}
 use Rattle.effect_term.specs.declared.term.Term.TheVariants.{OnCancel', Start', Join', Cancel, Ref', Get, Set, Modify}
 use Rattle.effect_term.specs.declared.term.Term.TheVariants.{Deferred', Complete, Await, Repeat', Forever', Guarantee'}
 use Rattle.effect_term.specs.declared.term.Term.TheVariants.{Bracket', BracketCase', BracketFull', Race', Both'}
@@ -96,6 +96,7 @@ term_word Never = words.Never
 term_word Canceled = words.Canceled
 term_word (Uncancelable' p e) = words.Uncancelable
 term_word (Poll' n p e) = words.Poll
+term_word (Update' n p e) = words.Update
 term_word (OnCancel' p e q fin) = words.OnCancel
 term_word (Start' p e q k) = words.Start
 term_word (Join' f p s q e r c) = words.Join
@@ -132,6 +133,7 @@ held_of Never = []
 held_of Canceled = []
 held_of (Uncancelable' p e) = inner e ∷ []
 held_of (Poll' n p e) = a_name n ∷ inner e ∷ []
+held_of (Update' n p e) = a_name n ∷ inner e ∷ []
 held_of (OnCancel' p e q fin) = inner e ∷ inner fin ∷ []
 held_of (Start' p e q k) = inner e ∷ inner k ∷ []
 held_of (Join' f p s q e r c) = a_name f ∷ inner s ∷ inner e ∷ inner c ∷ []
@@ -168,6 +170,7 @@ more_of Never = []
 more_of Canceled = []
 more_of (Uncancelable' p e) = []
 more_of (Poll' n p e) = []
+more_of (Update' n p e) = []
 more_of (OnCancel' p e q fin) = []
 more_of (Start' p e q k) = []
 more_of (Join' f p s q e r c) = []

@@ -3,7 +3,7 @@ use Rattle.effect_term.specs.declared.term.Operand.{Operand}
 use Rattle.effect_term.specs.declared.term.Name.{Name}
 use Rattle.effect_term.specs.declared.term.Term.{Term, Row_of-Term, end_of-Term, more_of-Term}
 use Rattle.effect_term.specs.declared.term.Term.TheVariants.{Pure, Raise, Let', Seq', Handle', If0', Add, Calculate}
-use Rattle.effect_term.specs.declared.term.Term.TheVariants.{Say, Cede, Never, Canceled, Uncancelable', Poll'}
+use Rattle.effect_term.specs.declared.term.Term.TheVariants.{Say, Cede, Never, Canceled, Uncancelable', Poll', Update'}
 use Rattle.effect_term.specs.declared.term.Term.TheVariants.{OnCancel', Start', Join', Cancel, Ref', Get, Set, Modify}
 use Rattle.effect_term.specs.declared.term.Term.TheVariants.{Deferred', Complete, Await, Repeat', Forever', Guarantee'}
 use Rattle.effect_term.specs.declared.term.Term.TheVariants.{Bracket', BracketCase', BracketFull', Race', Both'}
@@ -43,6 +43,7 @@ abbrev mutual
   term_then (Get r) rest = form_then words.Get (name_then r closed) rest
   term_then (Set r v) rest = form_then words.Set (name_then r (value_then v closed)) rest
   term_then (Modify r v) rest = form_then words.Modify (name_then r (value_then v closed)) rest
+  term_then (Update' r p e) rest = form_then words.Update (name_then r (term_then e closed)) rest
   term_then (Deferred' p k) rest = form_then words.Deferred (term_then k closed) rest
   term_then (Complete d v) rest = form_then words.Complete (name_then d (value_then v closed)) rest
   term_then (Await d) rest = form_then words.Await (name_then d closed) rest

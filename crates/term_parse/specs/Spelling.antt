@@ -9,7 +9,7 @@ use Rattle.effect_term.specs.declared.term.Operand.{Operand}
 use Rattle.effect_term.specs.declared.term.Operand.TheVariants.{Number, Named}
 use Rattle.effect_term.specs.declared.term.Term.{Term, Row_of-Term, end_of-Term, more_of-Term}
 use Rattle.effect_term.specs.declared.term.Term.TheVariants.{Pure, Raise, Let', Seq', Handle', If0', Add, Calculate}
-use Rattle.effect_term.specs.declared.term.Term.TheVariants.{Say, Cede, Never, Canceled, Uncancelable', Poll'}
+use Rattle.effect_term.specs.declared.term.Term.TheVariants.{Say, Cede, Never, Canceled, Uncancelable', Poll', Update'}
 use Rattle.effect_term.specs.declared.term.Term.TheVariants.{OnCancel', Start', Join', Cancel, Ref', Get, Set, Modify}
 use Rattle.effect_term.specs.declared.term.Term.TheVariants.{Deferred', Complete, Await, Repeat', Forever', Guarantee'}
 use Rattle.effect_term.specs.declared.term.Term.TheVariants.{Bracket', BracketCase', BracketFull', Race', Both'}
@@ -44,6 +44,7 @@ pub data SpelledPart : Type 0 where
 -- the number of its form's binders that enclose a term in this part
 abbrev pub binders_of : Part → ℕ
 binders_of (parts.Under i) = 1
+binders_of (parts.Pure i) = 1
 binders_of (parts.UnderBoth i j) = 2
 binders_of p = 0
 
@@ -97,6 +98,7 @@ abbrev mutual
   spelling Canceled = form words.Canceled [] []
   spelling (Uncancelable' p e) = form words.Uncancelable (inner (spelling e) ∷ []) []
   spelling (Poll' n p e) = form words.Poll (name n ∷ inner (spelling e) ∷ []) []
+  spelling (Update' n p e) = form words.Update (name n ∷ inner (spelling e) ∷ []) []
   spelling (OnCancel' p e q fin) = form words.OnCancel (inner (spelling e) ∷ inner (spelling fin) ∷ []) []
   spelling (Start' p e q k) = form words.Start (inner (spelling e) ∷ inner (spelling k) ∷ []) []
   spelling (Join' f p s q e r c) =

@@ -316,6 +316,10 @@ fn build_with_one(
             let (name, term) = name_and_term(alloc, pieces)?;
             Ok(Term::Poll(name, term))
         }
+        Word::Update => {
+            let (name, term) = name_and_term(alloc, pieces)?;
+            Ok(Term::Update(name, term))
+        }
         Word::Ref => {
             let (value, term) = value_and_term(alloc, pieces)?;
             Ok(Term::Ref(value, term))

@@ -36,6 +36,9 @@ pub enum ParseError {
     /// Brackets nest at most 100 deep; this opening bracket is the 101st.
     #[error("the brackets go too deep at byte {0}")]
     TooDeep(usize),
+    /// The word is in the term of an `update`, and isn't effect-free.
+    #[error("the word at byte {0} isn't effect-free")]
+    NotPure(usize),
     /// The text has more than 65,536 bytes. The place is 65,536.
     #[error("the text is too long at byte {0}")]
     TooLong(usize),

@@ -12,7 +12,7 @@ ghost use Rattle.term_parse.specs.declared.scope.Binding.{Binding};
 
 use crate::error::ParseError;
 use crate::scope::{Binding, enter, hash_of, meaning};
-use crate::table::{Part, Word, parts_of, word_of};
+use crate::table::{Part, Word, is_effect_free, parts_of, word_of};
 use crate::token::{Token, TokenKind, token_at};
 use effect_term::{Kind, Operand, Term, Value};
 use std::alloc::AllocError;
@@ -31,6 +31,8 @@ pub(crate) enum ReadPart {
 pub(crate) struct Form {
     /// Its word.
     pub word: Word,
+    /// Whether it is in the term of an `update`, so that each word in it is effect-free.
+    pub pure: bool,
     /// The number of its parts that have been read.
     pub next: usize,
     /// The number of binders around it when a form was last opened inside it.
@@ -42,11 +44,11 @@ pub(crate) struct Form {
 }
 
 /// The effect of a token on a form: it read a part, opened a form of this word inside, or closed the form. The number
-/// is the place behind the token.
+/// is the place behind the token. An opened form is in the term of an `update` or not.
 #[derive(Clone, Copy)]
 pub(crate) enum FormStep {
     Read(usize),
-    Opened(Word, usize),
+    Opened(Word, bool, usize),
     Closed(usize),
 }
 
@@ -71,22 +73,23 @@ pub(crate) fn wanted(text: &[u8], at: usize) -> Result<Token, ParseError>
     }
 }
 
-/// The word that is wanted here, and the place behind it.
+/// The word that is wanted here, and the place behind it. In the term of an `update` the word is effect-free.
 #[inline(always)]
-pub(crate) fn word(text: &[u8], at: usize) -> Result<(Word, usize), ParseError>
+pub(crate) fn word(text: &[u8], at: usize, pure: bool) -> Result<(Word, usize), ParseError>
     requires { at ≤ length text.now }
     ensures within { IfOk result (λ r. (at < r.1) × (r.1 ≤ length text.now)) }
     ensures found { IfOk result (λ r. (s : List Bound) (todo : List Want) →
-        reads_at text.now at (a_word s ∷ todo) ≡ with_front (word r.0 ∷ [])
-        (reads_at text.now r.1 (parts s [] (parts_of r.0) ∷ todo))) }
+        reads_at text.now at (a_word pure s ∷ todo) ≡ with_front (word r.0 ∷ [])
+        (reads_at text.now r.1 (parts pure s [] (parts_of r.0) ∷ todo))) }
     ensures fault { IfErr result (λ e. (s : List Bound) (todo : List Want) →
-        reads_at text.now at (a_word s ∷ todo) ≡ Err e) }
+        reads_at text.now at (a_word pure s ∷ todo) ≡ Err e) }
 {
     let token = wanted(text, at)?;
     let TokenKind::Called = token.kind else {
         return Err(ParseError::UnknownWord(token.start));
     };
     match word_of(&text[token.start..token.end]) {
+        Some(word) if pure && !is_effect_free(word) => Err(ParseError::NotPure(token.start)),
         Some(word) => Ok((word, token.end)),
         None => Err(ParseError::UnknownWord(token.start)),
     }
@@ -247,10 +250,11 @@ fn open(
     }
     form.scope = scope.len();
     enter(scope, &form.bound, part)?;
-    match word(text, token.end) {
+    let pure = form.pure || matches!(part, Part::Pure(_));
+    match word(text, token.end, pure) {
         Ok((word, next)) => {
             form.next = rest;
-            Ok(FormStep::Opened(word, next))
+            Ok(FormStep::Opened(word, pure, next))
         }
         Err(error) => Err(error),
     }
@@ -350,6 +354,7 @@ pub(crate) fn advance(
         Part::Value => value(text, scope, form, token),
         Part::Term => one_term(text, scope, form, token, Part::Term, depth),
         Part::Under(i) => one_term(text, scope, form, token, Part::Under(i), depth),
+        Part::Pure(i) => one_term(text, scope, form, token, Part::Pure(i), depth),
         Part::UnderBoth(i, j) => one_term(text, scope, form, token, Part::UnderBoth(i, j), depth),
         Part::More => more_terms(text, scope, form, token, depth),
         Part::Close => close(token),

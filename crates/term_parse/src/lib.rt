@@ -30,4 +30,4 @@ mod token;
 pub use error::ParseError;
 pub use printer::print;
 pub use reader::parse;
-pub use table::{Part, Word, every_word, parts_of, spelling_of, word_of};
+pub use table::{Part, Word, every_word, is_effect_free, parts_of, spelling_of, word_of};

@@ -134,6 +134,7 @@ fn term_word(term: &Term) -> Word
         Term::Get(_) => Word::Get,
         Term::Set(_, _) => Word::Set,
         Term::Modify(_, _) => Word::Modify,
+        Term::Update(_, _) => Word::Update,
         Term::Deferred(_) => Word::Deferred,
         Term::Complete(_, _) => Word::Complete,
         Term::Await(_) => Word::Await,
@@ -170,7 +171,9 @@ fn pieces_in(term: &Term) -> [Option<PrintedPart<'_>>; 5]
             PrintedPart::Value(v),
             PrintedPart::Term(e),
         ),
-        Term::Poll(n, e) => two_pieces(PrintedPart::Name(*n), PrintedPart::Term(e)),
+        Term::Poll(n, e) | Term::Update(n, e) => {
+            two_pieces(PrintedPart::Name(*n), PrintedPart::Term(e))
+        }
         Term::Let(a, b) | Term::Handle(a, b) | Term::Start(a, b) | Term::Seq(a, b, _) => {
             two_pieces(PrintedPart::Term(a), PrintedPart::Term(b))
         }
@@ -204,7 +207,7 @@ fn more_of(term: &Term) -> &[Term]
         Term::Seq(_, _, more) => more,
         Term::Pure(_) | Term::Raise(_) | Term::Add(_, _) | Term::Calculate(_, _, _) => &[],
         Term::Say(_) | Term::Cede | Term::Never | Term::Canceled | Term::Cancel(_) => &[],
-        Term::Get(_) | Term::Set(_, _) | Term::Modify(_, _) => &[],
+        Term::Get(_) | Term::Set(_, _) | Term::Modify(_, _) | Term::Update(_, _) => &[],
         Term::Complete(_, _) | Term::Await(_) => &[],
         Term::Uncancelable(_) | Term::Poll(_, _) | Term::Ref(_, _) => &[],
         Term::Deferred(_) | Term::Repeat(_, _) | Term::Forever(_) => &[],
@@ -271,7 +274,7 @@ fn binders_of(part: Part) -> usize
     ensures few { result ≤ 2 }
 {
     match part {
-        Part::Under(_) => 1,
+        Part::Under(_) | Part::Pure(_) => 1,
         Part::UnderBoth(_, _) => 2,
         Part::Bind(_) | Part::Use(_) | Part::Value | Part::Term | Part::More | Part::Close => 0,
     }

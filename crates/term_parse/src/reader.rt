@@ -1,6 +1,7 @@
 //! Reads a text from left to right, one token at a time, with the open forms on a stack.
 
-ghost use Rattle.std.specs.Prelude.{◌≡◌, ◌≢◌, ◌≤◌, ◌<◌, ◌+◌, ℕ, List, [], ◌∷◌, IfOk, IfErr, Ok, Err, length};
+ghost use Rattle.std.specs.Prelude.{◌≡◌, ◌≢◌, ◌≤◌, ◌<◌, ◌+◌, ℕ, true, false, List, [], ◌∷◌, IfOk, IfErr, Ok, Err, length};
+ghost use Rattle.effect_term.specs.EffectFree.{has_pure_updates};
 ghost use Rattle.effect_term.specs.Kinds.{WellKinded};
 ghost use Rattle.effect_term.specs.declared.term.Term as terms;
 ghost use Rattle.term_parse.specs.declared.error.ParseError.{ParseError};
@@ -53,25 +54,26 @@ pub(crate) struct Open {
 fn first_word(text: &[u8]) -> Result<(Word, usize), ParseError>
     ensures within { IfOk result (λ r. r.1 ≤ length text.now) }
     ensures found { IfOk result (λ r. reads_at text.now 0 (term [] ∷ []) ≡
-        with_front (word r.0 ∷ []) (reads_at text.now r.1 (parts [] [] (parts_of r.0) ∷ []))) }
+        with_front (word r.0 ∷ []) (reads_at text.now r.1 (parts false [] [] (parts_of r.0) ∷ []))) }
     ensures fault { IfErr result (λ e. Fails e (reads_at text.now 0 (term [] ∷ []))) }
 {
     let token = wanted(text, 0)?;
     let TokenKind::Open = token.kind else {
         return Err(ParseError::Arity(token.start));
     };
-    match word(text, token.end) {
+    match word(text, token.end, false) {
         Ok((word, next)) => Ok((word, next)),
         Err(error) => Err(error),
     }
 }
 
 // A form of this word, where nothing else has been read.
-fn new_form(alloc: Global, word: Word) -> Result<Box<Form>, AllocError>
-    ensures { IfOk result (λ f. IsBegun word f.value) }
+fn new_form(alloc: Global, word: Word, pure: bool) -> Result<Box<Form>, AllocError>
+    ensures { IfOk result (λ f. IsBegun word pure f.value) }
 {
     let form = Form {
         word,
+        pure,
         next: 0,
         scope: 0,
         bound: Vec::new(alloc),
@@ -85,29 +87,31 @@ fn new_form(alloc: Global, word: Word) -> Result<Box<Form>, AllocError>
 fn next_form(
     alloc: Global,
     word: Word,
+    pure: bool,
     closed: &mut Vec<Box<Form>>,
 ) -> Result<Box<Form>, AllocError>
-    ensures { IfOk result (λ f. IsBegun word f.value) }
+    ensures { IfOk result (λ f. IsBegun word pure f.value) }
 {
     match closed.pop() {
         Some(mut form) => {
             form.word = word;
+            form.pure = pure;
             form.next = 0;
             form.bound.clear();
             form.pieces.clear();
             Ok(form)
         }
-        None => new_form(alloc, word),
+        None => new_form(alloc, word, pure),
     }
 }
 
 // The form of the whole term as the only open one.
 fn opened(alloc: Global, word: Word) -> Result<Open, AllocError>
-    ensures form { IfOk result (λ o. IsBegun word o.form.value) }
+    ensures form { IfOk result (λ o. IsBegun word false o.form.value) }
     ensures around { IfOk result (λ o. o.around.items ≡ []) }
     ensures scope { IfOk result (λ o. o.scope.items ≡ []) }
 {
-    let form = new_form(alloc, word)?;
+    let form = new_form(alloc, word, false)?;
     Ok(Open {
         form,
         around: Vec::new(alloc),
@@ -147,8 +151,8 @@ fn apply(alloc: Global, step: FormStep, stack: &mut Open) -> Result<TermStep, Al
 {
     match step {
         FormStep::Read(next) => Ok(TermStep::More(next)),
-        FormStep::Opened(word, next) => {
-            let inner = next_form(alloc, word, &mut stack.closed)?;
+        FormStep::Opened(word, pure, next) => {
+            let inner = next_form(alloc, word, pure, &mut stack.closed)?;
             let outer = mem::replace(&mut stack.form, inner);
             stack.around.push(outer)?;
             Ok(TermStep::More(next))
@@ -224,7 +228,7 @@ fn read(alloc: Global, text: &[u8]) -> Result<Term, ParseError>
 ///
 /// A text has at most 65,536 bytes, and brackets nest at most 100 deep. A name means the innermost binder of its
 /// spelling. The result is the term that the grammar spells as this text. There is at most one, apart from its place in
-/// memory, and it is closed and well kinded.
+/// memory. It is closed and well kinded, and the term of each `update` in it is effect-free.
 ///
 /// If the text spells no term, the result is its first fault from left to right, with its place;
 /// [`ParseError::TooLong`] comes before all others. Exactly one fault at one place is the first. The result is
@@ -238,6 +242,7 @@ pub fn parse(alloc: Global, text: &[u8]) -> Result<Term, ParseError>
     ensures good { (atoms : List Atom) → Spells text.now atoms → IfErr result (λ e. e ≡ ParseError.NoMemory) }
     ensures one_term { IfOk result (λ t. (u : terms.Term) → Spells text.now (atoms_of u) → shape_of u ≡ shape_of t) }
     ensures closed { IfOk result (WellKinded []) }
+    ensures pure { IfOk result (λ t. has_pure_updates t ≡ true) }
     ensures first_fault { IfErr result (λ e. e ≢ ParseError.NoMemory → IsFaultOf text.now e) }
     ensures one_fault { IfErr result (λ e. e ≢ ParseError.NoMemory → (f : ParseError) → IsFaultOf text.now f → f ≡ e) }
     ensures at_fault { (f : ParseError) → IsFaultOf text.now f → IfOk result (λ _. ⊥) }

@@ -148,7 +148,7 @@ pub(crate) fn enter(
         entered (bounds text scope.old.items) (bounds text bound.now) part) }
 {
     match part {
-        Part::Under(i) => pick(scope, bound, i),
+        Part::Under(i) | Part::Pure(i) => pick(scope, bound, i),
         Part::UnderBoth(i, j) => {
             pick(scope, bound, i)?;
             pick(scope, bound, j)

@@ -6,13 +6,13 @@
 
 ghost use Rattle.std.specs.Prelude.{◌≡◌, ◌<◌, ◌≤◌, ℕ, suc, length, find};
 ghost use Rattle.std.specs.Str.{bytes_eq};
-ghost use Rattle.term_parse.specs.Language.{every_word, word_spelling, parts_of, word_of};
+ghost use Rattle.term_parse.specs.Language.{every_word, is_effect_free, word_spelling, parts_of, word_of};
 ghost use Rattle.term_parse.specs.Lookup.{words_from};
 
 use crate::spelling::is_same;
 use effect_term::{Kind, Operator};
 
-/// The 38 words of the language. The spelling of each is the name of its variant in small letters; the words of
+/// The 39 words of the language. The spelling of each is the name of its variant in small letters; the words of
 /// arithmetic are spelled as their operators.
 #[derive(Clone, Copy)]
 pub enum Word {
@@ -38,6 +38,7 @@ pub enum Word {
     Get,
     Set,
     Modify,
+    Update,
     Deferred,
     Complete,
     Await,
@@ -64,6 +65,8 @@ pub enum Part {
     Term,
     /// A term under one of the form's binders.
     Under(usize),
+    /// An effect-free term under one of the form's binders.
+    Pure(usize),
     /// A term under two of the form's binders, the first outermost.
     UnderBoth(usize, usize),
     /// Any number of terms under none of the form's binders, and then the closing bracket.
@@ -104,6 +107,7 @@ pub fn every_word() -> &'static [Word]
         Word::Get,
         Word::Set,
         Word::Modify,
+        Word::Update,
         Word::Deferred,
         Word::Complete,
         Word::Await,
@@ -147,6 +151,7 @@ pub fn spelling_of(word: Word) -> &'static [u8]
         Word::Get => b"get",
         Word::Set => b"set",
         Word::Modify => b"modify",
+        Word::Update => b"update",
         Word::Deferred => b"deferred",
         Word::Complete => b"complete",
         Word::Await => b"await",
@@ -212,6 +217,12 @@ pub fn parts_of(word: Word) -> &'static [Part]
         ],
         Word::Get => &[Part::Use(Kind::Ref), Part::Close],
         Word::Set | Word::Modify => &[Part::Use(Kind::Ref), Part::Value, Part::Close],
+        Word::Update => &[
+            Part::Use(Kind::Ref),
+            Part::Bind(Kind::Value),
+            Part::Pure(0),
+            Part::Close,
+        ],
         Word::Deferred => &[Part::Bind(Kind::Deferred), Part::Under(0), Part::Close],
         Word::Complete => &[Part::Use(Kind::Deferred), Part::Value, Part::Close],
         Word::Await => &[Part::Use(Kind::Deferred), Part::Close],
@@ -258,6 +269,24 @@ pub fn parts_of(word: Word) -> &'static [Part]
     }
 }
 
+/// Whether a word is effect-free: it makes no call, has no loop and notes nothing. Only such words are in the term of
+/// an `update`.
+pub fn is_effect_free(word: Word) -> bool
+    ensures { result ≡ is_effect_free word }
+{
+    matches!(
+        word,
+        Word::Pure
+            | Word::Raise
+            | Word::Let
+            | Word::Seq
+            | Word::Handle
+            | Word::If0
+            | Word::Add
+            | Word::Calculate(_)
+    )
+}
+
 // The words that begin with this letter.
 #[tactic(auto, unfolding(crate::specs::Lookup::words_from))]
 fn words_from(first: u8) -> &'static [Word]
@@ -296,7 +325,7 @@ fn words_from(first: u8) -> &'static [Word]
             Word::Set,
             Word::Calculate(Operator::Difference),
         ],
-        b'u' => &[Word::Uncancelable],
+        b'u' => &[Word::Uncancelable, Word::Update],
         _ => &[],
     }
 }

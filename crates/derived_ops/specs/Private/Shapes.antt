@@ -21,7 +21,7 @@ use Rattle.derived_ops.specs.Expansion.{both, bracket_case, expansion, guarantee
 use Rattle.derived_ops.specs.Private.Sequences.{trees_in_order}
 use Rattle.derived_ops.specs.Reading.{source_of}
 use Rattle.derived_ops.specs.Tree.{Tree, Named, Number, Open_slot, Complete, Pure, Raise, Act, Cancel, Let, Handled}
-use Rattle.derived_ops.specs.Tree.{If0, Join, Make, Start, Loop, Uncancelable, Poll, On_cancel}
+use Rattle.derived_ops.specs.Tree.{If0, Join, Make, Start, Loop, Uncancelable, Poll, Update, On_cancel}
 
 -- the number of binders around a part of a word inside d binders, and those of them that the program knows, added to m
 abbrev pub depth_at : Place → ℕ → ℕ
@@ -60,6 +60,7 @@ tree_of_bare (bare.Cancel f) = Cancel (Open_slot f)
 abbrev pub tree_of_one : ℕ → One → Tree → Tree
 tree_of_one s one.Masked e = Uncancelable s e
 tree_of_one s (one.Polled p) e = Poll (Named p) e
+tree_of_one s (one.Updated r) e = Update (Open_slot r) s e
 tree_of_one s (one.Made c) k = Make (maker_in_core c) s k
 tree_of_one s (one.Repeated n) e = Loop (turns_in_core n) e
 

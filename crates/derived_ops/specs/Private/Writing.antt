@@ -17,7 +17,7 @@ use Rattle.derived_ops.specs.declared.core_word.CoreWord.TheVariants as word
 use Rattle.derived_ops.specs.Expansion.{both_outcome, pair_race, race_winner, runs_side}
 use Rattle.derived_ops.specs.Tree as tree
 use Rattle.derived_ops.specs.Tree.{Known, Open_slot, Named, Pair, Tree, Pure, Raise, Act, Note, Cancel, Let, Seq}
-use Rattle.derived_ops.specs.Tree.{Handled, If0, Join, Make, Start, Loop, Uncancelable, Poll, On_cancel}
+use Rattle.derived_ops.specs.Tree.{Handled, If0, Join, Make, Start, Loop, Uncancelable, Poll, Update, On_cancel}
 
 -- the stored form of an operand, a handle, a mask, an action and so on; forms that only a running fiber has aren't
 -- stored
@@ -75,6 +75,7 @@ size (Start x e k) = 1 + (size e + size k)
 size (Loop n e) = 1 + size e
 size (Uncancelable x e) = 1 + size e
 size (Poll q e) = 1 + size e
+size (Update r x e) = 1 + size e
 size (On_cancel e fin) = 1 + (size e + size fin)
 size (tree.Masked m e) = 0
 size (tree.Polled q e) = 0
@@ -104,6 +105,7 @@ before (Start x e k) ws = word.Start (distance (size e)) ∷ before e (before k 
 before (Loop n e) ws = word.Loop (stored_turns n) ∷ before e ws
 before (Uncancelable x e) ws = word.Uncancelable ∷ before e ws
 before (Poll q e) ws = word.Poll (stored_mask q) ∷ before e ws
+before (Update r x e) ws = word.Update (stored_handle r) ∷ before e ws
 before (On_cancel e fin) ws = word.OnCancel (distance (size e)) ∷ before e (before fin ws)
 before (tree.Masked m e) ws = ws
 before (tree.Polled q e) ws = ws

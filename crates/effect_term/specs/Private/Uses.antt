@@ -5,7 +5,7 @@ use Rattle.effect_term.specs.declared.term.Kind.TheVariants.{Value, Poll, Fiber,
 use Rattle.effect_term.specs.Names.{Use, use_of, value_uses, uses_of, uses_of_row}
 use Rattle.effect_term.specs.declared.term.Term.{Term}
 use Rattle.effect_term.specs.declared.term.Term.TheVariants.{Pure, Raise, Let', Seq', Handle', If0', Add, Calculate}
-use Rattle.effect_term.specs.declared.term.Term.TheVariants.{Say, Cede, Never, Canceled, Uncancelable', Poll'}
+use Rattle.effect_term.specs.declared.term.Term.TheVariants.{Say, Cede, Never, Canceled, Uncancelable', Poll', Update'}
 use Rattle.effect_term.specs.declared.term.Term.TheVariants.{OnCancel', Start', Join', Cancel, Ref', Get, Set, Modify}
 use Rattle.effect_term.specs.declared.term.Term.TheVariants.{Deferred', Complete, Await, Repeat', Forever', Guarantee'}
 use Rattle.effect_term.specs.declared.term.Term.TheVariants.{Bracket', BracketCase', BracketFull', Race', Both'}
@@ -34,6 +34,7 @@ own_uses around (Ref' v p k) = value_uses around v
 own_uses around (Get r) = use_of around Ref r
 own_uses around (Set r v) = use_of around Ref r ++ value_uses around v
 own_uses around (Modify r v) = use_of around Ref r ++ value_uses around v
+own_uses around (Update' r p e) = use_of around Ref r
 own_uses around (Deferred' p k) = []
 own_uses around (Complete d v) = use_of around Deferred d ++ value_uses around v
 own_uses around (Await d) = use_of around Deferred d
@@ -71,6 +72,7 @@ part_uses around (Ref' v p k) = uses_of (around ++ Ref ∷ []) k
 part_uses around (Get r) = []
 part_uses around (Set r v) = []
 part_uses around (Modify r v) = []
+part_uses around (Update' r p e) = uses_of (around ++ Value ∷ []) e
 part_uses around (Deferred' p k) = uses_of (around ++ Deferred ∷ []) k
 part_uses around (Complete d v) = []
 part_uses around (Await d) = []

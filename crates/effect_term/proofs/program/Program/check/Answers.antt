@@ -8,17 +8,17 @@ returns-in_err-check_names-clause-only c =
     λ program. let none = names_of_program c.args.term program in grind (arith, none)
 
 pub returns-in_err-check_names-clause-limits : goal.returns-in_err-check_names-clause-limits
-returns-in_err-check_names-clause-limits c = λ kinded.
+returns-in_err-check_names-clause-limits c = λ kinded pure.
     let faults : IfErr c.from_residual.result (IsFault (uses_of [] c.args.term)) = search rules in
     IfErr-weaker c.from_residual.result (IsFault (uses_of [] c.args.term)) (IsPastLimit c.args.term) (λ e. past_limit-from_fault c.args.term e kinded) faults
 
 pub invariant_of-result : goal.invariant_of-result
 invariant_of-result c =
-    record { closed = well_kinded [] c.args.term (grind arith); masks = omega arith; expansion = omega arith }
+    record { closed = well_kinded [] c.args.term (grind arith); pure = grind arith; masks = omega arith; expansion = omega arith }
 
 pub returns-clause-found : goal.returns-clause-found
 returns-clause-found c =
-    record { closed = well_kinded [] c.args.term (grind arith); masks = omega arith; expansion = omega arith }
+    record { closed = well_kinded [] c.args.term (grind arith); pure = grind arith; masks = omega arith; expansion = omega arith }
 
 pub returns-clause-kept : goal.returns-clause-kept
 returns-clause-kept c = refl
