@@ -2,7 +2,7 @@
 use Rattle.cell_registry.proofs.Prelude.{◌≡◌, ◌≢◌, ◌⊎◌, inl, inr, ℕ, ◌+◌, ◌<◌, ◌≤◌, Bool, true, false, refl, sym, ap, ◌∙◌, subst, arith, eqb, eq-eqb, ne_eqb}
 use Rattle.cell_registry.proofs.Prelude.{length-set, get_or-set_other, pos, ℤ, ◌+ℤ◌, dite, ℕ_discrete, cond, Option, Some, None, length-replicate, Outcome}
 use Rattle.cell_registry.proofs.Prelude.{Succeeded, Errored, Canceled, IsValue, wrapped_is_value, Limits, Band, Fibers, Refs, Deferreds, Stage, Running}
-use Rattle.cell_registry.proofs.Prelude.{Finalizing, Ended, Cell, Call, Start, Cancel, Join, Mask, Unmask, Cut, Finish, NewRef, NewDeferred, Set, Modify}
+use Rattle.cell_registry.proofs.Prelude.{Finalizing, Ended, Cell, Call, Start, Cancel, Join, Mask, Unmask, Cut, Finish, NewRef, NewDeferred, Set, Modify, Exchange}
 use Rattle.cell_registry.proofs.Prelude.{Complete, AreLimits, fresh, requested, awaited, owned, MayFinish, Cells, opening, cell_of, ref_of, deferred_of}
 use Rattle.cell_registry.proofs.Prelude.{with_cell, with_ref, with_deferred, filled, after, IsAllowed, full, spent, refusal, IsAccepted, OutcomeFits, ValueFits}
 use Rattle.cell_registry.proofs.Prelude.{IsCell, IsSound, next_of, claim_of}
@@ -187,5 +187,6 @@ after-sound k s by NewDeferred h a = let apart = full-room _ s.next_deferred k.d
     with_next-sound k s s.next_fiber s.next_ref (s.next_deferred + 1) h h.some_fiber h.next_fiber h.next_ref (omega arith)
 after-sound k s by (Set r v) h a = with_ref-sound k s r v h a.allowed.1
 after-sound k s by (Modify r v) h a = with_ref-sound k s r _ h (wrapped_is_value (ref_of s r +ℤ v))
+after-sound k s by (Exchange r v n) h a = with_ref-sound k s r n h a.allowed.1
 after-sound k s by (Complete d v) h a = with_deferred-sound k s d _ h (filled-fits (deferred_of s d) v (h.each_deferred d) a.allowed.1)
 after-sound k s by _ h a = h

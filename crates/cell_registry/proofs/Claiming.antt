@@ -33,15 +33,19 @@ band_word-low : (b : Band) → band_word b < 3
 band_word-low Fibers = omega arith
 band_word-low _ = omega arith
 
+-- so it is no value word
+band_word-place : (b : Band) (k : Limits) → band_word b < 3 + k.fibers + k.refs + k.deferreds
+band_word-place b k = let low = band_word-low b in omega arith
+
 at_band : (b : Band) (P : Band → Type 0) → P b → AtBand (band_word b) P
 at_band b P p = λ c is. subst P (band_word-one b c is) p
 
 -- ---- a load
 -- what the pass knows once it has seen the history so far
-abbrev up_to : Knowledge → List Entry → Knowledge
+abbrev pub up_to : Knowledge → List Entry → Knowledge
 up_to v h = record v { seen = h; guests = []; heard = [] }
 
-looked : (k : Limits) (h : List Entry) (v : Knowledge) → Has v.fibers v.number → IsLegal k h → Fits k h v → Looked v (up_to v h)
+pub looked : (k : Limits) (h : List Entry) (v : Knowledge) → Has v.fibers v.number → IsLegal k h → Fits k h v → Looked v (up_to v h)
 looked k h v has legal mine =
     record { seen = mine.seen; legal = subst (λ (x : Limits). IsLegal x h) (sym (mine.limits v.number has)) legal; own = λ f owns. (mine.own f owns).calls }
 
@@ -50,21 +54,25 @@ pub same_now : (k : Limits) (h : List Entry) (v : Knowledge) → Has v.fibers v.
     owned (cell_of (left v.limits h) v.number) ≡ owned (seen_cell v v.number)
 same_now k h v has mine = (λ j. owned (cell_of (left (mine.limits v.number has j) h) v.number)) ∙ own_same k h v has mine
 
+pub same_looked : (k : Limits) (h : List Entry) (v : Knowledge) → Has v.fibers v.number → Fits k h v → IsSame v (up_to v h)
+same_looked k h v has mine = record { limits = refl; number = refl; stored = refl; fibers = refl; cell = same_now k h v has mine }
+
 saw_next : (b : Band) (k : Limits) (h : List Entry) (words : List ℕ) (v : Knowledge) → Has v.fibers v.number → IsLegal k h →
     Leaves words (left k h) → Fits k h v → SawNext b v (get_or words (band_word b) 0) (up_to v h)
 saw_next b k h words v has legal leaves mine = (
   looked k h v has legal mine,
-  record { limits = refl; number = refl; stored = refl; fibers = refl; cell = same_now k h v has mine },
+  same_looked k h v has mine,
   (λ j. next_of b (left (mine.limits v.number has j) h)) ∙ sym (next_at b words (left k h) leaves),
 )
 
 -- a step at the word i that only looks
-pub sees_all : (k : Limits) (h : List Entry) (words : List ℕ) (v : Knowledge) (i : ℕ) (then : ℕ → Knowledge → Type 0) → i < 3 →
-    Leaves words (left k h) → then (get_or words i 0) (up_to v h) → Look k v i (get_or words i 0) then h words
-sees_all k h words v i then claim leaves told = record {
+pub sees_all : (k : Limits) (h : List Entry) (words : List ℕ) (v : Knowledge) (i : ℕ) (then : ℕ → Knowledge → Type 0) →
+    i < 3 + k.fibers + k.refs + k.deferreds → Leaves words (left k h) → then (get_or words i 0) (up_to v h) →
+    Look k v i (get_or words i 0) then h words
+sees_all k h words v i then place leaves told = record {
   view = up_to v h;
   word = same_words words (left k h) i leaves;
-  place = omega arith;
+  place = place;
   limits = refl;
   number = refl;
   stored = refl;
@@ -80,7 +88,7 @@ module _ {S : Type 0} where
       Allows (WordsAreAHistory k) slots id me (band_word b) (λ n. n) (Tells (λ n w. AtBand (band_word b) (λ c. SawNext c me.0 n w)))
   sees_next b k id me slots none_out has =
       looks k id me (band_word b) (λ n w. AtBand (band_word b) (λ c. SawNext c me.0 n w)) slots none_out has (λ h words legal leaves mine.
-      sees_all k h words me.0 (band_word b) (λ n w. AtBand (band_word b) (λ c. SawNext c me.0 n w)) (band_word-low b) leaves
+      sees_all k h words me.0 (band_word b) (λ n w. AtBand (band_word b) (λ c. SawNext c me.0 n w)) (band_word-place b k) leaves
       (at_band b (λ c. SawNext c me.0 (get_or words (band_word b) 0) (up_to me.0 h)) (saw_next b k h words me.0 has legal leaves mine)))
 
 -- ---- a claim
@@ -164,7 +172,7 @@ module _ {S : Type 0} where
       exchanged (get_or s.words i 0) old (old + 1) (λ x. Goes k s i x id me (Tells then))
       (λ hit. turn_at k id me i (old + 1) then none_out has s kept at (claim b k h s.words v old r.words_are has r.legal mine may (sym found ∙ hit) within))
       (λ miss. look_at k id me i (get_or s.words i 0) then none_out has s kept at
-      (sees_all k h s.words v i then (band_word-low b) r.words_are
+      (sees_all k h s.words v i then (band_word-place b k) r.words_are
       (at_band b (λ c. Tried c old v (get_or s.words i 0) (up_to v h)) (inr (miss, saw_next b k h s.words v has r.legal r.words_are mine)))))
 
 -- ---- looks before a claim

@@ -70,6 +70,7 @@ same_after s by Call.NewRef = without_waits_twice (record s { next_ref = s.next_
 same_after s by Call.NewDeferred = without_waits_twice (record s { next_deferred = s.next_deferred + 1 })
 same_after s by (Call.Set r v) = without_waits_twice (after s by (Call.Set r v))
 same_after s by (Call.Modify r v) = without_waits_twice (after s by (Call.Modify r v))
+same_after s by (Call.Exchange r v n) = without_waits_twice (after s by (Call.Exchange r v n))
 same_after s by (Call.Complete d v) = without_waits_twice (after s by (Call.Complete d v))
 same_after s by _ = without_waits_twice s
 

@@ -16,5 +16,6 @@ pub mod Tokens
 pub mod OwnTurns
 pub mod ValueTurns
 pub mod Showing
+pub mod Exchanging
 pub mod Forgetting
 pub mod Uncounting

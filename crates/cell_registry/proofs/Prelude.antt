@@ -36,19 +36,20 @@ pub use Rattle.cell_registry.specs.Cells.{ref_of, requested, spent, unawaited, u
 pub use Rattle.cell_registry.specs.Cells.{without_waits}
 unfoldable pub use Rattle.cell_registry.specs.Histories.{IsLegal, left}
 pub use Rattle.cell_registry.specs.Histories.{IsLegalFrom, MayFollow, calls_by, left_from}
-pub use Rattle.cell_registry.specs.Passes.{Calls, Changes, Counts, IsLeftWord, IsOf, IsRegistry, IsSeated, OnlySees, PassView, RegistryView, pass_of}
+pub use Rattle.cell_registry.specs.Passes.{Calls, Changes, Counts, IsLeftWord, IsOf, IsRegistry, IsSeated, Looks, Observes, OnlySees, PassView, RegistryView}
+pub use Rattle.cell_registry.specs.Passes.{pass_of}
 pub use Rattle.cell_registry.specs.Plain.{IsLeftPlain, IsMade, IsPlain, MayCall, PlainView, new_plain}
 pub use Rattle.cell_registry.specs.Private.Kept.{stage_of}
 pub use Rattle.cell_registry.specs.Private.Shown.{Copies, IsShown, Shows}
 pub use Rattle.cell_registry.specs.Rule.{Apart, Fits, Has, IsHistory, IsQuietSince, Owns, StoredLast, WordsAreAHistory, first_knowledge, last_stored, seen_cell}
-pub use Rattle.cell_registry.specs.Steps.{AtBand, AtCell, Called, Cancelled, Changed, Claimed, Completed, Finished, FoundNone, FoundValue, Got, HasBits, IsCall}
-pub use Rattle.cell_registry.specs.Steps.{IsChanged, IsNew, IsSame, Joined, Looked, Masked, MayClaim, Met, Modified, SawNext, SawRequest, Tried, Unmasked}
-pub use Rattle.cell_registry.specs.Steps.{WasCut, WasRead, WasSet, WasStored, band_word, child, entry, fibers_with, hosting, newest, nothing, parent}
+pub use Rattle.cell_registry.specs.Steps.{AtBand, AtCell, Attempted, Called, Cancelled, Changed, Claimed, Completed, Confirmed, Exchanged, Finished, FoundNone}
+pub use Rattle.cell_registry.specs.Steps.{FoundValue, Got, HasBits, IsCall, IsChanged, IsNew, IsSame, Joined, Looked, Masked, MayClaim, Met, Modified, Observed}
+pub use Rattle.cell_registry.specs.Steps.{SawNext, SawRequest, Tried, Unmasked, WasCut, WasRead, WasSet, WasStored, band_word, child, entry, fibers_with, hosting, newest, nothing, parent}
 pub use Rattle.cell_registry.specs.Steps.{without_newest}
 unfoldable pub use Rattle.cell_registry.specs.Words.{control}
 pub use Rattle.cell_registry.specs.Words.{HoldsOutcome, Leaves, TellsRead, cell_word, deferred_word, has_ended, kind_at, phase_at, ref_value, value_place}
 pub use Rattle.cell_registry.specs.declared.call.Call.{Call}
-pub use Rattle.cell_registry.specs.declared.call.Call.TheVariants.{Cancel, Complete, Cut, Finish, Get, Join, Look, Mask, Modify, NewDeferred, NewRef, Read, Set}
+pub use Rattle.cell_registry.specs.declared.call.Call.TheVariants.{Cancel, Complete, Cut, Exchange, Finish, Get, Join, Look, Mask, Modify, NewDeferred, NewRef, Read, Set}
 pub use Rattle.cell_registry.specs.declared.call.Call.TheVariants.{Start, Unmask}
 pub use Rattle.cell_registry.specs.declared.call.Entry.{Entry}
 pub use Rattle.cell_registry.specs.declared.cell.Cell.{Cell}

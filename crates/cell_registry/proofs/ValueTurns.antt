@@ -5,7 +5,7 @@ use Rattle.cell_registry.proofs.Prelude.{set-append_right, get_or-append_right, 
 use Rattle.cell_registry.proofs.Prelude.{bits_value, wrapped, bits_lt, back, forth, one, sum_bits, Limits, Cell, Call, Get, Set, Modify, Complete, Read, Entry}
 use Rattle.cell_registry.proofs.Prelude.{Knowledge, fresh, owned, Cells, cell_of, ref_of, deferred_of, with_ref, with_deferred, filled, after, reply_of}
 use Rattle.cell_registry.proofs.Prelude.{IsAllowed, refusal, IsAccepted, ValueFits, left, cell_word, deferred_word, ref_value, Leaves, Has, seen_cell, Fits}
-use Rattle.cell_registry.proofs.Prelude.{WordsAreAHistory, entry, Called, IsSame, HasBits, Got, WasSet, Modified, Completed, WasRead, Reply}
+use Rattle.cell_registry.proofs.Prelude.{WordsAreAHistory, entry, Called, IsSame, HasBits, Got, WasSet, Modified, Completed, WasRead, Reply, AreLimits, IsLegal}
 use Rattle.cell_registry.proofs.Legal.{left-push, sound}
 use Rattle.cell_registry.proofs.TableWords.{same_words}
 use Rattle.cell_registry.proofs.Turns.{Turn, Tells, turns}
@@ -24,6 +24,17 @@ ref_at words s r i l is within =
     rw (l.words_are, e) (get_or-append_right (map cell_word s.cells) others (length s.cells) (length s.cells + r) 0 long (omega arith) ∙
     ap (λ m. get_or others m 0) back ∙ get_or-append l.raw behind 0 r (omega arith))
 
+-- the word of a ref has its value
+pub ref_found : (k : Limits) (h : List Entry) (words : List ℕ) (r i : ℕ) → AreLimits k → IsLegal k h → Leaves words (left k h) → i ≡ r + (3 + k.fibers) →
+    r < k.refs → ref_of (left k h) r ≡ ref_value (get_or words i 0)
+ref_found k h words r i limited legal leaves is within =
+    let s : Cells = left k h in
+    let good = sound k h limited legal in
+    let fibers = good.fibers in let refs = good.refs in
+    let place : i ≡ r + (3 + length s.cells) = omega arith in
+    let at = ref_at words s r i leaves place (omega arith) in
+    sym (back (ref_of s r) (good.each_ref r)) ∙ ap bits_value (sym (ap (λ n. n % 2 ^ 63) at ∙ leaves.refs r))
+
 put_both : (P : ℕ → ℤ → Type 0) (xs : List ℕ) (ys : List ℤ) (i x : ℕ) (y : ℤ) → length xs ≡ length ys → P x y →
     ((j : ℕ) → P (get_or xs j 0) (get_or ys j (pos 0))) → (j : ℕ) → P (get_or (set xs i x) j 0) (get_or (set ys i y) j (pos 0))
 put_both P [] [] i x y e p h j = h j
@@ -34,7 +45,7 @@ put_both P (a ∷ xs) (b ∷ ys) zero x y e p h (suc j) = h (suc j)
 put_both P (a ∷ xs) (b ∷ ys) (suc i) x y e p h zero = h zero
 put_both P (a ∷ xs) (b ∷ ys) (suc i) x y e p h (suc j) = put_both P xs ys i x y (omega arith) p (λ m. h (suc m)) j
 
-put_ref : (words : List ℕ) (s : Cells) (r i n : ℕ) (v : ℤ) → Leaves words s → i ≡ r + (3 + length s.cells) → r < length s.refs →
+pub put_ref : (words : List ℕ) (s : Cells) (r i n : ℕ) (v : ℤ) → Leaves words s → i ≡ r + (3 + length s.cells) → r < length s.refs →
     n % 2 ^ 63 ≡ value_bits v → Leaves (set words i n) (with_ref s r v)
 put_ref words s r i n v l is within e =
     let j : i ≡ suc (suc (suc (length s.cells + r))) = omega arith in
@@ -113,7 +124,7 @@ adds_bits n x y f g e =
     let m : (n + value_bits x) % 2 ^ 64 % 2 ^ 63 ≡ (value_bits y + value_bits x) % 2 ^ 63 = rw (sym e) (omega arith) in
     m ∙ sum_bits y x g f ∙ sym (forth (value_bits (y +ℤ x)) (bits_lt (y +ℤ x)))
 
-bits_one : (n : ℕ) (x y : ℤ) → HasBits n x → HasBits n y → x ≡ y
+pub bits_one : (n : ℕ) (x y : ℤ) → HasBits n x → HasBits n y → x ≡ y
 bits_one n x y a b = one x y a.0 b.0 (sym a.1 ∙ b.1)
 
 -- the exchange for an empty deferred's word
@@ -139,7 +150,7 @@ some-one {x} e = ap (λ (o : Option ℤ). value_or x o) e
     value_or a (Some b) = b
 
 -- ---- a call that changes no cell
-value_turn : (k : Limits) (h : List Entry) (words : List ℕ) (v : Knowledge) (i x : ℕ) (then : ℕ → Knowledge → Type 0) (c : Call) →
+pub value_turn : (k : Limits) (h : List Entry) (words : List ℕ) (v : Knowledge) (i x : ℕ) (then : ℕ → Knowledge → Type 0) (c : Call) →
     Has v.fibers v.number → Fits k h v → i < 3 + k.fibers + k.refs + k.deferreds → IsAccepted k (left k h) v.number c
     → (after (left k h) v.number c).cells ≡ (left k h).cells → Leaves (set words i x) (after (left k h) v.number c)
     → ((w : Knowledge) → Called v c (reply_of (left k h) v.number c) w → IsSame v w → then (get_or words i 0) w) → Turn k v i x then h words
@@ -172,12 +183,7 @@ module _ {S : Type 0} where
   gets k id me i slots r none_out has within is = turns k id me i (λ n. n) (Got i me.0) slots none_out has (λ h words limited legal leaves mine last.
       let v : Knowledge = me.0 in
       let s : Cells = left k h in
-      let good = sound k h limited legal in
-      let fibers = good.fibers in let refs = good.refs in
-      let place : i ≡ r + (3 + length s.cells) = omega arith in
-      let at = ref_at words s r i leaves place (omega arith) in
-      let found : ref_of s r ≡ ref_value (get_or words i 0) = sym (back (ref_of s r) (good.each_ref r)) ∙
-      ap bits_value (sym (ap (λ n. n % 2 ^ 63) at ∙ leaves.refs r)) in
+      let found = ref_found k h words r i limited legal leaves is within in
       value_turn k h words v i (get_or words i 0) (Got i v) (Get r) has mine (omega arith) record { allowed = within; room = refl } refl
       (same_words words s i leaves)
       (λ w made same q iq.
@@ -221,7 +227,7 @@ module _ {S : Type 0} where
       let low = ap (λ m. m % 2 ^ 63) at ∙ leaves.refs r in
       let law : (get_or words i 0 + n) % 2 ^ 64 % 2 ^ 63 ≡ value_bits (wrapped (y +ℤ x)) =
       ap (λ m. (get_or words i 0 + m) % 2 ^ 64 % 2 ^ 63) bits.1 ∙ adds_bits (get_or words i 0) x y bits.0 (good.each_ref r) low in
-      let found : y ≡ ref_value (get_or words i 0) = sym (back y (good.each_ref r)) ∙ ap bits_value (sym low) in
+      let found = ref_found k h words r i limited legal leaves is within in
       value_turn k h words v i ((get_or words i 0 + n) % 18446744073709551616) (Modified i n v) (Modify r x) has mine (omega arith)
       record { allowed = (within, bits.0); room = refl } refl (put_ref words s r i _ _ leaves place (omega arith) law)
       (λ w made same q iq z hz.

@@ -21,7 +21,7 @@ use Rattle.cell_registry.specs.declared.cell.Stage.TheVariants.{Running, Finaliz
 use Rattle.cell_registry.specs.declared.cell.Cell.{Cell}
 use Rattle.cell_registry.specs.declared.call.Call.{Call}
 use Rattle.cell_registry.specs.declared.call.Call.TheVariants.{Start, Cancel, Join, Look, Mask, Unmask, Cut, Finish}
-use Rattle.cell_registry.specs.declared.call.Call.TheVariants.{NewRef, NewDeferred, Get, Set, Modify, Complete, Read}
+use Rattle.cell_registry.specs.declared.call.Call.TheVariants.{NewRef, NewDeferred, Get, Set, Modify, Exchange, Complete, Read}
 
 -- the limits that a registry can have
 pub record AreLimits (k : Limits) : Type 0 where
@@ -176,6 +176,7 @@ after s by NewDeferred = record s { next_deferred = s.next_deferred + 1 }
 after s by (Get r) = s
 after s by (Set r v) = with_ref s r v
 after s by (Modify r v) = with_ref s r (wrapped (ref_of s r +ℤ v))
+after s by (Exchange r v n) = with_ref s r n
 after s by (Complete d v) = with_deferred s d (filled (deferred_of s d) v)
 after s by (Read d) = s
 
@@ -194,10 +195,11 @@ reply_of s by NewDeferred = reply.Number s.next_deferred
 reply_of s by (Get r) = reply.Value (ref_of s r)
 reply_of s by (Set r v) = reply.Done
 reply_of s by (Modify r v) = reply.Value (ref_of s r)
+reply_of s by (Exchange r v n) = reply.Value (ref_of s r)
 reply_of s by (Complete d v) = reply.Completed (is_none (deferred_of s d))
 reply_of s by (Read d) = reply.Read (deferred_of s d)
 
--- the condition of the call holds; a cut needs the request to be set
+-- the condition of the call holds; a cut needs the request to be set, and an exchange the ref to hold its first value
 unfoldable pub IsAllowed : Limits → Cells → ℕ → Call → Type 0
 IsAllowed k s by Start = IsOpen (cell_of s by).stage
 IsAllowed k s by (Cancel f) = f < k.fibers
@@ -212,6 +214,7 @@ IsAllowed k s by NewDeferred = Unit {0}
 IsAllowed k s by (Get r) = r < k.refs
 IsAllowed k s by (Set r v) = (r < k.refs) × IsValue v
 IsAllowed k s by (Modify r v) = (r < k.refs) × IsValue v
+IsAllowed k s by (Exchange r v n) = (r < k.refs) × IsValue n × (ref_of s r ≡ v)
 IsAllowed k s by (Complete d v) = (d < k.deferreds) × IsValue v
 IsAllowed k s by (Read d) = d < k.deferreds
 
@@ -238,6 +241,7 @@ refusal k s by NewDeferred = full Deferreds s.next_deferred k.deferreds
 refusal k s by (Get r) = None
 refusal k s by (Set r v) = None
 refusal k s by (Modify r v) = None
+refusal k s by (Exchange r v n) = None
 refusal k s by (Complete d v) = None
 refusal k s by (Read d) = None
 

@@ -15,12 +15,12 @@ use Rattle.cell_registry.specs.declared.call.Call.{Call}
 use Rattle.cell_registry.specs.declared.call.Call.TheVariants.{Start}
 use Rattle.cell_registry.specs.declared.call.Entry.{Entry}
 use Rattle.cell_registry.specs.declared.knowledge.Knowledge.{Knowledge}
-use Rattle.cell_registry.specs.Cells.{AreLimits, IsOpen, cell_of, owned}
+use Rattle.cell_registry.specs.Cells.{AreLimits, IsOpen, cell_of, owned, ref_of}
 use Rattle.cell_registry.specs.Histories.{left, IsLegal, calls_by}
 use Rattle.cell_registry.specs.Rule.{Has}
 use Rattle.cell_registry.specs.Bands.{limit_of, claim_of, AreAllGiven, WasBorn}
 use Rattle.cell_registry.specs.Told.{IsTold}
-use Rattle.cell_registry.specs.Words.{cell_word}
+use Rattle.cell_registry.specs.Words.{cell_word, ref_value}
 use Rattle.cell_registry.specs.Steps.{IsCall, IsLook}
 
 -- ---- a registry
@@ -114,6 +114,15 @@ OnlySees p q = q ≡ record p { seen = q.seen }
 -- the pass p made this call and became q
 abbrev pub Calls : PassView → Call → Reply → PassView → Type 0
 Calls p c r q = IsCall p.registry.limits p.fibers p.seen p.number c r q.seen
+
+-- the pass made no call, and has seen more of the history
+abbrev pub Looks : PassView → PassView → Type 0
+Looks p q = IsLook p.registry.limits p.fibers p.seen q.seen
+
+-- the pass made no call, and has seen a history in which the ref r has the value of the word n
+pub record Observes (p : PassView) (r n : ℕ) (q : PassView) : Type 0 where
+  pub look : Looks p q
+  pub value : ref_of (left p.registry.limits q.seen) r ≡ ref_value n
 
 -- the pass p changed its fiber's own cell and became q: the fiber is at this stage and depth, with one change more. The
 -- count was below the limit

@@ -1,5 +1,5 @@
 -- What the pass that makes a step learns from it.
-use Rattle.std.specs.Prelude.{◌≡◌, ◌≢◌, ℕ, ◌+◌, ◌<◌, Bool, ◌==◌, List, [], ◌∷◌, ◌++◌, ◌⊎◌, Option, Some, None, ℤ}
+use Rattle.std.specs.Prelude.{◌≡◌, ◌≢◌, ℕ, ◌+◌, ◌%◌, ◌^◌, ◌<◌, Bool, ◌==◌, List, [], ◌∷◌, ◌++◌, ◌⊎◌, Option, Some, None, ℤ}
 use mathlib.Core.List.{IsPrefix}
 use Rattle.effect_term.specs.declared.reply.Outcome.{Outcome}
 use Rattle.effect_term.specs.declared.reply.Reply.{Reply}
@@ -14,10 +14,10 @@ use Rattle.cell_registry.specs.declared.cell.Stage.TheVariants.{Running, Ended}
 use Rattle.cell_registry.specs.declared.cell.Cell.{Cell}
 use Rattle.cell_registry.specs.declared.call.Call.{Call}
 use Rattle.cell_registry.specs.declared.call.Call.TheVariants.{Cancel, Join, Look, Mask, Unmask, Cut, Finish, Get}
-use Rattle.cell_registry.specs.declared.call.Call.TheVariants.{Set, Modify, Complete, Read}
+use Rattle.cell_registry.specs.declared.call.Call.TheVariants.{Set, Modify, Exchange, Complete, Read}
 use Rattle.cell_registry.specs.declared.call.Entry.{Entry}
 use Rattle.cell_registry.specs.declared.knowledge.Knowledge.{Knowledge}
-use Rattle.cell_registry.specs.Cells.{masked, unmasked, cut, finished, owned, reply_of, IsOpen, cancel_reply}
+use Rattle.cell_registry.specs.Cells.{masked, unmasked, cut, finished, owned, ref_of, reply_of, IsOpen, cancel_reply}
 use Rattle.cell_registry.specs.Cells.{join_reply, OutcomeFits, ValueFits}
 use Rattle.cell_registry.specs.Histories.{left, IsLegal, calls_by}
 use Rattle.cell_registry.specs.Bands.{next_of, limit_of, claim_of, AreAllGiven}
@@ -151,6 +151,26 @@ WasSet i n v w = AtRef i v.limits (λ r. (x : ℤ) → HasBits n x → Called v 
 abbrev pub Modified : ℕ → ℕ → Knowledge → ℕ → Knowledge → Type 0
 Modified i n v found w = AtRef i v.limits (λ r. (x : ℤ) → HasBits n x →
     Called v (Modify r x) (reply.Value (ref_value found)) w × IsSame v w)
+
+-- the pass made no call, and has seen a history in which the ref has the value of the word that the step found
+abbrev pub Observed : ℕ → Knowledge → ℕ → Knowledge → Type 0
+Observed i v found w = AtRef i v.limits (λ r. Looked v w × IsSame v w ×
+    (ref_of (left v.limits w.seen) r ≡ ref_value found))
+
+-- an attempt at a call whose reply is the value of the word n. It fails if it finds another word: then the pass made no
+-- call, and has seen more of the history
+abbrev pub Attempted : ℕ → Call → Knowledge → ℕ → Knowledge → Type 0
+Attempted n c v found w =
+    ((found ≡ n) × Called v c (reply.Value (ref_value n)) w × IsSame v w) ⊎ ((found ≢ n) × Looked v w × IsSame v w)
+
+-- an attempt to replace the word n of the ref by the word m
+abbrev pub Exchanged : ℕ → ℕ → ℕ → Knowledge → ℕ → Knowledge → Type 0
+Exchanged i n m v found w = AtRef i v.limits (λ r. (x : ℤ) → HasBits (m % 2 ^ 63) x →
+    Attempted n (Exchange r (ref_value n) x) v found w)
+
+-- an attempt to find the word n of the ref once more
+abbrev pub Confirmed : ℕ → ℕ → Knowledge → ℕ → Knowledge → Type 0
+Confirmed i n v found w = AtRef i v.limits (λ r. Attempted n (Get r) v found w)
 
 -- n, the word of a completed deferred, replaced the word of the deferred if that was empty; `found` is the word before
 abbrev pub Completed : ℕ → ℕ → Knowledge → ℕ → Knowledge → Type 0

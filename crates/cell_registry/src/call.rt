@@ -30,6 +30,8 @@ pub enum Call {
     Set(u16, Value),
     /// Adds to a ref modulo 2^63, and reads its old value.
     Modify(u16, Value),
+    /// Sets a ref, which holds the first value, to the second one, and reads its old value.
+    Exchange(u16, Value, Value),
     /// Completes a deferred, unless it is completed already.
     Complete(u16, Value),
     /// Reads the value of a deferred.

@@ -328,6 +328,16 @@ impl PlainRegistry {
         old
     }
 
+    /// Sets a ref, whose number is below the limit and which holds `old`, and returns its old value.
+    pub fn exchange(&mut self, by: u16, number: u16, old: Value, value: Value) -> Value
+        requires may { MayCall self.old by (Call.Exchange number old value) }
+        ensures lawful { IsPlain self.new }
+        ensures made { IsMade self.old self.new by (Call.Exchange number old value) (Reply.Value result) }
+    {
+        self.refs[usize::from(number)] = value;
+        old
+    }
+
     /// Completes a deferred (`Deferred::complete`), whose number is below the limit, unless it is completed already.
     /// Returns whether this call completed it.
     pub fn complete(&mut self, by: u16, number: u16, value: Value) -> bool

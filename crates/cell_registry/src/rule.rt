@@ -1,8 +1,9 @@
 //! What holds of the table between any two steps, and what each step shows.
 ghost use Rattle.std.specs.Prelude.{◌≡◌, []};
 ghost use Rattle.cell_registry.specs.Rule.{WordsAreAHistory, first_knowledge};
-ghost use Rattle.cell_registry.specs.Steps.{AtBand, AtCell, Cancelled, Completed, Finished, FoundValue, Got, Joined};
-ghost use Rattle.cell_registry.specs.Steps.{Masked, Met, Modified, SawNext, SawRequest, Tried, Unmasked, WasCut};
+ghost use Rattle.cell_registry.specs.Steps.{AtBand, AtCell, Cancelled, Completed, Confirmed, Exchanged, Finished};
+ghost use Rattle.cell_registry.specs.Steps.{FoundValue, Got, Joined, Masked, Met, Modified, Observed, SawNext};
+ghost use Rattle.cell_registry.specs.Steps.{SawRequest, Tried, Unmasked, WasCut};
 ghost use Rattle.cell_registry.specs.Steps.{WasRead, WasSet, WasStored, child, hosting, nothing, parent};
 
 use crate::knowledge::Knowledge;
@@ -92,6 +93,28 @@ pub(crate) struct Modifies;
 
 impl Play<u8, Knowledge> for Modifies {
     ghost then = { λ step before found now. (now.1 ≡ []) × Modified step.word step.first before.0 found now.0 };
+}
+
+/// The load before an exchange.
+pub(crate) struct Observes;
+
+impl Play<u8, Knowledge> for Observes {
+    ghost then = { λ step before found now. (now.1 ≡ []) × Observed step.word before.0 found now.0 };
+}
+
+/// An attempt to replace the word of a ref.
+pub(crate) struct Exchanges;
+
+impl Play<u8, Knowledge> for Exchanges {
+    ghost then = { λ step before found now. (now.1 ≡ []) ×
+        Exchanged step.word step.first step.second before.0 found now.0 };
+}
+
+/// An attempt to find the word of a ref as it was.
+pub(crate) struct Confirms;
+
+impl Play<u8, Knowledge> for Confirms {
+    ghost then = { λ step before found now. (now.1 ≡ []) × Confirmed step.word step.first before.0 found now.0 };
 }
 
 pub(crate) struct Completes;

@@ -118,6 +118,7 @@ plain_after s by call.NewRef = plain_twice (record s { next_ref = s.next_ref + 1
 plain_after s by call.NewDeferred = plain_twice (record s { next_deferred = s.next_deferred + 1 })
 plain_after s by (call.Set r v) = plain_twice (after s by (call.Set r v))
 plain_after s by (call.Modify r v) = plain_twice (after s by (call.Modify r v))
+plain_after s by (call.Exchange r v n) = plain_twice (after s by (call.Exchange r v n))
 plain_after s by (call.Complete d v) = plain_twice (after s by (call.Complete d v))
 plain_after s by _ = plain_twice s
 

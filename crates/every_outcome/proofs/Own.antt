@@ -221,6 +221,7 @@ module _ (says : Bool) where
     own_call_unmarked (call.Get r) = kept_unmarked Stores r
     own_call_unmarked (call.Set r v) = two_unmarked Stores Gets r
     own_call_unmarked (call.Modify r v) = two_unmarked Stores Gets r
+    own_call_unmarked (call.Exchange r v n) = two_unmarked Stores Gets r
     own_call_unmarked (call.Complete d v) = ap (λ (t : Bool). is_completed w d || t) (two_unmarked Completes Awaits d)
     own_call_unmarked _ = refl
 

@@ -78,7 +78,8 @@ fn is_mask_call(call: Call) -> bool
         Call::Cancel(_) | Call::Join(_) | Call::Get(_) | Call::Set(_, _) | Call::Modify(_, _) => {
             false
         }
-        Call::NewRef | Call::NewDeferred | Call::Complete(_, _) | Call::Read(_) => false,
+        Call::Exchange(_, _, _) | Call::NewRef | Call::NewDeferred => false,
+        Call::Complete(_, _) | Call::Read(_) => false,
     }
 }
 
@@ -123,7 +124,7 @@ fn is_own_call(world: &CoreWorld, by: u16, call: Call) -> bool
         Call::Cancel(other) | Call::Join(other) => has_come_to_end(world, other),
         Call::Finish(_) => is_left_alone(world, by) && is_kept(world, Use::Joins, by, by),
         Call::Get(it) => is_kept(world, Use::Stores, by, it),
-        Call::Set(it, _) | Call::Modify(it, _) => {
+        Call::Set(it, _) | Call::Modify(it, _) | Call::Exchange(it, _, _) => {
             is_kept(world, Use::Stores, by, it) && is_kept(world, Use::Gets, by, it)
         }
         Call::Complete(it, _) => {

@@ -2,7 +2,7 @@
 use Rattle.std.proofs.Common.{◌≡◌, ◌≢◌, ℕ, zero, suc, ◌+◌, ◌<◌, ◌≤◌, nat_eq, Bool, true, false, not, ◌&&◌, ◌||◌, List, [], ◌∷◌, drop, length, Some, refl, sym}
 use Rattle.std.{proofs.{Common.{ap, ◌∙◌, subst, arith}, lemmas.Bool.{eqb-true, eq-eqb, lt-ltb}}, specs.List.slice_get}
 use Rattle.fiber_frames.specs.{declared.{ask.Ask.Ask, uses.Use.{Use, TheVariants.Cancels}}, Fiber.Fiber, Naming.AskNamed, Uses.{is_some, used_place, uses_in}}
-use Rattle.cell_registry.specs.{declared.call.Call.{Call, TheVariants.{Get, Set, Modify, Complete, Read}}, Cells.Cells}
+use Rattle.cell_registry.specs.{declared.call.Call.{Call, TheVariants.{Get, Set, Modify, Exchange, Complete, Read}}, Cells.Cells}
 use Rattle.scheduled_core.specs.{declared.wish.Wish.TheVariants.Shared, Core.{World, wish_of}, Fitting.{AllFit, given_by}}
 use Rattle.every_schedule.{specs.Reduced.{IsNamed, is_another, is_kept, is_left_alone, keeps, next_of, others}, proofs.OwnKept.{and_true, ask_for, asked_so}}
 use Rattle.every_schedule.proofs.OwnKept.{same_not}
@@ -106,6 +106,7 @@ named_call : (s : Cells) (i : ℕ) (d : Call) → AskNamed (given_by s) i (ask_f
 named_call s i (Get r) h = h
 named_call s i (Set r v) h = h
 named_call s i (Modify r v) h = h
+named_call s i (Exchange r v n) h = h
 named_call s i (Complete d v) h = h
 named_call s i (Read d) h = h
 named_call s i _ h = tt

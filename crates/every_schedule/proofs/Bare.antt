@@ -129,6 +129,7 @@ own_call_bare w f (call.Finish o) = ap₂ (λ s t. s && t) (left_bare w f) (kept
 own_call_bare w f (call.Get r) = kept_bare Stores w f r
 own_call_bare w f (call.Set r v) = two_bare Stores Gets w f r
 own_call_bare w f (call.Modify r v) = two_bare Stores Gets w f r
+own_call_bare w f (call.Exchange r v n) = two_bare Stores Gets w f r
 own_call_bare w f (call.Complete d v) = ap (λ t. is_completed w d || t) (two_bare Completes Awaits w f d)
 own_call_bare w f _ = refl
 

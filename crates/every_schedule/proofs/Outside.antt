@@ -13,7 +13,7 @@ use Rattle.fiber_frames.specs.Fiber.{Fiber, ask_of, child, move}
 use Rattle.fiber_frames.specs.Uses.{AskApart, NumberApart, is_some, used_place, uses_in}
 use Rattle.cell_registry.specs.declared.call.Call.{Call}
 use Rattle.cell_registry.specs.declared.call.Call.TheVariants.{Start, Cancel, Join, Look, Mask, Unmask, Cut, Finish}
-use Rattle.cell_registry.specs.declared.call.Call.TheVariants.{NewRef, NewDeferred, Get, Set, Modify, Complete, Read}
+use Rattle.cell_registry.specs.declared.call.Call.TheVariants.{NewRef, NewDeferred, Get, Set, Modify, Exchange, Complete, Read}
 use Rattle.cell_registry.specs.declared.limits.Limits.{Limits}
 use Rattle.cell_registry.specs.Cells.{cell_of, deferred_of, reply_of}
 use Rattle.scheduled_core.specs.declared.wish.Wish.{Wish}
@@ -264,6 +264,7 @@ module _ (s : List Bool) (w : World) (g : ℕ) (b : Fiber) (out : in_set s g ≡
     calm_or_clear (Get r) sound keep = inl (no_store_of r b.number d (asks_off Stores r (keep.outside g b out there).0 d is))
     calm_or_clear (Set r x) sound keep = inl (calm_store r keep)
     calm_or_clear (Modify r x) sound keep = inl (calm_store r keep)
+    calm_or_clear (Exchange r x y) sound keep = inl (calm_store r keep)
     calm_or_clear (Complete i x) sound keep = inl (calm_complete i x (is_completed w i) refl keep)
     calm_or_clear (Read i) sound keep = inl (calm_read i (is_completed w i) refl keep)
 

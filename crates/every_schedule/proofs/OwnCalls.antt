@@ -15,7 +15,7 @@ use Rattle.cell_registry.specs.declared.cell.Stage.TheVariants.{Running, Finaliz
 use Rattle.cell_registry.specs.declared.cell.Cell.{Cell}
 use Rattle.cell_registry.specs.declared.call.Call.{Call}
 use Rattle.cell_registry.specs.declared.call.Call.TheVariants.{Start, Cancel, Join, Look, Mask, Unmask, Cut, Finish}
-use Rattle.cell_registry.specs.declared.call.Call.TheVariants.{NewRef, NewDeferred, Get, Set, Modify, Complete, Read}
+use Rattle.cell_registry.specs.declared.call.Call.TheVariants.{NewRef, NewDeferred, Get, Set, Modify, Exchange, Complete, Read}
 use Rattle.cell_registry.specs.Cells.{Cells, fresh, requested, awaited, masked, unmasked, cut, finished, owned}
 use Rattle.cell_registry.specs.Cells.{cancel_reply, join_reply, cell_of, with_cell, after, reply_of, refusal, full}
 use Rattle.cell_registry.specs.Cells.{deferred_of, filled, ref_of, spent, with_deferred, with_ref}
@@ -36,12 +36,14 @@ IsAdmitted k s f Nothing = Unit {0}
 abbrev pub IsNoStore : ℕ → Call → Type 0
 IsNoStore r (Set i v) = i ≢ r
 IsNoStore r (Modify i v) = i ≢ r
+IsNoStore r (Exchange i v n) = i ≢ r
 IsNoStore r _ = Unit {0}
 
 abbrev pub IsOffRef : ℕ → Call → Type 0
 IsOffRef r (Get i) = i ≢ r
 IsOffRef r (Set i v) = i ≢ r
 IsOffRef r (Modify i v) = i ≢ r
+IsOffRef r (Exchange i v n) = i ≢ r
 IsOffRef r _ = Unit {0}
 
 abbrev pub IsNoFill : ℕ → Call → Type 0
@@ -74,6 +76,7 @@ IsCalm s f g d (Shared (Finish o)) = IsOffFiber f d
 IsCalm s f g d (Shared (Get r)) = IsNoStore r d
 IsCalm s f g d (Shared (Set r v)) = IsOffRef r d
 IsCalm s f g d (Shared (Modify r v)) = IsOffRef r d
+IsCalm s f g d (Shared (Exchange r v n)) = IsOffRef r d
 IsCalm s f g d (Shared (Complete i v)) = IsFilled s i ⊎ IsOffDeferred i d
 IsCalm s f g d (Shared (Read i)) = IsFilled s i ⊎ IsNoFill i d
 IsCalm s f g d Alone = Unit {0}
@@ -129,6 +132,7 @@ ref_stays : (s : Cells) (g : ℕ) (d : Call) (r : ℕ) → IsNoStore r d → ref
 unfolding after
 ref_stays s g (Set i v) r apart = get_or-set_other s.refs i r v (pos 0) (λ e. apart (sym e))
 ref_stays s g (Modify i v) r apart = get_or-set_other s.refs i r (wrapped (ref_of s i +ℤ v)) (pos 0) (λ e. apart (sym e))
+ref_stays s g (Exchange i v n) r apart = get_or-set_other s.refs i r n (pos 0) (λ e. apart (sym e))
 ref_stays s g _ r apart = refl
 
 deferred_stays : (s : Cells) (g : ℕ) (d : Call) (i : ℕ) → IsNoFill i d → deferred_of (after s g d) i ≡ deferred_of s i
@@ -139,6 +143,7 @@ deferred_stays s g _ i apart = refl
 no_store : (r : ℕ) (d : Call) → IsOffRef r d → IsNoStore r d
 no_store r (Set i v) h = h
 no_store r (Modify i v) h = h
+no_store r (Exchange i v n) h = h
 no_store r _ h = tt
 
 no_fill : (r : ℕ) (d : Call) → IsOffDeferred r d → IsNoFill r d
@@ -192,6 +197,7 @@ module _ (s : Cells) (f g : ℕ) (d : Call) (apart : g ≢ f) where
   own_refusal k (Get r) own = refl
   own_refusal k (Set r v) own = refl
   own_refusal k (Modify r v) own = refl
+  own_refusal k (Exchange r v n) own = refl
   own_refusal k (Complete i v) own = refl
   own_refusal k (Read i) own = refl
   own_refusal k _ own = absurd own
@@ -218,6 +224,7 @@ module _ (s : Cells) (f g : ℕ) (d : Call) (apart : g ≢ f) where
   own_reply (Shared (Get r)) own = ap reply.Value (ref_stays s g d r own)
   own_reply (Shared (Set r v)) own = refl
   own_reply (Shared (Modify r v)) own = ap reply.Value (ref_stays s g d r (no_store r d own))
+  own_reply (Shared (Exchange r v n)) own = ap reply.Value (ref_stays s g d r (no_store r d own))
   own_reply (Shared (Complete i v)) (inl own) = ap (λ o. reply.Completed (is_none o)) (filled_after s g d i own.0 own.1 ∙ sym own.1)
   own_reply (Shared (Complete i v)) (inr own) = ap (λ o. reply.Completed (is_none o)) (deferred_stays s g d i (no_fill i d own))
   own_reply (Shared (Read i)) (inl own) = ap reply.Read (filled_after s g d i own.0 own.1 ∙ sym own.1)
@@ -242,6 +249,7 @@ module _ (s : Cells) (f g : ℕ) (d : Call) (apart : g ≢ f) where
   refused_so k t own a b c (Get r) = refl
   refused_so k t own a b c (Set r v) = refl
   refused_so k t own a b c (Modify r v) = refl
+  refused_so k t own a b c (Exchange r v n) = refl
   refused_so k t own a b c (Complete i v) = refl
   refused_so k t own a b c (Read i) = refl
 
@@ -260,6 +268,7 @@ module _ (s : Cells) (f g : ℕ) (d : Call) (apart : g ≢ f) where
   other_refusal k (Shared (Get r)) own = refl
   other_refusal k (Shared (Set r v)) own = refused_so k (after s f (Set r v)) refl refl refl refl d
   other_refusal k (Shared (Modify r v)) own = refused_so k (after s f (Modify r v)) refl refl refl refl d
+  other_refusal k (Shared (Exchange r v n)) own = refused_so k (after s f (Exchange r v n)) refl refl refl refl d
   other_refusal k (Shared (Complete i v)) own = refused_so k (after s f (Complete i v)) refl refl refl refl d
   other_refusal k (Shared (Read i)) own = refl
   other_refusal k Alone own = refl
@@ -281,6 +290,7 @@ module _ (s : Cells) (f g : ℕ) (d : Call) (apart : g ≢ f) where
   told_so cells h (Get r) = refl
   told_so cells h (Set r v) = refl
   told_so cells h (Modify r v) = refl
+  told_so cells h (Exchange r v n) = refl
   told_so cells h (Complete i v) = refl
   told_so cells h (Read i) = refl
 
@@ -319,6 +329,7 @@ module _ (s : Cells) (f g : ℕ) (d : Call) (apart : g ≢ f) where
   unfolding reply_of
   off_ref r v (Get i) h = ap reply.Value (get_or-set_other s.refs r i v (pos 0) h)
   off_ref r v (Modify i w) h = ap reply.Value (get_or-set_other s.refs r i v (pos 0) h)
+  off_ref r v (Exchange i w n) h = ap reply.Value (get_or-set_other s.refs r i v (pos 0) h)
   off_ref r v _ h = refl
 
   off_deferred : (i : ℕ) (v : Option ℤ) → (d' : Call) → IsOffDeferred i d' → reply_of (with_deferred s i v) g d' ≡ reply_of s g d'
@@ -342,6 +353,7 @@ module _ (s : Cells) (f g : ℕ) (d : Call) (apart : g ≢ f) where
   other_reply (Shared (Get r)) own = refl
   other_reply (Shared (Set r v)) own = off_ref r v d own
   other_reply (Shared (Modify r v)) own = off_ref r (wrapped (ref_of s r +ℤ v)) d own
+  other_reply (Shared (Exchange r v n)) own = off_ref r n d own
   other_reply (Shared (Complete i v)) (inl own) = ap (λ t. reply_of t g d) (filled_stays s f i v own.0 own.1)
   other_reply (Shared (Complete i v)) (inr own) = off_deferred i (filled (deferred_of s i) v) d own
   other_reply (Shared (Read i)) own = refl
@@ -371,6 +383,7 @@ module _ (s : Cells) (f g : ℕ) (d : Call) (apart : g ≢ f) where
   swaps_so p i h (Get r) = refl
   swaps_so p i h (Set r v) = refl
   swaps_so p i h (Modify r v) = refl
+  swaps_so p i h (Exchange r v n) = refl
   swaps_so p i h (Complete j v) = refl
   swaps_so p i h (Read j) = refl
 
@@ -382,6 +395,8 @@ module _ (s : Cells) (f g : ℕ) (d : Call) (apart : g ≢ f) where
   unfolding after
   swaps_ref r p (Set i v) h = ap (λ l. record s { refs = l }) (apart_set s.refs r i (p (ref_of s r)) v (λ e. h (sym e)) ∙
       ap (λ x. set (set s.refs i v) r (p x)) (sym (get_or-set_other s.refs i r v (pos 0) (λ e. h (sym e)))))
+  swaps_ref r p (Exchange i v n) h = ap (λ l. record s { refs = l }) (apart_set s.refs r i (p (ref_of s r)) n (λ e. h (sym e)) ∙
+      ap (λ x. set (set s.refs i n) r (p x)) (sym (get_or-set_other s.refs i r n (pos 0) (λ e. h (sym e)))))
   swaps_ref r p (Modify i v) h =
       let before : ref_of (with_ref s r (p (ref_of s r))) i ≡ ref_of s i = get_or-set_other s.refs r i (p (ref_of s r)) (pos 0) h in
       ap (λ x. record s { refs = set (set s.refs r (p (ref_of s r))) i (wrapped (x +ℤ v)) }) before
@@ -422,6 +437,7 @@ module _ (s : Cells) (f g : ℕ) (d : Call) (apart : g ≢ f) where
   swaps_deferred i p (Get r) h = refl
   swaps_deferred i p (Set r v) h = refl
   swaps_deferred i p (Modify r v) h = refl
+  swaps_deferred i p (Exchange r v n) h = refl
   swaps_deferred i p (Read j) h = refl
 
   pub swaps : (x : Wish) → IsCalm s f g d x → after (left_by s f x) g d ≡ left_by (after s g d) f x
@@ -438,6 +454,7 @@ module _ (s : Cells) (f g : ℕ) (d : Call) (apart : g ≢ f) where
   swaps (Shared (Get r)) own = refl
   swaps (Shared (Set r v)) own = swaps_ref r (λ x. v) d own
   swaps (Shared (Modify r v)) own = swaps_ref r (λ x. wrapped (x +ℤ v)) d own
+  swaps (Shared (Exchange r v n)) own = swaps_ref r (λ x. n) d own
   swaps (Shared (Complete i v)) (inl own) =
       ap (λ t. after t g d) (filled_stays s f i v own.0 own.1) ∙ sym (filled_stays (after s g d) f i v own.0 (filled_after s g d i own.0 own.1))
   swaps (Shared (Complete i v)) (inr own) = swaps_deferred i (λ x. filled x v) d own

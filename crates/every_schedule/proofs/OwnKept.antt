@@ -18,7 +18,7 @@ use Rattle.fiber_frames.proofs.UnusedMoves.{unused_ask, unused_child, unused_mov
 use Rattle.cell_registry.specs.declared.cell.Stage.{Stage}
 use Rattle.cell_registry.specs.declared.call.Call.{Call}
 use Rattle.cell_registry.specs.declared.call.Call.TheVariants.{Start, Cancel, Join, Look, Mask, Unmask, Cut, Finish}
-use Rattle.cell_registry.specs.declared.call.Call.TheVariants.{NewRef, NewDeferred, Get, Set, Modify, Complete, Read}
+use Rattle.cell_registry.specs.declared.call.Call.TheVariants.{NewRef, NewDeferred, Get, Set, Modify, Exchange, Complete, Read}
 use Rattle.cell_registry.specs.Cells.{Cells, after, cell_of, deferred_of, owned, reply_of}
 use Rattle.cell_registry.specs.Words.{has_ended}
 use Rattle.cell_registry.proofs.Calls.{owned-after}
@@ -186,7 +186,7 @@ next_more s g d A_ref = refs_more s g d
 next_more s g d A_deferred = deferreds_more s g d
 next_more s g d No_handle = omega arith
 
--- the ask for a call
+-- the ask for a call. No ask is for an exchange: in its place is one that stores in the same ref
 abbrev pub ask_for : Call → Ask
 ask_for Start = ask.Start
 ask_for (Cancel f) = ask.Cancel f
@@ -201,6 +201,7 @@ ask_for NewDeferred = ask.NewDeferred
 ask_for (Get r) = ask.Get r
 ask_for (Set r v) = ask.Set r v
 ask_for (Modify r v) = ask.Modify r v
+ask_for (Exchange r v n) = ask.Modify r n
 ask_for (Complete d v) = ask.Complete d v
 ask_for (Read d) = ask.Read d
 
@@ -231,11 +232,13 @@ pub off_ref : (r i : ℕ) (d : Call) → AskApart Stores r i (ask_for d) → Ask
 off_ref r i (Get j) stores gets = gets refl
 off_ref r i (Set j v) stores gets = stores refl
 off_ref r i (Modify j v) stores gets = stores refl
+off_ref r i (Exchange j v n) stores gets = stores refl
 off_ref r i _ stores gets = tt
 
 pub no_store_of : (r i : ℕ) (d : Call) → AskApart Stores r i (ask_for d) → IsNoStore r d
 no_store_of r i (Set j v) stores = stores refl
 no_store_of r i (Modify j v) stores = stores refl
+no_store_of r i (Exchange j v n) stores = stores refl
 no_store_of r i _ stores = tt
 
 pub no_fill_of : (r i : ℕ) (d : Call) → AskApart Completes r i (ask_for d) → IsNoFill r d
@@ -346,6 +349,7 @@ module _ (w : World) (f g : ℕ) (b : Fiber) (apart : g ≢ f) (at : slice_get w
     calm_called d is (Shared (Get r)) own = no_store_of r b.number d (asks_off Stores r own d is)
     calm_called d is (Shared (Set r v)) own = off_ref_so r own d is
     calm_called d is (Shared (Modify r v)) own = off_ref_so r own d is
+    calm_called d is (Shared (Exchange r v n)) own = off_ref_so r own d is
     calm_called d is (Shared (Complete i v)) own =
         elim (or_cases (is_completed w i) (is_own_deferred w f i) own) [
           | inl done ↦ inl (completed_so (deferred_of w.cells i) done)
@@ -438,6 +442,7 @@ module _ (w : World) (f g : ℕ) (b : Fiber) (apart : g ≢ f) (at : slice_get w
     kept_later a (Shared (Get r)) own = number_later Stores r own
     kept_later a (Shared (Set r x)) own = two_later Stores Gets r own
     kept_later a (Shared (Modify r x)) own = two_later Stores Gets r own
+    kept_later a (Shared (Exchange r x y)) own = two_later Stores Gets r own
     kept_later a (Shared (Complete i x)) own =
         elim (or_cases (is_completed w i) (is_own_deferred w f i) own) [
           | inl done ↦ or_first (is_completed then i) (is_own_deferred then f i) (completed_later i done)

@@ -9,7 +9,7 @@ use Rattle.cell_registry.specs.declared.limits.Limits.{Limits}
 use Rattle.cell_registry.specs.declared.limits.CellError.{CellError}
 use Rattle.cell_registry.specs.declared.limits.RunError.{RunError}
 use Rattle.cell_registry.specs.declared.call.Call.{Call}
-use Rattle.cell_registry.specs.declared.call.Call.TheVariants.{Modify, NewDeferred, NewRef, Set, Start}
+use Rattle.cell_registry.specs.declared.call.Call.TheVariants.{Exchange, Modify, NewDeferred, NewRef, Set, Start}
 use Rattle.cell_registry.specs.Cells.{Cells, after, refusal, reply_of}
 use Rattle.scheduled_core.specs.declared.wish.Wish.{Wish}
 use Rattle.scheduled_core.specs.declared.wish.Wish.TheVariants.{Shared, Alone, Nothing}
@@ -47,6 +47,7 @@ refs_after : (s : Cells) (f : ℕ) (d : Call) → IsStill d → (after s f d).re
 unfolding after
 refs_after s f (Set r v) still = absurd (cc)
 refs_after s f (Modify r v) still = absurd (cc)
+refs_after s f (Exchange r v n) still = absurd (cc)
 refs_after s f _ still = refl
 
 module _ (k : Limits) (w : World) (f : ℕ) where

@@ -10,7 +10,7 @@ use Rattle.std.proofs.lemmas.Option.{same_Some, slice_get_within}
 use mathlib.Core.Logic.{dite}
 use native.Mathlib.Decide.{ℕ_discrete}
 use Rattle.cell_registry.specs.declared.call.Call.{Call}
-use Rattle.cell_registry.specs.declared.call.Call.TheVariants.{Cancel, Join, Look, Finish, Get, Set, Modify, Complete, Read}
+use Rattle.cell_registry.specs.declared.call.Call.TheVariants.{Cancel, Join, Look, Finish, Get, Set, Modify, Exchange, Complete, Read}
 use Rattle.cell_registry.specs.Cells.{cell_of}
 use Rattle.fiber_frames.specs.declared.uses.Use.{Use}
 use Rattle.fiber_frames.specs.declared.uses.Use.TheVariants.{Cancels, Joins, Gets, Stores, Completes, Awaits}
@@ -298,6 +298,7 @@ module _ (w : World) where
     call_given (Get r) h = one_given Stores r h
     call_given (Set r v) h = two_given Stores Gets r h h
     call_given (Modify r v) h = two_given Stores Gets r h h
+    call_given (Exchange r v n) h = two_given Stores Gets r h h
     call_given (Complete d v) h = unless_given (is_completed w d) (needs_two Completes Awaits d) (two_given Completes Awaits d h h)
     call_given (Read d) h = unless_given (is_completed w d) (needs_one Completes d) (one_given Completes d h)
     call_given _ h = refl

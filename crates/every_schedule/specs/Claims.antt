@@ -4,7 +4,7 @@ use Rattle.std.specs.Prelude.{Option, Some, None, Result, Ok, Err, ℤ, int_le, 
 use Rattle.std.specs.List.{list_all, list_any}
 use Rattle.std.specs.List.{fold, slice_get}
 use Rattle.derived_ops.specs.Tree.{Tree}
-use Rattle.cell_registry.specs.declared.call.Call.TheVariants.{Set, Modify}
+use Rattle.cell_registry.specs.declared.call.Call.TheVariants.{Set, Modify, Exchange}
 use Rattle.cell_registry.specs.declared.limits.Limits.{Limits}
 use Rattle.cell_registry.specs.declared.limits.RunError.{RunError}
 use Rattle.cell_registry.specs.Cells.{Cells, ref_of}
@@ -88,10 +88,11 @@ is_seen seen _ = true
 abbrev pub are_seen : List ℕ → List ClaimWord → Bool
 are_seen seen words = list_all (is_seen seen) words
 
--- the ref that a move sets, or changes by an addition
+-- the ref that a move sets, or changes by an addition or an exchange
 abbrev pub stored_in : Wish → Option ℕ
 stored_in (Shared (Set r v)) = Some r
 stored_in (Shared (Modify r v)) = Some r
+stored_in (Shared (Exchange r v n)) = Some r
 stored_in _ = None
 
 abbrev pub stored_by : Option Fiber → Option ℕ

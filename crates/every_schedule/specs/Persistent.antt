@@ -5,7 +5,7 @@ use Rattle.std.specs.Prelude.{List, [], ◌∷◌, get_or, length, replicate, Op
 use Rattle.std.specs.List.{slice_get}
 use Rattle.cell_registry.specs.declared.call.Call.{Call}
 use Rattle.cell_registry.specs.declared.call.Call.TheVariants.{Start, Cancel, Join, Look, Mask, Unmask, Cut, Finish}
-use Rattle.cell_registry.specs.declared.call.Call.TheVariants.{NewRef, NewDeferred, Get, Set, Modify, Complete, Read}
+use Rattle.cell_registry.specs.declared.call.Call.TheVariants.{NewRef, NewDeferred, Get, Set, Modify, Exchange, Complete, Read}
 use Rattle.cell_registry.specs.declared.limits.RunError.{RunError}
 use Rattle.cell_registry.specs.Cells.{cell_of}
 use Rattle.cell_registry.specs.Words.{has_ended}
@@ -55,6 +55,7 @@ needs_of_call w f NewDeferred = needs_one MakesDeferreds 0
 needs_of_call w f (Get r) = needs_one Stores r
 needs_of_call w f (Set r v) = needs_two Stores Gets r
 needs_of_call w f (Modify r v) = needs_two Stores Gets r
+needs_of_call w f (Exchange r v n) = needs_two Stores Gets r
 needs_of_call w f (Complete d v) = needs_unless (is_completed w d) (needs_two Completes Awaits d)
 needs_of_call w f (Read d) = needs_unless (is_completed w d) (needs_one Completes d)
 

@@ -6,7 +6,7 @@ use Rattle.std.specs.Prelude.{Result, Ok, Err}
 use Rattle.std.specs.List.{slice_get}
 use Rattle.cell_registry.specs.declared.call.Call.{Call}
 use Rattle.cell_registry.specs.declared.call.Call.TheVariants.{Start, Cancel, Join, Look, Mask, Unmask, Cut, Finish}
-use Rattle.cell_registry.specs.declared.call.Call.TheVariants.{NewRef, NewDeferred, Get, Set, Modify, Complete, Read}
+use Rattle.cell_registry.specs.declared.call.Call.TheVariants.{NewRef, NewDeferred, Get, Set, Modify, Exchange, Complete, Read}
 use Rattle.cell_registry.specs.declared.limits.RunError.{RunError}
 use Rattle.cell_registry.specs.Cells.{Cells, cell_of, deferred_of}
 use Rattle.cell_registry.specs.Words.{has_ended}
@@ -65,6 +65,7 @@ abbrev pub IsNamed : Cells → Call → Type 0
 IsNamed s (Get r) = r < s.next_ref
 IsNamed s (Set r v) = r < s.next_ref
 IsNamed s (Modify r v) = r < s.next_ref
+IsNamed s (Exchange r v n) = r < s.next_ref
 IsNamed s (Complete d v) = d < s.next_deferred
 IsNamed s (Read d) = d < s.next_deferred
 IsNamed s _ = Unit {0}
@@ -102,6 +103,7 @@ is_own_call w f NewDeferred = false
 is_own_call w f (Get r) = is_kept Stores w f r
 is_own_call w f (Set r v) = is_own_ref w f r
 is_own_call w f (Modify r v) = is_own_ref w f r
+is_own_call w f (Exchange r v n) = is_own_ref w f r
 is_own_call w f (Complete d v) = is_completed w d || is_own_deferred w f d
 is_own_call w f (Read d) = is_completed w d
 

@@ -38,7 +38,7 @@ fn is_birth_call(current: &mut Current, by: u16, call: Call) -> bool
         Call::Cancel(_) | Call::Join(_) | Call::Get(_) | Call::Set(_, _) | Call::Modify(_, _) => {
             false
         }
-        Call::Complete(_, _) | Call::Read(_) => false,
+        Call::Exchange(_, _, _) | Call::Complete(_, _) | Call::Read(_) => false,
     }
 }
 

@@ -98,7 +98,9 @@ fn call_needs(current: &Current, by: u16, call: Call) -> Needs
         Call::NewRef => one(Use::MakesRefs, 0),
         Call::NewDeferred => one(Use::MakesDeferreds, 0),
         Call::Get(it) => one(Use::Stores, it),
-        Call::Set(it, _) | Call::Modify(it, _) => two(Use::Stores, Use::Gets, it),
+        Call::Set(it, _) | Call::Modify(it, _) | Call::Exchange(it, _, _) => {
+            two(Use::Stores, Use::Gets, it)
+        }
         Call::Complete(it, _) => unless(
             is_completed(current, it),
             two(Use::Completes, Use::Awaits, it),

@@ -74,6 +74,7 @@ pub fn stored_in(wish: Wish) -> Option<u16>
 {
     match wish {
         Wish::Shared(Call::Set(number, _)) | Wish::Shared(Call::Modify(number, _)) => Some(number),
+        Wish::Shared(Call::Exchange(number, _, _)) => Some(number),
         _ => None,
     }
 }
@@ -94,7 +95,7 @@ fn is_own_call(current: &mut Current, by: u16, call: Call) -> bool
         Call::Cancel(other) | Call::Join(other) => has_come_to_end(&*current, other),
         Call::Finish(_) => is_kept(&mut *current, Use::Joins, by, by) && is_left_alone(current, by),
         Call::Get(it) => is_kept(current, Use::Stores, by, it),
-        Call::Set(it, _) | Call::Modify(it, _) => {
+        Call::Set(it, _) | Call::Modify(it, _) | Call::Exchange(it, _, _) => {
             is_kept(&mut *current, Use::Stores, by, it) && is_kept(current, Use::Gets, by, it)
         }
         Call::Complete(it, _) => {

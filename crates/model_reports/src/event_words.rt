@@ -83,6 +83,9 @@ fn push_call(
         Call::Modify(number, value) => {
             push_modify(told, source, replay, number, value.get(), value_in(reply))
         }
+        Call::Exchange(number, old, value) => {
+            push_update(told, source, replay, number, old.get(), value.get())
+        }
         Call::Complete(number, value) => {
             push_complete(told, source, replay, number, value.get(), reply)
         }
@@ -164,6 +167,21 @@ fn push_modify(
     push_ref(told, source, replay, number)?;
     push_about(told, ": ", held)?;
     push_about(told, " -> ", sum(held, added))
+}
+
+// Adds an exchange, with the values of the ref before and after.
+fn push_update(
+    told: &mut Vec<u8>,
+    source: &Source,
+    replay: &Named,
+    number: u16,
+    old: i64,
+    value: i64,
+) -> Result<(), AllocError> {
+    push_word(told, "update ")?;
+    push_ref(told, source, replay, number)?;
+    push_about(told, ": ", old)?;
+    push_about(told, " -> ", value)
 }
 
 // Adds a completion, or that the deferred was completed before.

@@ -137,6 +137,7 @@ fn ref_of(event: &Event) -> Option<u16> {
         Deed::Called(Call::Get(number), _) => Some(number),
         Deed::Called(Call::Set(number, _), _) => Some(number),
         Deed::Called(Call::Modify(number, _), _) => Some(number),
+        Deed::Called(Call::Exchange(number, _, _), _) => Some(number),
         _ => None,
     }
 }

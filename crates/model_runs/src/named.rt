@@ -210,7 +210,8 @@ fn is_call_of_word(call: Call, mark: Option<Mark>) -> bool {
         Call::Look | Call::Cut | Call::Finish(_) => false,
         Call::Unmask => matches!(mark, Some(Mark::PollIn(_))),
         Call::NewRef | Call::NewDeferred | Call::Get(_) | Call::Set(_, _) => true,
-        Call::Modify(_, _) | Call::Complete(_, _) | Call::Read(_) => true,
+        Call::Modify(_, _) | Call::Exchange(_, _, _) => true,
+        Call::Complete(_, _) | Call::Read(_) => true,
     }
 }
 

@@ -20,7 +20,7 @@ fn is_copied(alloc: Global, call: &Call, changes: bool) -> Result<bool, AllocErr
 
 // Calls of fiber 0 in a new registry of two fibers, one ref and one deferred, and whether each changes it. The cell of
 // a fiber notes a request and a wait, whether or not the fiber was started.
-fn calls() -> [(Call, bool); 11] {
+fn calls() -> [(Call, bool); 13] {
     let one = Value::from_i32(1);
     [
         (Call::Cancel(0), true),
@@ -32,6 +32,8 @@ fn calls() -> [(Call, bool); 11] {
         (Call::Set(0, Value::ZERO), false),
         (Call::Set(0, one), true),
         (Call::Modify(0, Value::MIN), true),
+        (Call::Exchange(0, Value::ZERO, Value::ZERO), false),
+        (Call::Exchange(0, Value::ZERO, one), true),
         (Call::Complete(0, Value::ZERO), true),
         (Call::Read(0), false),
     ]

@@ -12,6 +12,8 @@ mod control_words;
 #[cfg(test)]
 mod copies;
 #[cfg(test)]
+mod exchanges;
+#[cfg(test)]
 mod four_threads;
 #[cfg(test)]
 mod plain_registry;

@@ -38,6 +38,7 @@ pub(crate) fn answer(
         Call::Get(_)
         | Call::Set(_, _)
         | Call::Modify(_, _)
+        | Call::Exchange(_, _, _)
         | Call::Complete(_, _)
         | Call::Read(_) => { value_answer(registry, call) }
         _ => None,
@@ -58,6 +59,13 @@ fn value_answer(registry: &mut PlainRegistry, call: &Call) -> Option<Result<Repl
         Call::Modify(_, value) => {
             let _ = value.get();
             Some(Ok(Reply::Value(registry.modify(0, 0, *value))))
+        }
+        Call::Exchange(_, old, value) => {
+            let _ = value.get();
+            if registry.get(0, 0) != *old {
+                return None;
+            }
+            Some(Ok(Reply::Value(registry.exchange(0, 0, *old, *value))))
         }
         Call::Complete(_, value) => {
             let _ = value.get();
@@ -197,6 +205,43 @@ fn values_are_kept(alloc: Global) -> Result<bool, AllocError> {
 #[test]
 fn refs_wrap_and_deferreds_fill_once(rt: HostRuntime) -> Result<(), AllocError> {
     assert!(rt; values_are_kept(rt.alloc())?);
+    Ok(())
+}
+
+// Exchanges up to both edges of the range. The last addition wraps.
+fn exchanges() -> [Row; 7] {
+    let minus_one = Value::from_i32(-1);
+    [
+        (
+            Call::Exchange(0, Value::ZERO, Value::MAX),
+            Ok(Reply::Value(Value::ZERO)),
+        ),
+        (
+            Call::Exchange(0, Value::MAX, Value::MAX),
+            Ok(Reply::Value(Value::MAX)),
+        ),
+        (
+            Call::Exchange(0, Value::MAX, Value::MIN),
+            Ok(Reply::Value(Value::MAX)),
+        ),
+        (Call::Get(0), Ok(Reply::Value(Value::MIN))),
+        (Call::Modify(0, minus_one), Ok(Reply::Value(Value::MIN))),
+        (
+            Call::Exchange(0, Value::MAX, minus_one),
+            Ok(Reply::Value(Value::MAX)),
+        ),
+        (Call::Get(0), Ok(Reply::Value(minus_one))),
+    ]
+}
+
+fn exchanges_are_answered(alloc: Global) -> Result<bool, AllocError> {
+    let mut registry = two_fibers(alloc, 1)?;
+    Ok(are_answered(&mut registry, &exchanges()))
+}
+
+#[test]
+fn exchanges_reach_both_edges(rt: HostRuntime) -> Result<(), AllocError> {
+    assert!(rt; exchanges_are_answered(rt.alloc())?);
     Ok(())
 }
 

@@ -7,6 +7,7 @@ ghost use Rattle.cell_registry.specs.Passes.{IsOf};
 
 use crate::answers::{done, numbered};
 use cell_registry::{Call, CellError, Outcome, Pass, Registry, Reply, Stage};
+use effect_term::Value;
 use std::alloc::{AllocError, Global};
 
 /// The fiber that calls, 0 or 1, the call, and the result. The only ref and the only deferred have the number 0.
@@ -124,6 +125,24 @@ fn own_answer(registry: &Registry, pass: &mut Pass, call: &Call) -> Option<Resul
     }
 }
 
+// The result of an exchange on ref 0; `None` if the ref doesn't hold the first value, or the attempt fails.
+fn exchange(
+    registry: &Registry,
+    pass: &mut Pass,
+    old: Value,
+    value: Value,
+) -> Option<Result<Reply, CellError>>
+    requires own { IsOf registry.now pass.old }
+    requires refs { registry.now.limits.refs ≡ 1 }
+    ensures own { IsOf registry.now pass.new }
+{
+    let observed = registry.observe(pass, 0);
+    if observed.value() != old || !registry.exchange(pass, 0, observed, value) {
+        return None;
+    }
+    Some(Ok(Reply::Value(old)))
+}
+
 // The result of a call on ref 0 or deferred 0; `None` for any other call.
 fn value_answer(
     registry: &Registry,
@@ -141,6 +160,7 @@ fn value_answer(
             Some(Ok(Reply::Done))
         }
         Call::Modify(_, value) => Some(Ok(Reply::Value(registry.modify(pass, 0, *value)))),
+        Call::Exchange(_, old, value) => exchange(registry, pass, *old, *value),
         Call::Complete(_, value) => Some(Ok(Reply::Completed(registry.complete(pass, 0, *value)))),
         Call::Read(_) => Some(Ok(Reply::Read(registry.read(pass, 0)))),
         _ => None,
@@ -172,6 +192,7 @@ fn answer(registry: &Registry, pass: &mut Pass, call: &Call) -> Option<Result<Re
         Call::Get(_)
         | Call::Set(_, _)
         | Call::Modify(_, _)
+        | Call::Exchange(_, _, _)
         | Call::Complete(_, _)
         | Call::Read(_) => { value_answer(registry, pass, call) }
         _ => own_answer(registry, pass, call),

@@ -90,8 +90,46 @@ fn two_threads_start_and_cancel_at_once(rt: HostRuntime) -> Result<(), AllocErro
     Ok(())
 }
 
+// Adds 1 to ref 0 by an exchange. Returns the old value, or -1 if 1001 attempts failed: the other thread makes only
+// 1000 calls that change the ref, and behind each failed attempt is one of these.
+fn exchange(registry: &Registry, pass: &mut Pass) -> i64
+    requires own { IsOf registry.now pass.old }
+    requires some_ref { 0 < registry.now.limits.refs }
+    ensures own { IsOf registry.now pass.new }
+{
+    for _ in 0..1001 {
+        let observed = registry.observe(pass, 0);
+        let old = observed.value().get();
+        let Some(sum) = Value::of(old.saturating_add(1)) else {
+            return -1;
+        };
+        if registry.exchange(pass, 0, observed, sum) {
+            return old;
+        }
+    }
+    -1
+}
+
+// Adds 1 to ref 0, by an exchange or by a `modify`. Returns the old value.
+fn add(registry: &Registry, pass: &mut Pass, exchanges: bool) -> i64
+    requires own { IsOf registry.now pass.old }
+    requires some_ref { 0 < registry.now.limits.refs }
+    ensures own { IsOf registry.now pass.new }
+{
+    if exchanges {
+        exchange(registry, pass)
+    } else {
+        registry.modify(pass, 0, Value::from_i32(1)).get()
+    }
+}
+
 // Adds 1 to ref 0 a thousand times. Returns the old values.
-fn add_often(alloc: Global, registry: &Registry, pass: Pass) -> Result<(Pass, Vec<i64>), AllocError>
+fn add_often(
+    alloc: Global,
+    registry: &Registry,
+    pass: Pass,
+    exchanges: bool,
+) -> Result<(Pass, Vec<i64>), AllocError>
     requires own { IsOf registry.now pass }
     requires some_ref { 0 < registry.now.limits.refs }
     ensures { IfOk result (λ r. IsOf registry.now r.0) }
@@ -99,33 +137,36 @@ fn add_often(alloc: Global, registry: &Registry, pass: Pass) -> Result<(Pass, Ve
     let mut pass = pass;
     let mut olds = Vec::new(alloc);
     for _ in 0..1000 {
-        olds.push(registry.modify(&mut pass, 0, Value::from_i32(1)).get())?;
+        olds.push(add(registry, &mut pass, exchanges))?;
     }
     Ok((pass, olds))
 }
 
-// Two threads add to ref 0 at once. Returns the pass that has met both, and their old values.
+// Two threads add to ref 0 at once, each by exchanges or by `modify`. Returns the pass that has met both, and their old
+// values.
 fn add_at_once<R: Threads + Sync>(
     rt: &R,
     alloc: Global,
     registry: &Registry,
     parent: Pass,
     child: Pass,
+    exchanges: (bool, bool),
 ) -> Result<(Pass, Vec<i64>, Vec<i64>), AllocError>
     requires own { IsOf registry.now parent × IsOf registry.now child }
     requires some_ref { 0 < registry.now.limits.refs }
     ensures { IfOk result (λ r. IsOf registry.now r.0) }
 {
+    let (parents, childs) = exchanges;
     let (first, second) = thread::join(
         rt,
         move || -> Result<(Pass, Vec<i64>), AllocError>
             requires { IsOf registry.now parent × (0 < registry.now.limits.refs) }
             ensures { IfOk result (λ r. IsOf registry.entry.now r.0) }
-        { add_often(alloc, registry, parent) },
+        { add_often(alloc, registry, parent, parents) },
         move || -> Result<(Pass, Vec<i64>), AllocError>
             requires { IsOf registry.now child × (0 < registry.now.limits.refs) }
             ensures { IfOk result (λ r. IsOf registry.entry.now r.0) }
-        { add_often(alloc, registry, child) },
+        { add_often(alloc, registry, child, childs) },
     );
     let (first, olds) = first?;
     let (second, others) = second?;
@@ -147,19 +188,33 @@ fn are_all_below(alloc: Global, first: &[i64], second: &[i64]) -> Result<bool, A
     Ok(olds.len() == 2000)
 }
 
-fn updates_are_kept<R: Threads + Sync>(rt: &R, alloc: Global) -> Result<bool, AllocError> {
+// The ref holds 0 under the highest bit of its word, which an exchange has to seek, too.
+fn updates_are_kept<R: Threads + Sync>(
+    rt: &R,
+    alloc: Global,
+    exchanges: (bool, bool),
+) -> Result<bool, AllocError> {
     let (registry, mut parent) = Registry::new(alloc, 2, 1, 1, 1)?;
     let made = registry.new_ref(&mut parent) == Ok(0);
+    registry.modify(&mut parent, 0, Value::from_i32(-1));
+    registry.modify(&mut parent, 0, Value::from_i32(1));
     let Ok(child) = registry.start(&mut parent) else {
         return Ok(false);
     };
-    let (mut met, olds, others) = add_at_once(rt, alloc, &registry, parent, child)?;
+    let (mut met, olds, others) = add_at_once(rt, alloc, &registry, parent, child, exchanges)?;
     let left = registry.get(&mut met, 0) == Value::from_i32(2000);
     Ok(made && left && are_all_below(alloc, &olds, &others)?)
 }
 
 #[test]
 fn two_threads_lose_no_update(rt: HostRuntime) -> Result<(), AllocError> {
-    assert!(rt; updates_are_kept(&rt, rt.alloc())?);
+    assert!(rt; updates_are_kept(&rt, rt.alloc(), (false, false))?);
+    Ok(())
+}
+
+#[test]
+fn two_threads_lose_no_exchange(rt: HostRuntime) -> Result<(), AllocError> {
+    assert!(rt; updates_are_kept(&rt, rt.alloc(), (true, true))?);
+    assert!(rt; updates_are_kept(&rt, rt.alloc(), (true, false))?);
     Ok(())
 }

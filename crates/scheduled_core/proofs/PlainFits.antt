@@ -5,7 +5,7 @@ use Rattle.fiber_frames.specs.{declared.ask.{Ask.Ask, Look.{Look, TheVariants.{D
 use Rattle.fiber_frames.{specs.{Leading.{Runs_term, depth_of, way_of}, Naming.NumberGiven}, proofs.NamedMoves.run_more}
 use Rattle.cell_registry.specs.declared.{cell.{Stage.{Stage, TheVariants.Finalizing}, Cell.Cell}, call.Call.Call, limits.Band.TheVariants.{Fibers, Refs}}
 use Rattle.cell_registry.specs.{declared.limits.{Band.TheVariants.Deferreds, Limits.Limits}, Cells.{Cells, IsAllowed, IsSound, after, awaited, cell_of, cut}}
-use Rattle.cell_registry.{specs.Cells.{finished, fresh, masked, owned, reply_of, requested, unmasked}, proofs.Calls.{next_of-rises, owned-after}}
+use Rattle.cell_registry.{specs.Cells.{finished, fresh, masked, owned, ref_of, reply_of, requested, unmasked}, proofs.Calls.{next_of-rises, owned-after}}
 use Rattle.cell_registry.proofs.Lists.{get_or-set_kept}
 use Rattle.scheduled_core.specs.{declared.wish.Wish.TheVariants.Shared, Core.wish_of, Permits.{IsInRange, Permits, count_after, depth_after, registered_after}}
 use Rattle.scheduled_core.specs.{Permits.{saw_after, stage_after}, Fitting.{DepthFits, Fits, LookFits, Registered, cell_registered, given_by}}
@@ -120,17 +120,31 @@ plain_other s by c i g apart f =
     (request_stays s by c i)
 
 -- ---- the condition of the call
-allowed : (k : Limits) (s : Cells) (i : ℕ) (c : Call) → IsInRange c → Permits k (cell_registered s i) c → IsAllowed k s i c
+-- the ref of an exchange holds the first value
+abbrev Holds : Cells → Call → Type 0
+Holds s (call.Exchange r v n) = ref_of s r ≡ v
+Holds s _ = Unit {0}
+
+-- no ask wishes an exchange
+holds_by_ask : (s : Cells) (a : Ask) → If_shared (wish_of a) (Holds s)
+holds_by_ask s ask.Silent = tt
+holds_by_ask s (ask.Over o) = tt
+holds_by_ask s ask.Broken = tt
+holds_by_ask s _ = tt
+
+allowed : (k : Limits) (s : Cells) (i : ℕ) (c : Call) → IsInRange c → Permits k (cell_registered s i) c → Holds s c → IsAllowed k s i c
 unfolding IsAllowed
-allowed k s i (call.Set r v) x h = (h, x)
-allowed k s i (call.Modify r v) x h = (h, x)
-allowed k s i (call.Complete d v) x h = (h, x)
-allowed k s i call.NewRef x h = tt
-allowed k s i call.NewDeferred x h = tt
-allowed k s i _ x h = h
+allowed k s i (call.Set r v) x h held = (h, x)
+allowed k s i (call.Modify r v) x h held = (h, x)
+allowed k s i (call.Exchange r v n) x h held = (h, x.1, held)
+allowed k s i (call.Complete d v) x h held = (h, x)
+allowed k s i call.NewRef x h held = tt
+allowed k s i call.NewDeferred x h held = tt
+allowed k s i _ x h held = h
 
 pub plain_allowed : (k : Limits) (s : Cells) (i : ℕ) (g : Fiber) (c : Call) → IsSound k s → Fits (cell_registered s i) g → Asking g →
     wish_of (ask_of g) ≡ Shared c → IsInRange c → IsAllowed k s i c
 plain_allowed k s i g c sound f h w x =
     allowed k s i c x (permitted k (cell_registered s i)
     (record { fibers = sound.next_fiber; refs = sound.next_ref; deferreds = sound.next_deferred }) g f h c w x)
+    (at_call (wish_of (ask_of g)) c (Holds s) w (holds_by_ask s (ask_of g)))

@@ -23,10 +23,12 @@ abbrev pub IsInRange : Call → Type 0
 IsInRange (call.Finish o) = OutcomeFits o
 IsInRange (call.Set r v) = IsValue v
 IsInRange (call.Modify r v) = IsValue v
+IsInRange (call.Exchange r v n) = IsValue v × IsValue n
 IsInRange (call.Complete d v) = IsValue v
 IsInRange _ = Unit {0}
 
--- the condition of a call by a fiber with this registration
+-- the condition of a call by a fiber with this registration. An exchange has one more, that its ref holds its first
+-- value, which isn't registered of a fiber
 abbrev pub Permits : Limits → Registered → Call → Type 0
 Permits k p call.Start = IsOpen p.stage
 Permits k p (call.Cancel f) = f < k.fibers
@@ -41,6 +43,7 @@ Permits k p call.NewDeferred = Unit {0}
 Permits k p (call.Get r) = r < k.refs
 Permits k p (call.Set r v) = r < k.refs
 Permits k p (call.Modify r v) = r < k.refs
+Permits k p (call.Exchange r v n) = r < k.refs
 Permits k p (call.Complete d v) = d < k.deferreds
 Permits k p (call.Read d) = d < k.deferreds
 

@@ -250,6 +250,9 @@ pub fn answer(registry: &mut PlainRegistry, by: u16, call: Call) -> Result<Reply
             Ok(Reply::Done)
         }
         Call::Modify(number, value) => Ok(Reply::Value(registry.modify(by, number, value))),
+        Call::Exchange(number, old, value) => Ok(Reply::Value(registry.exchange(
+            by, number, old, value,
+        ))),
         Call::Complete(number, value) => Ok(Reply::Completed(registry.complete(by, number, value))),
         Call::Read(number) => Ok(Reply::Read(registry.read(by, number))),
     }

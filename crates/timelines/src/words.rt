@@ -79,6 +79,7 @@ fn push_cells(text: &mut String, call: Call, reply: Reply) -> Result<(), AllocEr
         Call::Get(number) => push_about(text, "get ref ", number, ": ", value_in(reply)),
         Call::Set(number, value) => push_about(text, "set ref ", number, ": ", value.get()),
         Call::Modify(number, value) => push_modify(text, number, value.get(), value_in(reply)),
+        Call::Exchange(number, old, value) => push_update(text, number, old.get(), value.get()),
         Call::Complete(number, value) => push_complete(text, number, value.get(), reply),
         Call::Read(number) => push_read(text, number, reply),
         _ => Ok(()),
@@ -97,6 +98,12 @@ fn value_in(reply: Reply) -> i64 {
 fn push_modify(text: &mut String, number: u16, added: i64, old: i64) -> Result<(), AllocError> {
     push_about(text, "modify ref ", number, ": ", old)?;
     push_number(text, " -> ", sum(old, added))
+}
+
+// An exchange, with the ref's values before and after.
+fn push_update(text: &mut String, number: u16, old: i64, value: i64) -> Result<(), AllocError> {
+    push_about(text, "update ref ", number, ": ", old)?;
+    push_number(text, " -> ", value)
 }
 
 // A completion, or that the deferred was completed before.
