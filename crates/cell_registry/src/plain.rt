@@ -1,6 +1,6 @@
 //! The registry for one thread.
 ghost use Rattle.std.specs.Prelude.{◌≡◌, ◌≢◌, ◌+◌, ◌<◌, is_none, length, IfErr, IfOk, false, true};
-ghost use Rattle.cell_registry.specs.Cells.{AreLimits, Cells, cell_of, deferred_of, without_counts, without_waits};
+ghost use Rattle.cell_registry.specs.Cells.{AreLimits, Cells, cell_of, deferred_of, ref_of, without_counts, without_waits};
 ghost use Rattle.cell_registry.specs.Words.{has_ended};
 ghost use Rattle.cell_registry.specs.Private.Shown.{Shows};
 ghost use Rattle.cell_registry.specs.Plain.{new_plain, IsPlain, MayCall, IsMade, IsRefused};
@@ -165,6 +165,14 @@ impl PlainRegistry {
     {
         let at = usize::from(number);
         self.deferreds[at].is_none()
+    }
+
+    /// The value of a ref, whose number is below the limit. This isn't a call of the registry.
+    pub fn value(&self, number: u16) -> Value
+        requires within { number < self.now.limits.refs }
+        ensures value { result ≡ ref_of self.now.state number }
+    {
+        self.refs[usize::from(number)]
     }
 
     /// Starts a fiber, and returns its number. The caller hasn't ended. Returns `Full` if all fibers were started.

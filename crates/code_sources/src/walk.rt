@@ -137,7 +137,7 @@ fn spread_parts(
         Word::Cede | Word::Never | Word::Canceled | Word::Cancel => plain(tasks, place, &[]),
         Word::Get | Word::Set | Word::Modify => plain(tasks, place, &[]),
         Word::Complete | Word::Await | Word::Seq => plain(tasks, place, &[]),
-        Word::Uncancelable | Word::Poll | Word::Ref | Word::Deferred => {
+        Word::Uncancelable | Word::Poll | Word::Update | Word::Ref | Word::Deferred => {
             plain(tasks, place, &[first])
         }
         Word::Repeat | Word::Forever => plain(tasks, place, &[first]),

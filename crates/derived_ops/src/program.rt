@@ -1,6 +1,7 @@
 //! The program of a term, whose limits are those of its expansion.
 
-ghost use Rattle.std.specs.Prelude.{◌≡◌, [], IfErr, IfOk, IsOkUnless, OnOk};
+ghost use Rattle.std.specs.Prelude.{◌≡◌, [], true, IfErr, IfOk, IsOkUnless, OnOk};
+ghost use Rattle.effect_term.specs.EffectFree.{has_pure_updates};
 ghost use Rattle.effect_term.specs.ExpansionSize.{expansion_size_of};
 ghost use Rattle.effect_term.specs.Kinds.{WellKinded};
 ghost use Rattle.effect_term.specs.Masks.{masks_of};
@@ -22,7 +23,7 @@ pub fn program_of(alloc: Global, term: Term) -> Result<Program, TermError>
     ensures found { OnOk result (IsProgram term) }
     ensures only { IsProgram term → IsOkUnless result TermError.NoMemory }
     ensures refused { IfErr result (IsRefusal term) }
-    ensures limits { WellKinded [] term → IfErr result (IsPastLimit term) }
+    ensures limits { WellKinded [] term → has_pure_updates term ≡ true → IfErr result (IsPastLimit term) }
 
     // Whatever the result is, the counts that decide it are those of the expansion.
     ensures masks { masks_of term ≡ masks (code_of (source_of term)) }

@@ -64,7 +64,7 @@ fn wants_mask(wish: Wish) -> bool
 {
     match wish {
         Wish::Shared(call) => is_mask_call(call),
-        Wish::Alone | Wish::Nothing => false,
+        Wish::Updates(_) | Wish::Alone | Wish::Nothing => false,
     }
 }
 
@@ -104,6 +104,9 @@ fn is_own(world: &CoreWorld, by: u16, fiber: &Config) -> bool
     match Wish::of(fiber.ask()) {
         Wish::Alone => !fiber.waits_alone(),
         Wish::Nothing => false,
+        Wish::Updates(it) => {
+            is_kept(world, Use::Stores, by, it) && is_kept(world, Use::Gets, by, it)
+        }
         Wish::Shared(call) => is_own_call(world, by, call),
     }
 }
@@ -170,7 +173,7 @@ fn has_come_to_end(world: &CoreWorld, fiber: u16) -> bool
         None => false,
         Some(it) => match Wish::of(it.ask()) {
             Wish::Nothing => world.registry().has_ended(fiber),
-            Wish::Shared(_) | Wish::Alone => false,
+            Wish::Shared(_) | Wish::Updates(_) | Wish::Alone => false,
         },
     }
 }

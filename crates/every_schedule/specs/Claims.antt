@@ -10,7 +10,7 @@ use Rattle.cell_registry.specs.declared.limits.RunError.{RunError}
 use Rattle.cell_registry.specs.Cells.{Cells, ref_of}
 use Rattle.fiber_frames.specs.Fiber.{Fiber, ask_of}
 use Rattle.scheduled_core.specs.declared.wish.Wish.{Wish}
-use Rattle.scheduled_core.specs.declared.wish.Wish.TheVariants.{Shared}
+use Rattle.scheduled_core.specs.declared.wish.Wish.TheVariants.{Shared, Updates}
 use Rattle.scheduled_core.specs.Core.{World, core, entered, first_world, wish_of}
 use Rattle.every_schedule.specs.declared.claims.ClaimWord.{ClaimWord}
 use Rattle.every_schedule.specs.declared.claims.ClaimWord.TheVariants.{Compare, Not, And, Or, Deadlock, Left, Final}
@@ -88,11 +88,12 @@ is_seen seen _ = true
 abbrev pub are_seen : List ℕ → List ClaimWord → Bool
 are_seen seen words = list_all (is_seen seen) words
 
--- the ref that a move sets, or changes by an addition or an exchange
+-- the ref that a move sets, or changes by an addition, an exchange or an `update`
 abbrev pub stored_in : Wish → Option ℕ
 stored_in (Shared (Set r v)) = Some r
 stored_in (Shared (Modify r v)) = Some r
 stored_in (Shared (Exchange r v n)) = Some r
+stored_in (Updates r) = Some r
 stored_in _ = None
 
 abbrev pub stored_by : Option Fiber → Option ℕ

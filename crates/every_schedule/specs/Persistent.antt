@@ -15,7 +15,7 @@ use Rattle.fiber_frames.specs.declared.uses.Use.TheVariants.{Starts, MakesRefs, 
 use Rattle.fiber_frames.specs.Fiber.{Fiber, ask_of, waits_alone}
 use Rattle.fiber_frames.specs.Uses.{is_some, used_place, uses_in}
 use Rattle.scheduled_core.specs.declared.wish.Wish.{Wish}
-use Rattle.scheduled_core.specs.declared.wish.Wish.TheVariants.{Shared, Alone, Nothing}
+use Rattle.scheduled_core.specs.declared.wish.Wish.TheVariants.{Shared, Updates, Alone, Nothing}
 use Rattle.scheduled_core.specs.Core.{World, wish_of}
 use Rattle.every_schedule.specs.declared.leaping.AtOnce.{AtOnce}
 use Rattle.every_schedule.specs.declared.needs.Needs.{Needs}
@@ -61,6 +61,7 @@ needs_of_call w f (Read d) = needs_unless (is_completed w d) (needs_one Complete
 
 abbrev pub needs_of : World → ℕ → Wish → Needs
 needs_of w f (Shared c) = needs_of_call w f c
+needs_of w f (Updates r) = needs_two Stores Gets r
 needs_of w f _ = no_needs
 
 abbrev pub needs_in : World → ℕ → Option Fiber → Needs
@@ -130,6 +131,7 @@ abbrev pub is_ready : World → Fiber → Wish → Bool
 is_ready w g (Shared (Join i)) = has_come_to_end w i
 is_ready w g (Shared (Read d)) = is_completed w d
 is_ready w g (Shared c) = true
+is_ready w g (Updates r) = true
 is_ready w g Alone = not (waits_alone g)
 is_ready w g Nothing = false
 

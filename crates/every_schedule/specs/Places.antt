@@ -6,7 +6,7 @@ use Rattle.cell_registry.specs.declared.limits.RunError.{RunError}
 use Rattle.cell_registry.specs.Cells.{without_waits}
 use Rattle.fiber_frames.specs.Fiber.{Fiber, ask_of}
 use Rattle.scheduled_core.specs.declared.wish.Wish.{Wish}
-use Rattle.scheduled_core.specs.declared.wish.Wish.TheVariants.{Shared, Alone, Nothing}
+use Rattle.scheduled_core.specs.declared.wish.Wish.TheVariants.{Shared, Updates, Alone, Nothing}
 use Rattle.scheduled_core.specs.declared.report.Report.{Report}
 use Rattle.derived_ops.specs.Tree.{Tree}
 use Rattle.scheduled_core.specs.Core.{World, entered, fiber_report, first_world, wish_of}
@@ -44,6 +44,7 @@ bared (Err e) = Err e
 -- a fiber is born and has a next move
 abbrev pub wants : Wish → Bool
 wants (Shared c) = true
+wants (Updates r) = true
 wants Alone = true
 wants Nothing = false
 

@@ -18,7 +18,7 @@ use Rattle.fiber_frames.specs.declared.uses.Use.TheVariants.{Starts, MakesRefs, 
 use Rattle.fiber_frames.specs.Fiber.{Fiber, ask_of, waits_alone}
 use Rattle.fiber_frames.specs.Uses.{is_some, used_place, uses_in}
 use Rattle.scheduled_core.specs.declared.wish.Wish.{Wish}
-use Rattle.scheduled_core.specs.declared.wish.Wish.TheVariants.{Shared, Alone, Nothing}
+use Rattle.scheduled_core.specs.declared.wish.Wish.TheVariants.{Shared, Updates, Alone, Nothing}
 use Rattle.scheduled_core.specs.Core.{World, wish_of}
 use Rattle.every_schedule.specs.declared.leaping.AtOnce.{AtOnce}
 use Rattle.every_schedule.specs.Claims.{stored_by}
@@ -110,6 +110,7 @@ is_own_call w f (Read d) = is_completed w d
 -- a move of fiber f with this wish is an own move: its call is one, or it has no call and isn't that of a `never`
 abbrev pub is_own : World → ℕ → Fiber → Wish → Bool
 is_own w f g (Shared c) = is_own_call w f c
+is_own w f g (Updates r) = is_own_ref w f r
 is_own w f g Alone = not (waits_alone g)
 is_own w f g Nothing = false
 

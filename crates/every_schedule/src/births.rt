@@ -20,7 +20,7 @@ pub(crate) fn is_birth(current: &mut Current, by: u16) -> bool
 {
     match current.wish(usize::from(by)) {
         Wish::Shared(call) => is_birth_call(current, by, call),
-        Wish::Alone | Wish::Nothing => false,
+        Wish::Updates(_) | Wish::Alone | Wish::Nothing => false,
     }
 }
 

@@ -48,7 +48,7 @@ fn moves(fibers: &[Config], fiber: u16) -> bool
     match fibers.get(usize::from(fiber)) {
         None => false,
         Some(it) => match Wish::of(it.ask()) {
-            Wish::Shared(_) | Wish::Alone => true,
+            Wish::Shared(_) | Wish::Updates(_) | Wish::Alone => true,
             Wish::Nothing => false,
         },
     }

@@ -27,9 +27,9 @@ use crate::known::{Known, Owned, weight_of};
 use crate::pool::{Pool, Pooled};
 use crate::turns::{Said, Turn, Turns, reply_said, told};
 use cell_registry::{Limits, PlainRegistry, RunError};
-use effect_term::facts_of;
+use effect_term::{Reply, facts_of};
 use fiber_frames::{Config, Moved, Use};
-use scheduled_core::{Wish, answer, fault};
+use scheduled_core::{Wish, answer, fault, update_ref};
 use std::alloc::{AllocError, Global};
 use std::marker::Model;
 
@@ -383,7 +383,8 @@ fn replied(config: &Config, registry: &mut PlainRegistry, fiber: u16) -> Result<
     requires moves { moves_at (Some config.now) ≡ true }
     ensures said { IfOk result IsSaid }
     ensures made { IfOk result (λ said. Replied registry.old fiber config.now (reply_of said) registry.new) }
-    ensures refused { IfErr result (λ e. (registry.new ≡ registry.old) × Refuses registry.old fiber config.now e) }
+    ensures refused { IfErr result (λ e. (registry.new ≡ registry.old) ×
+        ((e ≡ RunError.NoMemory) ⊎ Refuses registry.old fiber config.now e)) }
     ensures asks { Asking config.now }
     ensures lawful { IsPlain registry.old }
 {
@@ -394,6 +395,10 @@ fn replied(config: &Config, registry: &mut PlainRegistry, fiber: u16) -> Result<
             Ok(reply) => Ok(told(reply)),
             Err(error) => Err(fault(fiber, error)),
         },
+        Wish::Updates(number) => {
+            let (old, _) = update_ref(config, registry, number)?;
+            Ok(told(Reply::Value(old)))
+        }
         Wish::Alone | Wish::Nothing => Ok(Said::Done),
     }
 }

@@ -32,7 +32,7 @@ fn frames_in(term: &Term) -> u64 {
     match term {
         Term::Pure(_) | Term::Raise(_) | Term::Add(_, _) | Term::Calculate(_, _, _) => 0,
         Term::Say(_) | Term::Cede | Term::Never | Term::Canceled | Term::Cancel(_) => 0,
-        Term::Get(_) | Term::Set(_, _) | Term::Modify(_, _) => 0,
+        Term::Get(_) | Term::Set(_, _) | Term::Modify(_, _) | Term::Update(_, _) => 0,
         Term::Complete(_, _) | Term::Await(_) => 0,
         Term::Ref(_, e) | Term::Deferred(e) => frames_in(e),
         Term::Uncancelable(e) | Term::Poll(_, e) => around(1, frames_in(e), 0),

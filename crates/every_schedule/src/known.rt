@@ -106,6 +106,7 @@ fn owned_by(wish: Wish, waits_alone: bool) -> Owned
                 Owned::Always
             }
         }
+        Wish::Updates(_) => Owned::Sometimes,
         Wish::Shared(call) => owned_by_call(call),
     }
 }

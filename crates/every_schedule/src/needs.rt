@@ -62,6 +62,7 @@ pub(crate) fn needs_of(current: &Current, by: u16) -> Needs
 {
     match current.wish(usize::from(by)) {
         Wish::Shared(call) => call_needs(current, by, call),
+        Wish::Updates(it) => two(Use::Stores, Use::Gets, it),
         Wish::Alone | Wish::Nothing => NONE,
     }
 }
@@ -182,6 +183,7 @@ pub(crate) fn is_ready_at(current: &Current, place: usize) -> bool
         Wish::Nothing => false,
         Wish::Alone => !current.waits_alone(place),
         Wish::Shared(call) => is_served(current, call),
+        Wish::Updates(_) => true,
     }
 }
 

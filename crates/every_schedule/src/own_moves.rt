@@ -9,6 +9,7 @@ ghost use Rattle.every_schedule.specs.Reduced.{IsNamed, has_come_to_end as has_e
 ghost use Rattle.every_schedule.specs.Reduced.{is_completed as is_filled, is_kept as is_own_number};
 ghost use Rattle.every_schedule.specs.Private.Standing.{IsSame, here};
 ghost use Rattle.every_schedule.specs.Reduced.{is_left_alone as has_no_other, is_own_call as is_so};
+ghost use Rattle.every_schedule.specs.Reduced.{is_own_ref as is_ref_own};
 
 use crate::core_world::CoreWorld;
 use crate::current::Current;
@@ -46,6 +47,7 @@ fn is_own_now(current: &mut Current, by: u16) -> bool
     match current.wish(place) {
         Wish::Alone => !current.waits_alone(place),
         Wish::Nothing => false,
+        Wish::Updates(it) => is_own_ref(current, by, it),
         Wish::Shared(call) => is_own_call(current, by, call),
     }
 }
@@ -74,7 +76,7 @@ pub fn stored_in(wish: Wish) -> Option<u16>
 {
     match wish {
         Wish::Shared(Call::Set(number, _)) | Wish::Shared(Call::Modify(number, _)) => Some(number),
-        Wish::Shared(Call::Exchange(number, _, _)) => Some(number),
+        Wish::Shared(Call::Exchange(number, _, _)) | Wish::Updates(number) => Some(number),
         _ => None,
     }
 }
@@ -96,7 +98,7 @@ fn is_own_call(current: &mut Current, by: u16, call: Call) -> bool
         Call::Finish(_) => is_kept(&mut *current, Use::Joins, by, by) && is_left_alone(current, by),
         Call::Get(it) => is_kept(current, Use::Stores, by, it),
         Call::Set(it, _) | Call::Modify(it, _) | Call::Exchange(it, _, _) => {
-            is_kept(&mut *current, Use::Stores, by, it) && is_kept(current, Use::Gets, by, it)
+            is_own_ref(current, by, it)
         }
         Call::Complete(it, _) => {
             is_completed(&*current, it)
@@ -106,6 +108,16 @@ fn is_own_call(current: &mut Current, by: u16, call: Call) -> bool
         Call::Read(it) => is_completed(&*current, it),
         Call::Start | Call::NewRef | Call::NewDeferred => false,
     }
+}
+
+// Whether no fiber but `by` can still read, set or change the ref.
+fn is_own_ref(current: &mut Current, by: u16, number: u16) -> bool
+    requires given { number < (here current.old).world.cells.next_ref }
+    requires fits { AllFit (here current.old).world }
+    ensures same { IsSame current.old current.new }
+    ensures own { result ≡ is_ref_own (here current.old).world by number }
+{
+    is_kept(&mut *current, Use::Stores, by, number) && is_kept(current, Use::Gets, by, number)
 }
 
 // Whether no other fiber can still request the cancellation of `fiber`.
@@ -185,7 +197,7 @@ pub(crate) fn has_come_to_end(current: &Current, fiber: u16) -> bool
     }
     match current.wish(place) {
         Wish::Nothing => current.registry().has_ended(fiber),
-        Wish::Shared(_) | Wish::Alone => false,
+        Wish::Shared(_) | Wish::Updates(_) | Wish::Alone => false,
     }
 }
 

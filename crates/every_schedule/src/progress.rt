@@ -152,6 +152,7 @@ fn waits(config: &Config, registry: &PlainRegistry) -> bool
         | Ask::Get(_)
         | Ask::Set(_, _)
         | Ask::Modify(_, _)
+        | Ask::Update(_)
         | Ask::NewDeferred
         | Ask::Complete(_, _)
         | Ask::Over(_)
@@ -191,6 +192,7 @@ fn empty_reply(ask: Ask) -> Option<Reply>
         | Ask::Get(_)
         | Ask::Set(_, _)
         | Ask::Modify(_, _)
+        | Ask::Update(_)
         | Ask::NewDeferred
         | Ask::Complete(_, _)
         | Ask::Over(_)

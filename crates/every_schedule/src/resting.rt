@@ -102,6 +102,7 @@ fn goes_on(config: &Config, registry: &PlainRegistry) -> bool
         | Ask::Get(_)
         | Ask::Set(_, _)
         | Ask::Modify(_, _)
+        | Ask::Update(_)
         | Ask::NewDeferred
         | Ask::Complete(_, _)
         | Ask::Over(_)

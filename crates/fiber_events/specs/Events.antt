@@ -1,25 +1,36 @@
 -- The events of a schedule: what each entry did in the world that the entries before it led to.
-use Rattle.std.specs.Prelude.{◌≡◌, ℕ, ◌+◌, ◌<◌, List, [], ◌∷◌, ◌++◌, length, take, Some, None, Result, Ok, Err}
+use Rattle.std.specs.Prelude.{◌≡◌, ℕ, ℤ, ◌+◌, ◌<◌, List, [], ◌∷◌, ◌++◌, length, take, Some, None, Result, Ok, Err}
 use Rattle.std.specs.List.{fold, slice_get}
+use Rattle.effect_term.specs.declared.reply.Reply.TheVariants as reply
 use Rattle.effect_term.specs.declared.reply.Reply.TheVariants.{Done}
+use Rattle.effect_term.specs.declared.computed.Computed.{Computed}
+use Rattle.effect_term.specs.declared.computed.Computed.TheVariants.{Comes, Raises}
 use Rattle.derived_ops.specs.Tree.{Tree}
-use Rattle.fiber_frames.specs.Fiber.{Fiber, ask_of, row_of}
+use Rattle.fiber_frames.specs.Fiber.{Fiber, ask_of, row_of, updates_to}
 use Rattle.fiber_frames.specs.Rows.{Waited}
 use Rattle.cell_registry.specs.declared.limits.Limits.{Limits}
 use Rattle.cell_registry.specs.declared.limits.RunError.{RunError}
 use Rattle.cell_registry.specs.declared.call.Call.{Call}
-use Rattle.cell_registry.specs.Cells.{reply_of}
-use Rattle.scheduled_core.specs.declared.wish.Wish.TheVariants.{Shared, Alone, Nothing}
+use Rattle.cell_registry.specs.declared.call.Call.TheVariants as call
+use Rattle.cell_registry.specs.Cells.{ref_of, reply_of}
+use Rattle.scheduled_core.specs.declared.wish.Wish.TheVariants.{Shared, Updates, Alone, Nothing}
 use Rattle.scheduled_core.specs.Core.{World, core, entered, first_world, reported, wish_of}
 use Rattle.fiber_events.specs.declared.event.Deed.{Deed}
 use Rattle.fiber_events.specs.declared.event.Deed.TheVariants as deed
 use Rattle.fiber_events.specs.declared.event.Event.{Event}
 use Rattle.fiber_events.specs.declared.telling.Told.{Told}
 
+-- the move of an `update` of the ref r, which held v, by what its term comes to: an exchange, or a raised code
+abbrev pub update_deed : ℕ → ℤ → Computed → Deed
+update_deed r v (Comes n) = deed.Called (call.Exchange r v n) (reply.Value v)
+update_deed r v (Raises c) = deed.Raised r v c
+
 -- what a move of the fiber f, which is in state g, does in a world: a shared call with the reply of the registry, or a
--- move of the fiber's own, possibly one that waits
+-- move of the fiber's own, possibly one that waits; or it is that of an `update`
 pub data IsDeed (w : World) (f : ℕ) (g : Fiber) : Deed → Type 0 where
   calls : (c : Call) → wish_of (ask_of g) ≡ Shared c → IsDeed w f g (deed.Called c (reply_of w.cells f c))
+  updates : (r : ℕ) → wish_of (ask_of g) ≡ Updates r →
+      IsDeed w f g (update_deed r (ref_of w.cells r) (updates_to g (ref_of w.cells r)))
   alone : wish_of (ask_of g) ≡ Alone → IsDeed w f g deed.Alone
   rests : wish_of (ask_of g) ≡ Alone → (row_of g Done).kind ≡ Waited → IsDeed w f g deed.Rested
 

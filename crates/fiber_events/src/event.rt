@@ -3,7 +3,7 @@
 ghost use Rattle.std.specs.Prelude.{◌≡◌};
 
 use cell_registry::Call;
-use effect_term::Reply;
+use effect_term::{Reply, Value};
 use fiber_frames::Mark;
 use std::marker::Model;
 
@@ -12,6 +12,9 @@ use std::marker::Model;
 pub enum Deed {
     /// The move made this shared call, and got this reply.
     Called(Call, Reply),
+    /// The move of an `update` read the ref of this number, which held this value, and raised this code: the term of
+    /// the `update` raised it. An `update` whose term gives a value is a call, an exchange.
+    Raised(u16, Value, Value),
     /// The move made no shared call.
     Alone,
     /// The move made no shared call, and waits for what can't come (`never`). The next move is the same one.

@@ -11,14 +11,16 @@ ghost use Rattle.cell_registry.specs.Plain.{new_plain};
 ghost use Rattle.scheduled_core.specs.Core.{entered};
 ghost use Rattle.scheduled_core.specs.Fitting.{AllFit, Fits, cell_registered, world_of};
 ghost use Rattle.scheduled_core.specs.Private.Moving.{Refuses};
-ghost use Rattle.fiber_events.specs.Events.{IsEntry, IsTold};
+ghost use Rattle.fiber_events.specs.Events.{IsEntry, IsTold, update_deed};
 ghost use Rattle.fiber_events.specs.Private.Telling.{IsCourse, IsForeseen, IsOwn, end_of};
 
 use crate::event::{Deed, Event, Events};
-use cell_registry::{Limits, PlainRegistry, RunError};
-use effect_term::{Program, facts_of};
+use cell_registry::{Call, Limits, PlainRegistry, RunError};
+use effect_term::{Computed, Program, Reply, Value, facts_of};
 use fiber_frames::{Config, Mark};
-use scheduled_core::{Report, Wish, answer, enter, fault, first_fibers, report_of_fibers};
+use scheduled_core::{
+    Report, Wish, answer, enter, fault, first_fibers, report_of_fibers, update_ref,
+};
 use std::alloc::{AllocError, Global};
 
 /// The result of a replay, with its events.
@@ -200,13 +202,17 @@ fn mark_behind(fibers: &[Config], place: usize, noted: usize) -> Option<Mark>
 fn foresee(fiber: &Config, beside: &mut PlainRegistry) -> Result<Option<Deed>, RunError>
     requires { Fits (cell_registered beside.old.state fiber.now.number) fiber.now }
     ensures deed { IfOk result (λ deed. IsForeseen beside.old fiber.now.number fiber.now beside.new deed) }
-    ensures refused { IfErr result (Refuses beside.old fiber.now.number fiber.now) }
+    ensures refused { IfErr result (λ e. (e ≡ RunError.NoMemory) ⊎ Refuses beside.old fiber.now.number fiber.now e) }
 {
     // The registry is within its limits.
     facts_of(beside.limits());
     match Wish::of(fiber.ask()) {
         Wish::Nothing => Ok(None),
         Wish::Alone => Ok(Some(own_deed(fiber))),
+        Wish::Updates(number) => {
+            let (old, computed) = update_ref(fiber, beside, number)?;
+            Ok(Some(update_deed(number, old, computed)))
+        }
         Wish::Shared(call) => {
             let by = fiber.number();
             let made = call;
@@ -215,6 +221,19 @@ fn foresee(fiber: &Config, beside: &mut PlainRegistry) -> Result<Option<Deed>, R
                 Err(error) => Err(fault(by, error)),
             }
         }
+    }
+}
+
+// What the move of an `update` of this ref does, by the ref's old value and to what the term came.
+fn update_deed(number: u16, old: Value, computed: Computed) -> Deed
+    ensures { result ≡ update_deed number old computed }
+{
+    match computed {
+        Computed::Comes(value) => Deed::Called(
+            Call::Exchange(number, old, value),
+            Reply::Value(old),
+        ),
+        Computed::Raises(code) => Deed::Raised(number, old, code),
     }
 }
 

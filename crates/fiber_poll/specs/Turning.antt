@@ -1,7 +1,9 @@
 -- What a turn promises.
 use Rattle.std.specs.Prelude.{◌≡◌, ◌⊎◌, ℕ, ◌<◌, ◌≤◌, List, [], ◌∷◌, ◌++◌, length, Some, None, Result, Ok, Err}
 use Rattle.effect_term.specs.declared.reply.Reply.{Reply}
-use Rattle.fiber_frames.specs.Fiber.{outcome_of}
+use Rattle.fiber_frames.specs.Fiber.{Fiber, ask_of, outcome_of}
+use Rattle.scheduled_core.specs.declared.wish.Wish.TheVariants.{Updates}
+use Rattle.scheduled_core.specs.Core.{wish_of}
 use Rattle.derived_ops.specs.Tree.{Tree}
 use Rattle.cell_registry.specs.declared.limits.RunError.{RunError}
 use Rattle.cell_registry.specs.declared.limits.RunError.TheVariants as run
@@ -25,13 +27,18 @@ pub record Starts (old : TaskView) (rs : List Reply) (new c : TaskView) : Type 0
   pub event : event_of parent.state last ≡ Some Starts_child
   pub child : IsChild parent last new c
 
+-- the next move of the fiber is that of an `update`, of which attempts have failed
+abbrev pub WantsUpdate : Fiber → Type 0
+WantsUpdate g = (r : ℕ) × (wish_of (ask_of g) ≡ Updates r)
+
 -- what the result of a turn says about the moves that the task old made, within a budget: their last event, or that
 -- they had none
 abbrev pub Answered : TaskView → List Reply → ℕ → TaskView → Turn → Type 0
 Answered old rs budget new (turn.Ended o) =
     (outcome_of new.state ≡ Some o) × ((rs ≡ []) ⊎ TellsLast old.state rs (Ends o))
 Answered old rs budget new (turn.Waits t) = TellsLast old.state rs (Waits_for t)
-Answered old rs budget new turn.Cedes = (AreQuiet old.state rs × (length rs ≡ budget)) ⊎ TellsLast old.state rs Yields
+Answered old rs budget new turn.Cedes = (AreQuiet old.state rs × (length rs ≡ budget)) ⊎
+    (TellsLast old.state rs Yields ⊎ (AreQuiet old.state rs × (length rs < budget) × WantsUpdate new.state))
 Answered old rs budget new (turn.Started c) = Starts old rs new c
 Answered old rs budget new (turn.WakeFiber f) = TellsLast old.state rs (Wakes_fiber f)
 Answered old rs budget new (turn.WakeTopic t) = TellsLast old.state rs (Wakes_topic t)

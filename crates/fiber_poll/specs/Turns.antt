@@ -6,14 +6,14 @@ use Rattle.effect_term.specs.declared.reply.Reply.TheVariants as reply
 use Rattle.effect_term.specs.declared.reply.CancelReply.TheVariants as canceled
 use Rattle.fiber_frames.specs.declared.ask.Ask.{Ask}
 use Rattle.fiber_frames.specs.declared.ask.Ask.TheVariants as ask
-use Rattle.fiber_frames.specs.Rows.{RowKind, Plain, Waited, Ceded, Born, Ended}
-use Rattle.fiber_frames.specs.Fiber.{Fiber, ask_of, move, kind_of}
+use Rattle.fiber_frames.specs.Rows.{RowKind, Plain, Waited, Ceded, Born, Ended, value_in}
+use Rattle.fiber_frames.specs.Fiber.{Fiber, ask_of, move, kind_of, updates_to}
 use Rattle.fiber_frames.specs.Answers.{Answers}
 use Rattle.cell_registry.specs.declared.call.Entry.{Entry}
 use Rattle.cell_registry.specs.Steps.{entry}
 use Rattle.scheduled_core.specs.declared.wish.Wish.{Wish}
-use Rattle.scheduled_core.specs.declared.wish.Wish.TheVariants.{Shared, Alone, Nothing}
-use Rattle.scheduled_core.specs.Core.{wish_of}
+use Rattle.scheduled_core.specs.declared.wish.Wish.TheVariants.{Shared, Updates, Alone, Nothing}
+use Rattle.scheduled_core.specs.Core.{update_call, wish_of}
 use Rattle.fiber_poll.specs.declared.topic.Topic.{Topic}
 use Rattle.fiber_poll.specs.declared.topic.Topic.TheVariants as topic
 
@@ -28,14 +28,16 @@ AreAnswers g [] = Unit {0}
 AreAnswers g (r ∷ rs) = Answers g.number (ask_of g) r × AreAnswers (move g r) rs
 
 -- ---- the calls
--- the entry of a move with this reply, if it wanted a shared call
-abbrev pub wished : ℕ → Wish → Reply → List Entry
-wished i (Shared c) r = entry i c r ∷ []
-wished i Alone r = []
-wished i Nothing r = []
+-- The entry of a move with this reply, if it wanted a shared call. That of an `update` is determined by its reply, the
+-- ref's old value.
+abbrev pub wished : Fiber → Wish → Reply → List Entry
+wished g (Shared c) r = entry g.number c r ∷ []
+wished g (Updates x) r = entry g.number (update_call x (value_in r) (updates_to g (value_in r))) r ∷ []
+wished g Alone r = []
+wished g Nothing r = []
 
 abbrev pub call_of : Fiber → Reply → List Entry
-call_of g r = wished g.number (wish_of (ask_of g)) r
+call_of g r = wished g (wish_of (ask_of g)) r
 
 -- the shared calls of the moves, with their replies, in order
 abbrev pub calls_of : Fiber → List Reply → List Entry
@@ -67,6 +69,7 @@ awaited ask.NewRef = topic.Never
 awaited (ask.Get x) = topic.Never
 awaited (ask.Set x v) = topic.Never
 awaited (ask.Modify x v) = topic.Never
+awaited (ask.Update x) = topic.Never
 awaited ask.NewDeferred = topic.Never
 awaited (ask.Complete d v) = topic.Never
 awaited ask.Silent = topic.Never
@@ -91,6 +94,7 @@ woken i ask.NewRef r = None
 woken i (ask.Get x) r = None
 woken i (ask.Set x v) r = None
 woken i (ask.Modify x v) r = None
+woken i (ask.Update x) r = None
 woken i ask.NewDeferred r = None
 woken i (ask.Read d) r = None
 woken i ask.Silent r = None

@@ -11,7 +11,7 @@ use cell_registry::{Call, CellError, Outcome, Pass, Registry, Reply};
 use effect_term::facts_of;
 use fiber_frames::Ask;
 
-/// The reply to the move with this ask, which starts no fiber: the registry's, or `Done` if the move needs no shared
+/// The reply to the move with this ask, which starts no fiber and updates no ref: the registry's, or `Done` if the move needs no shared
 /// call. Returns the registry's refusal if the call is refused. Values that are read are in range.
 #[inline(always)]
 pub(crate) fn answer(registry: &Registry, pass: &mut Pass, ask: &Ask) -> Result<Reply, CellError>
@@ -60,7 +60,7 @@ pub(crate) fn answer(registry: &Registry, pass: &mut Pass, ask: &Ask) -> Result<
             Ok(Reply::Completed(registry.complete(pass, *number, *value)))
         }
         Ask::Read(number) => Ok(Reply::Read(registry.read(pass, *number))),
-        Ask::Start | Ask::Over(_) | Ask::Broken => unreachable!(),
+        Ask::Start | Ask::Update(_) | Ask::Over(_) | Ask::Broken => unreachable!(),
     }
 }
 

@@ -60,6 +60,7 @@ pub(crate) fn wakes(number: u16, ask: &Ask, reply: &Reply) -> bool
         },
         Ask::Look | Ask::Cut | Ask::Mask | Ask::Unmask | Ask::Finish(_) | Ask::Join(_) => false,
         Ask::Start | Ask::NewRef | Ask::Get(_) | Ask::Set(_, _) | Ask::Modify(_, _) => false,
+        Ask::Update(_) => false,
         Ask::NewDeferred | Ask::Read(_) | Ask::Silent | Ask::Over(_) | Ask::Broken => false,
     }
 }
@@ -114,7 +115,8 @@ fn topic_of(ask: Ask) -> Topic
         Ask::Read(deferred) => Topic::Deferred(deferred),
         Ask::Look | Ask::Cut | Ask::Mask | Ask::Unmask | Ask::Finish(_) => Topic::Never,
         Ask::Cancel(_) | Ask::Start | Ask::NewRef | Ask::Get(_) | Ask::Set(_, _) => Topic::Never,
-        Ask::Modify(_, _) | Ask::NewDeferred | Ask::Complete(_, _) => Topic::Never,
+        Ask::Modify(_, _) | Ask::Update(_) | Ask::NewDeferred => Topic::Never,
+        Ask::Complete(_, _) => Topic::Never,
         Ask::Silent | Ask::Over(_) | Ask::Broken => Topic::Never,
     }
 }

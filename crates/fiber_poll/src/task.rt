@@ -1,6 +1,7 @@
 //! A fiber that any thread can move.
-ghost use Rattle.std.specs.Prelude.{ℕ, ◌≡◌, ◌≢◌, ◌<◌, [], true, IfOk, IfErr, Ok as GoesWell, Err as Fails};
-ghost use Rattle.cell_registry.specs.Passes.{IsOf, RegistryView};
+ghost use Rattle.std.specs.Prelude.{ℕ, ◌≡◌, ◌≢◌, ◌<◌, [], true, false, IfOk, IfErr, Ok as GoesWell, Err as Fails};
+ghost use Rattle.cell_registry.specs.Passes.{Calls, IsOf, IsPass, Looks, OnlySees, RegistryView};
+ghost use Rattle.cell_registry.specs.Words.{ref_value};
 ghost use Rattle.derived_ops.specs.Tree.{Tree};
 ghost use Rattle.fiber_frames.specs.Fiber.{active_of, ask_of, outcome_of};
 ghost use Rattle.fiber_frames.specs.Leading.{IsGoing, way_of};
@@ -8,14 +9,15 @@ ghost use Rattle.fiber_frames.specs.Marks.{AreLawful};
 ghost use Rattle.scheduled_core.specs.Fitting.{Fits, pass_registered};
 ghost use Rattle.fiber_poll.specs.Turning.{StaysOf, Stopped, Turned};
 ghost use Rattle.fiber_poll.specs.Stepping.{Failed};
-ghost use Rattle.fiber_poll.specs.Private.Told.{Bears, IsAsked, Made};
+ghost use Rattle.fiber_poll.specs.Private.Told.{Bears, IsAsked, Made, Missed};
+ghost use Rattle.scheduled_core.specs.Core.{update_call};
 
 use crate::answer::answer;
 use crate::call_log::{CallLog, NoLog};
 use crate::move_end::{MoveEnd, move_end_of, told, wakes};
 use crate::turn::Turn;
-use cell_registry::{Outcome, Pass, Registry, RunError};
-use effect_term::{Reply, facts_of};
+use cell_registry::{Outcome, Pass, RefWord, Registry, RunError};
+use effect_term::{Computed, Reply, facts_of};
 use fiber_frames::{Ask, Config, Mark, Moved};
 use scheduled_core::{fault, outcome};
 use std::marker::Model;
@@ -47,6 +49,36 @@ impl<'a> Model for FiberTask<'a> {
 
     ghost invariant = { λ t.
         IsTask record { home = t.registry.now; pass = t.pass; state = t.config; moves = t.moves } };
+}
+
+// The greatest number of attempts of an `update` in a turn.
+const ATTEMPTS: u32 = 64;
+
+// Makes the call of an `update`, if the ref's word is still the one that was observed: an exchange for what the term
+// came to, or a `get` if the term raised a code. Returns whether it did.
+#[inline(always)]
+fn exchanged(
+    registry: &Registry,
+    pass: &mut Pass,
+    number: u16,
+    observed: RefWord,
+    computed: Computed,
+) -> bool
+    requires own { IsOf registry.now pass.old }
+    requires within { number < registry.now.limits.refs }
+    ensures same { OnlySees pass.old pass.new }
+    ensures lawful { IsPass pass.new }
+    ensures call { result ≡ true → Calls pass.old (update_call number (ref_value observed.word) computed)
+        (Reply.Value (ref_value observed.word)) pass.new }
+    ensures missed { result ≡ false → Looks pass.old pass.new }
+{
+    match computed {
+        Computed::Comes(value) => {
+            facts_of(value.get());
+            registry.exchange(pass, number, observed, value)
+        }
+        Computed::Raises(_) => registry.confirm(pass, number, observed),
+    }
 }
 
 impl<'a> FiberTask<'a> {
@@ -122,7 +154,8 @@ impl<'a> FiberTask<'a> {
     ///
     /// The turn stops before a move if the task has no moves left ([`Turn::OutOfMoves`]), and after a move that ended
     /// the fiber, waited, yielded, started a fiber, was the first to request the cancellation of another fiber, or
-    /// completed a deferred. The turn also yields after `budget` moves. Each move takes one of the task's moves, and a
+    /// completed a deferred. The turn also yields after `budget` moves, and before an `update` of which 64 attempts in a
+    /// row failed, since other fibers changed the ref. Each move takes one of the task's moves, and a
     /// started fiber begins with as many as are then left. A fiber that has ended returns its outcome again, without a
     /// move. The budget is at least 2.
     ///
@@ -189,6 +222,11 @@ impl<'a> FiberTask<'a> {
                     end => return Ok(told(Ask::Look, end)),
                 },
                 Ask::Start => return Ok(Turn::Started(self.start(log)?)),
+                Ask::Update(number) => {
+                    if !self.update(number, log)? {
+                        return Ok(Turn::Cedes);
+                    }
+                }
                 ask => match self.step(&ask, log)? {
                     MoveEnd::Plain => {}
                     end => return Ok(told(ask, end)),
@@ -224,6 +262,65 @@ impl<'a> FiberTask<'a> {
             Ok(moved) => {
                 self.moves -= 1;
                 Ok(move_end_of(ask, woke, moved))
+            }
+            Err(_) => Err(RunError::NoMemory),
+        }
+    }
+
+    // Makes the move of an `update` of this ref, and returns whether it did: after 64 failed attempts in a row it
+    // didn't. An attempt fails if another fiber changes the ref in it, so each failure has another fiber's call behind
+    // it.
+    #[inline(never)]
+    fn update<L: CallLog>(&mut self, number: u16, log: &mut L) -> Result<bool, RunError>
+        requires wish { ask_of self.old.state ≡ Ask.Update number }
+        requires left { 0 < self.old.moves }
+        ensures lawful { IsTask self.old }
+        ensures made { IfOk result (λ made. made ≡ true → Made self.old (Ask.Update number) MoveEnd.Plain self.new) }
+        ensures none { IfOk result (λ made. made ≡ false → Missed self.old self.new) }
+        ensures failed { IfErr result (λ error. Failed self.old error self.new) }
+    {
+        for _attempt in 0..ATTEMPTS {
+            if self.attempt(number, log)? {
+                return Ok(true);
+            }
+        }
+        Ok(false)
+    }
+
+    // Makes one attempt of an `update`: computes the term for the ref's value, and makes the call if the ref's word is
+    // still the same. Returns whether it made the move. If not, the pass has possibly seen more.
+    #[inline(always)]
+    fn attempt<L: CallLog>(&mut self, number: u16, log: &mut L) -> Result<bool, RunError>
+        requires wish { ask_of self.old.state ≡ Ask.Update number }
+        requires left { 0 < self.old.moves }
+        ensures lawful { IsTask self.old }
+        ensures made { IfOk result (λ made. made ≡ true → Made self.old (Ask.Update number) MoveEnd.Plain self.new) }
+        ensures none { IfOk result (λ made. made ≡ false → Missed self.old self.new) }
+        ensures failed { IfErr result (λ error. Failed self.old error self.new) }
+    {
+        facts_of(self.config.ask());
+        let before = log.before(&Ask::Update(number));
+        let observed = self.registry.observe(&mut self.pass, number);
+        let old = observed.value();
+        let Ok(computed) = self.config.computed(old) else {
+            self.config.lose();
+            return Err(RunError::NoMemory);
+        };
+        if !exchanged(self.registry, &mut self.pass, number, observed, computed) {
+            return Ok(false);
+        }
+        log.updated(
+            self.config.number(),
+            self.moves,
+            number,
+            old,
+            computed,
+            before,
+        );
+        match self.config.resume(Reply::Value(old)) {
+            Ok(_) => {
+                self.moves -= 1;
+                Ok(true)
             }
             Err(_) => Err(RunError::NoMemory),
         }

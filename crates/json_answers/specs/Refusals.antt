@@ -32,6 +32,7 @@ parse_data (parse.NameKind p) = refused_at (codes "NameKind") 10 p
 parse_data (parse.TooDeep p) = refused_at (codes "TooDeep") 11 p
 parse_data (parse.TooLong p) = refused_at (codes "TooLong") 12 p
 parse_data (parse.Trailing p) = refused_at (codes "Trailing") 13 p
+parse_data (parse.NotPure p) = refused_at (codes "NotPure") 28 p
 
 -- the refusal of a term that is no program
 abbrev pub term_data : TermError → Data
@@ -41,6 +42,8 @@ term_data (term.WrongKind slot) = null
 term_data (term.DeepMasks n) = object (member (codes "answer") (string (codes "refused"))
     (member (codes "masks") (count n) (member (codes "name") (string (codes "DeepMasks"))
     (member (codes "number") (count 3) no_members))))
+term_data term.NotPure = object (member (codes "answer") (string (codes "refused"))
+    (member (codes "name") (string (codes "NotPure")) (member (codes "number") (count 28) no_members)))
 term_data term.Large = object (member (codes "answer") (string (codes "refused"))
     (member (codes "name") (string (codes "Large")) (member (codes "number") (count 26) no_members)))
 

@@ -88,6 +88,7 @@ fn parse_value(alloc: Global, error: ParseError) -> Result<Value, AllocError>
         ParseError::TooDeep(place) => refused_at(alloc, "TooDeep", 11, place),
         ParseError::TooLong(place) => refused_at(alloc, "TooLong", 12, place),
         ParseError::Trailing(place) => refused_at(alloc, "Trailing", 13, place),
+        ParseError::NotPure(place) => refused_at(alloc, "NotPure", 28, place),
     }
 }
 
@@ -109,6 +110,8 @@ fn term_value(alloc: Global, error: TermError) -> Result<Value, AllocError>
         TermError::DeepMasks(masks) => {
             json!(in alloc; {"answer": "refused", "masks": masks, "name": "DeepMasks", "number": 3u64})
         }
+        TermError::NotPure =>
+            json!(in alloc; {"answer": "refused", "name": "NotPure", "number": 28u64}),
         TermError::Large =>
             json!(in alloc; {"answer": "refused", "name": "Large", "number": 26u64}),
     }

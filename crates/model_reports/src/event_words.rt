@@ -23,6 +23,9 @@ pub(crate) fn push_event(
     }
     match event.deed {
         Deed::Called(call, reply) => push_call(told, source, replay, call, reply),
+        Deed::Raised(number, old, code) => {
+            push_raised(told, source, replay, number, old.get(), code.get())
+        }
         Deed::Rested => push_word(told, "waits for nothing"),
         Deed::Alone => Ok(()),
     }
@@ -182,6 +185,21 @@ fn push_update(
     push_ref(told, source, replay, number)?;
     push_about(told, ": ", old)?;
     push_about(told, " -> ", value)
+}
+
+// Adds an `update` whose term raised a code, with the ref's value, which stays.
+fn push_raised(
+    told: &mut Vec<u8>,
+    source: &Source,
+    replay: &Named,
+    number: u16,
+    old: i64,
+    code: i64,
+) -> Result<(), AllocError> {
+    push_word(told, "update ")?;
+    push_ref(told, source, replay, number)?;
+    push_about(told, ": ", old)?;
+    push_about(told, ", raises ", code)
 }
 
 // Adds a completion, or that the deferred was completed before.

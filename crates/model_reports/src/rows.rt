@@ -138,6 +138,7 @@ fn ref_of(event: &Event) -> Option<u16> {
         Deed::Called(Call::Set(number, _), _) => Some(number),
         Deed::Called(Call::Modify(number, _), _) => Some(number),
         Deed::Called(Call::Exchange(number, _, _), _) => Some(number),
+        Deed::Raised(number, _, _) => Some(number),
         _ => None,
     }
 }

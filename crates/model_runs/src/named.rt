@@ -190,7 +190,7 @@ fn is_of_word(event: Event) -> bool {
     match deed {
         Deed::Called(call, _) => is_call_of_word(call, mark),
         Deed::Alone => is_mark_of_word(mark),
-        Deed::Rested => true,
+        Deed::Raised(_, _, _) | Deed::Rested => true,
     }
 }
 

@@ -60,6 +60,7 @@ pub(crate) fn program_in(
         Err(TermError::DeepMasks(masks)) => {
             refuse(alloc, source, model, term, "DeepMasks", Some(masks))
         }
+        Err(TermError::NotPure) => refuse(alloc, source, model, term, "NotPure", None),
         Err(TermError::Large) => refuse(alloc, source, model, term, "Large", None),
         Err(TermError::Unbound(_)) => refuse(alloc, source, model, term, "Unbound", None),
         Err(TermError::WrongKind(_)) => refuse(alloc, source, model, term, "WrongKind", None),
@@ -78,6 +79,7 @@ fn parse_words(fault: ParseError) -> &'static str {
         ParseError::UnknownName(_) => "UnknownName",
         ParseError::NameKind(_) => "NameKind",
         ParseError::TooDeep(_) => "TooDeep",
+        ParseError::NotPure(_) => "NotPure",
         ParseError::TooLong(_) => "TooLong",
         ParseError::Trailing(_) => "Trailing",
     }

@@ -25,6 +25,7 @@ parse_line (parse.NameKind p) = told (codes "refused 10 NameKind at ") p
 parse_line (parse.TooDeep p) = told (codes "refused 11 TooDeep at ") p
 parse_line (parse.TooLong p) = told (codes "refused 12 TooLong at ") p
 parse_line (parse.Trailing p) = told (codes "refused 13 Trailing at ") p
+parse_line (parse.NotPure p) = told (codes "refused 28 NotPure at ") p
 
 -- the line of a term that isn't a program: too many masks, or too large an expansion
 abbrev pub term_line : TermError → List ℕ
@@ -32,6 +33,7 @@ term_line term.NoMemory = []
 term_line (term.Unbound slot) = []
 term_line (term.WrongKind slot) = []
 term_line (term.DeepMasks n) = told (codes "refused 3 DeepMasks ") n
+term_line term.NotPure = codes "refused 28 NotPure" ++ 10 ∷ []
 term_line term.Large = codes "refused 26 Large" ++ 10 ∷ []
 
 abbrev pub band_text : Band → List ℕ

@@ -35,6 +35,7 @@ fn parse_refusal(alloc: Global, error: ParseError) -> Result<String, AllocError>
         ParseError::TooDeep(place) => format!(in alloc; "refused 11 TooDeep at {place}\n"),
         ParseError::TooLong(place) => format!(in alloc; "refused 12 TooLong at {place}\n"),
         ParseError::Trailing(place) => format!(in alloc; "refused 13 Trailing at {place}\n"),
+        ParseError::NotPure(place) => format!(in alloc; "refused 28 NotPure at {place}\n"),
     }
 }
 
@@ -44,6 +45,7 @@ fn term_refusal(alloc: Global, error: TermError) -> Result<String, AllocError>
 {
     match error {
         TermError::NoMemory | TermError::Unbound(_) | TermError::WrongKind(_) => unreachable!(),
+        TermError::NotPure => String::from_str(alloc, "refused 28 NotPure\n"),
         TermError::DeepMasks(masks) => format!(in alloc; "refused 3 DeepMasks {masks}\n"),
         TermError::Large => String::from_str(alloc, "refused 26 Large\n"),
     }

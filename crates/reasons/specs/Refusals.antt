@@ -25,6 +25,7 @@ place_of (parse.NameKind p) = Some p
 place_of (parse.TooDeep p) = Some p
 place_of (parse.TooLong p) = Some p
 place_of (parse.Trailing p) = Some p
+place_of (parse.NotPure p) = Some p
 
 -- the first line of the reasons of a fault at a place
 abbrev pub place_heading : Position → List ℕ
@@ -37,6 +38,7 @@ limit_text (term.Unbound slot) = []
 limit_text (term.WrongKind slot) = []
 limit_text (term.DeepMasks n) =
     codes "the program has " ++ (decimal n ++ (codes " masks below one another, and may have 250" ++ 10 ∷ []))
+limit_text term.NotPure = codes "the term of an `update` has a word that isn't effect-free" ++ 10 ∷ []
 limit_text term.Large = codes "the program's expansion has more than 1000000 words and marks" ++ 10 ∷ []
 
 -- The reasons of a text: where its first fault is, or the limit that its term exceeds. The text of a program has none.

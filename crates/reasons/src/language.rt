@@ -35,6 +35,7 @@ pub(crate) fn form_of(word: Word) -> &'static str {
         Word::Get => "(get r)",
         Word::Set => "(set r v)",
         Word::Modify => "(modify r v)",
+        Word::Update => "(update r x e)",
         Word::Deferred => "(deferred d k)",
         Word::Complete => "(complete d v)",
         Word::Await => "(await d)",
@@ -68,6 +69,7 @@ pub(crate) fn wanted(part: Part) -> &'static str {
         },
         Part::Value => "a number or the name of a value",
         Part::Term | Part::Under(_) | Part::UnderBoth(_, _) => "a term in brackets",
+        Part::Pure(_) => "an effect-free term in brackets",
         Part::More => "a term in brackets, or the closing bracket",
         Part::Close => "the closing bracket",
     }
@@ -87,7 +89,7 @@ pub(crate) fn kind_word(kind: Kind) -> &'static str {
 /// Whether a term in this part is in the scope of the form's binder with this number, from 0.
 pub(crate) fn is_under(part: Part, binder: usize) -> bool {
     match part {
-        Part::Under(one) => one == binder,
+        Part::Under(one) | Part::Pure(one) => one == binder,
         Part::UnderBoth(one, other) => one == binder || other == binder,
         _ => false,
     }

@@ -55,6 +55,10 @@ pub(crate) fn limit_reasons(alloc: Global, error: TermError) -> Result<Vec<u8>, 
             )?;
             Ok(line.into_bytes())
         }
+        TermError::NotPure => Vec::from_slice(
+            alloc,
+            b"the term of an `update` has a word that isn't effect-free\n",
+        ),
         TermError::Large => Vec::from_slice(
             alloc,
             b"the program's expansion has more than 1000000 words and marks\n",
@@ -88,7 +92,8 @@ fn push_fault(told: &mut Vec<u8>, error: ParseError, spelled: &[u8]) -> Result<(
         | ParseError::BadNumber(_)
         | ParseError::UnknownName(_)
         | ParseError::BadByte(_)
-        | ParseError::NameKind(_) => push_quoted(told, spelled)?,
+        | ParseError::NameKind(_)
+        | ParseError::NotPure(_) => push_quoted(told, spelled)?,
         _ => {}
     }
     let words: &[u8] = match error {
@@ -103,6 +108,7 @@ fn push_fault(told: &mut Vec<u8>, error: ParseError, spelled: &[u8]) -> Result<(
         ParseError::TooDeep(_) => b"with this bracket 101 would be open, and 100 may be\n",
         ParseError::TooLong(_) => b"the text has more than 65536 bytes\n",
         ParseError::Trailing(_) => b"the program has ended before this\n",
+        ParseError::NotPure(_) => b" isn't effect-free, and is in the term of an `update`\n",
     };
     told.extend_from_slice(words)
 }
@@ -169,6 +175,9 @@ fn push_grammar(
             push_wanted(told, around)?;
             push_names(alloc, told, text, around)
         }
+        ParseError::NotPure(_) => told.extend_from_slice(
+            b"such a term has only the words pure raise let seq handle if0 add sub mul div mod less equal\n",
+        ),
         _ => push_wanted(told, around),
     }
 }

@@ -92,6 +92,7 @@ fn place_of(error: ParseError) -> Option<usize>
         | ParseError::UnknownName(place)
         | ParseError::NameKind(place)
         | ParseError::TooDeep(place)
+        | ParseError::NotPure(place)
         | ParseError::TooLong(place)
         | ParseError::Trailing(place) => Some(place),
     }

@@ -160,7 +160,7 @@ impl<'a> Merge<'a> {
             CallKind::CancelEnded | CallKind::JoinEnded => self.has_ended(named),
             CallKind::Finish => self.asks_of(named) == 0,
             CallKind::Filled => self.filled.get(named).copied() == Some(true),
-            CallKind::Get | CallKind::Set | CallKind::Modify => {
+            CallKind::Get | CallKind::Set | CallKind::Modify | CallKind::Update => {
                 self.at_ref.get(named).copied() == self.ranks.get(call.place as usize).copied()
             }
             CallKind::Complete | CallKind::Wait => true,
@@ -211,7 +211,7 @@ impl<'a> Merge<'a> {
                     *filled = true;
                 }
             }
-            CallKind::Get | CallKind::Set | CallKind::Modify => {
+            CallKind::Get | CallKind::Set | CallKind::Modify | CallKind::Update => {
                 if let Some(at) = self.at_ref.get_mut(named) {
                     *at = at.saturating_add(1);
                 }

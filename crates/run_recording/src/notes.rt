@@ -26,10 +26,11 @@ pub(crate) enum CallKind {
     // A completion of the deferred of this number, or an attempt that found it completed.
     Complete,
     Filled,
-    // The ref of this number was read, set or added to.
+    // The ref of this number was read, set, added to or updated.
     Get,
     Set,
     Modify,
+    Update,
     // A move that waited; the number is 1 if it came after a look.
     Wait,
 }
@@ -38,7 +39,7 @@ impl CallKind {
     /// Whether the call is on a ref.
     pub(crate) fn is_on_ref(self) -> bool {
         match self {
-            CallKind::Get | CallKind::Set | CallKind::Modify => true,
+            CallKind::Get | CallKind::Set | CallKind::Modify | CallKind::Update => true,
             _ => false,
         }
     }

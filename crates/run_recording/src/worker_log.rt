@@ -2,7 +2,7 @@
 
 use crate::notes::{CallKind, Noted, Notes, RefCall};
 use cell_registry::RunError;
-use effect_term::{CancelReply, JoinReply, Reply, Value};
+use effect_term::{CancelReply, Computed, JoinReply, Reply, Value};
 use fiber_frames::Ask;
 use fiber_poll::{CallLog, FiberTask, NoLog, Turn};
 use std::alloc::Global;
@@ -175,7 +175,9 @@ impl<'c> CallLog for WorkerLog<'c> {
     #[inline(always)]
     fn before(&mut self, ask: &Ask) -> u64 {
         match ask {
-            Ask::Get(_) | Ask::Set(_, _) | Ask::Modify(_, _) => self.clock.load(Ordering::SeqCst),
+            Ask::Get(_) | Ask::Set(_, _) | Ask::Modify(_, _) | Ask::Update(_) => {
+                self.clock.load(Ordering::SeqCst)
+            }
             _ => 0,
         }
     }
@@ -193,6 +195,29 @@ impl<'c> CallLog for WorkerLog<'c> {
             }
             _ => self.shared(by, left, ask, reply),
         }
+    }
+
+    #[inline(always)]
+    fn updated(
+        &mut self,
+        by: u16,
+        left: u32,
+        number: u16,
+        old: Value,
+        computed: Computed,
+        before: u64,
+    ) {
+        let (kind, new) = match computed {
+            Computed::Comes(value) => (CallKind::Update, value),
+            Computed::Raises(_) => (CallKind::Get, old),
+        };
+        let call = Noted {
+            left,
+            fiber: by,
+            named: number,
+            kind,
+        };
+        self.note_ref(call, Some(old.get()), new.get(), before);
     }
 }
 

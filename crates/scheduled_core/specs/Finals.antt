@@ -3,7 +3,7 @@ use Rattle.std.specs.Prelude.{◌≡◌, ◌≢◌, ◌⊎◌, ℕ, List, [], �
 use Rattle.std.specs.List.{fold, slice_get}
 use Rattle.effect_term.specs.declared.reply.Outcome.{Outcome}
 use Rattle.effect_term.specs.declared.reply.Reply.{Reply}
-use Rattle.effect_term.specs.declared.reply.Reply.TheVariants.{Done}
+use Rattle.effect_term.specs.declared.reply.Reply.TheVariants.{Done, Value}
 use Rattle.derived_ops.specs.Tree.{Mask, Tree}
 use Rattle.fiber_frames.specs.declared.ask.Look.{Look}
 use Rattle.fiber_frames.specs.declared.ask.Look.TheVariants.{Seen}
@@ -11,15 +11,16 @@ use Rattle.fiber_frames.specs.Rows.{Waited}
 use Rattle.fiber_frames.specs.Fiber.{Fiber, active_of, outcome_of, row_of}
 use Rattle.cell_registry.specs.declared.limits.Limits.{Limits}
 use Rattle.cell_registry.specs.declared.limits.RunError.{RunError}
-use Rattle.cell_registry.specs.Cells.{Cells, cell_of, reply_of}
+use Rattle.cell_registry.specs.Cells.{Cells, cell_of, ref_of, reply_of}
 use Rattle.scheduled_core.specs.declared.report.Report.{Report}
 use Rattle.scheduled_core.specs.declared.wish.Wish.{Wish}
-use Rattle.scheduled_core.specs.declared.wish.Wish.TheVariants.{Shared, Alone, Nothing}
+use Rattle.scheduled_core.specs.declared.wish.Wish.TheVariants.{Shared, Updates, Alone, Nothing}
 use Rattle.scheduled_core.specs.Core.{World, core, entered, reported, wish_of}
 
 -- the registry's reply to the wish of fiber f
 abbrev pub reply_to : Cells → ℕ → Wish → Reply
 reply_to s f (Shared c) = reply_of s f c
+reply_to s f (Updates r) = Value (ref_of s r)
 reply_to s f Alone = Done
 reply_to s f Nothing = Done
 

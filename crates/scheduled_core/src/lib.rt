@@ -28,6 +28,8 @@ pub use finals::{EntryLog, NoEntries, Settled, is_done, settle, settle_noted};
 pub use report::{FiberReport, FiberReports, Marks, Report};
 pub use reports::{outcome, report_of_fibers, same_report};
 pub use same_ends::same_end;
-pub use scheduled::{answer, enter, enter_all, fault, first_fiber, first_fibers, replay};
+pub use scheduled::{
+    answer, enter, enter_all, fault, first_fiber, first_fibers, replay, update_ref,
+};
 pub use why::{Why, why_of};
 pub use wish::Wish;

@@ -1,5 +1,5 @@
 //! A program under a schedule, one move for each entry.
-ghost use Rattle.std.specs.Prelude.{◌≡◌, ◌⊎◌, ◌++◌, ◌<◌, ◌^◌, IfOk, IfErr, OnOk, MatchResult, Ok as GoesWell};
+ghost use Rattle.std.specs.Prelude.{◌≡◌, ◌⊎◌, ◌++◌, ◌<◌, ◌^◌, ℤ, IfOk, IfErr, OnOk, OnErr, MatchResult, Ok as GoesWell};
 ghost use Rattle.std.specs.Prelude.{Err as Fails, [], ◌∷◌};
 ghost use Rattle.std.specs.List.{All, fold};
 ghost use Rattle.std.specs.Option.{option_to_list};
@@ -7,14 +7,15 @@ ghost use Rattle.derived_ops.specs.Expansion.{code_of};
 ghost use Rattle.derived_ops.specs.Naming.{Given};
 ghost use Rattle.derived_ops.specs.Reading.{source_of};
 ghost use Rattle.fiber_frames.specs.Answers.{Answers};
-ghost use Rattle.fiber_frames.specs.Fiber.{ask_of, begins, move};
+ghost use Rattle.fiber_frames.specs.Fiber.{ask_of, begins, move, updates_to};
 ghost use Rattle.fiber_frames.specs.Marks.{AreLawful};
 ghost use Rattle.fiber_frames.specs.Moves.{moved};
 ghost use Rattle.fiber_frames.specs.Naming.{NamedBeginning};
 ghost use Rattle.effect_term.specs.Outcomes.{OutcomeFits};
-ghost use Rattle.cell_registry.specs.Cells.{AreLimits, opening};
+ghost use Rattle.effect_term.specs.Values.{IsValue};
+ghost use Rattle.cell_registry.specs.Cells.{AreLimits, opening, ref_of};
 ghost use Rattle.cell_registry.specs.Plain.{MayCall, IsMade, IsPlain, IsRefused};
-ghost use Rattle.scheduled_core.specs.Core.{entered, core, fault_of, reported};
+ghost use Rattle.scheduled_core.specs.Core.{call_at, entered, core, fault_of, reported};
 ghost use Rattle.scheduled_core.specs.Fitting.{AllFit, Fits, cell_registered, world_of};
 ghost use Rattle.scheduled_core.specs.Permits.{IsInRange};
 ghost use Rattle.scheduled_core.specs.Private.Moving.{Moves, Refuses, children};
@@ -24,7 +25,7 @@ use crate::reports::report_of_fibers;
 use crate::wish::Wish;
 use cell_registry::{Call, CellError, Limits, PlainRegistry, RunError};
 use derived_ops::expand;
-use effect_term::{Outcome, Program, Reply, facts_of};
+use effect_term::{Computed, Outcome, Program, Reply, Value, facts_of};
 use fiber_frames::{Config, Moved};
 use std::alloc::{AllocError, Global};
 
@@ -194,7 +195,42 @@ fn make_move(config: &mut Config, registry: &mut PlainRegistry) -> Result<Option
                 Err(error) => Err(fault(by, error)),
             }
         }
+        Wish::Updates(number) => {
+            let (old, _) = update_ref(config, registry, number)?;
+            resumed(config, Reply::Value(old))
+        }
     }
+}
+
+/// Makes the call of a fiber's `update` of this ref at the registry for one thread, by the value that the ref holds:
+/// exchanges it for what the term comes to, or only reads it if the term raises a code. Returns the old value, and to
+/// what the term came. Returns `AllocError` if memory is refused; then no call was made.
+#[inline(never)]
+pub fn update_ref(
+    config: &Config,
+    registry: &mut PlainRegistry,
+    number: u16,
+) -> Result<(Value, Computed), AllocError>
+    requires may { (n : ℤ) → IsValue n →
+        MayCall registry.old config.now.number (Call.Exchange number (ref_of registry.old.state number) n) }
+    requires reads { MayCall registry.old config.now.number (Call.Get number) }
+    ensures old { IfOk result (λ it. it.0 ≡ ref_of registry.old.state number) }
+    ensures comes { IfOk result (λ it. it.1 ≡ updates_to config.now (ref_of registry.old.state number)) }
+    ensures made { IfOk result (λ it. IsMade registry.old registry.new config.now.number
+        (call_at registry.old.state config.now number) (Reply.Value it.0)) }
+    ensures memory { OnErr result (registry.new ≡ registry.old) }
+{
+    let by = config.number();
+    let old = registry.value(number);
+    let computed = config.computed(old)?;
+    match computed {
+        Computed::Comes(value) => {
+            facts_of(value.get());
+            facts_of(registry.exchange(by, number, old, value));
+        }
+        Computed::Raises(_) => facts_of(registry.get(by, number)),
+    }
+    Ok((old, computed))
 }
 
 // The move under a reply. Returns the child, if the move starts one. Silent moves have a call of their own, in which

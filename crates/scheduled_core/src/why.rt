@@ -66,6 +66,7 @@ pub fn why_of(config: &Config, registry: &PlainRegistry) -> Why
         | Ask::Get(_)
         | Ask::Set(_, _)
         | Ask::Modify(_, _)
+        | Ask::Update(_)
         | Ask::NewDeferred
         | Ask::Complete(_, _)
         | Ask::Silent

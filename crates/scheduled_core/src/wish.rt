@@ -10,6 +10,9 @@ use fiber_frames::Ask;
 pub enum Wish {
     /// This shared call.
     Shared(Call),
+    /// The call of an `update` of this ref, which the ref's value determines: an exchange of the value for another, or
+    /// a `get` if the term of the `update` raises a code ([`update_ref`](crate::update_ref)).
+    Updates(u16),
     /// No shared call.
     Alone,
     /// There is no next move.
@@ -35,6 +38,7 @@ impl Wish {
             Ask::Get(number) => Wish::Shared(Call::Get(number)),
             Ask::Set(number, value) => Wish::Shared(Call::Set(number, value)),
             Ask::Modify(number, value) => Wish::Shared(Call::Modify(number, value)),
+            Ask::Update(number) => Wish::Updates(number),
             Ask::NewDeferred => Wish::Shared(Call::NewDeferred),
             Ask::Complete(number, value) => Wish::Shared(Call::Complete(number, value)),
             Ask::Read(number) => Wish::Shared(Call::Read(number)),

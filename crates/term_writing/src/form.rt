@@ -101,6 +101,9 @@ pub(crate) fn form(
     let wanted = parts_wanted(word);
     let mut last = None;
     if given != wanted {
+        if wanted < given && matches!(word, Word::Update) {
+            return updated(read, out, at, here);
+        }
         if wanted < given && takes_several(word) {
             last = Some(behind_nth(read.forms, parts, wanted.saturating_sub(1)));
         } else {
@@ -115,6 +118,66 @@ pub(crate) fn form(
         last,
     };
     whole_form(read, out, work, parts)
+}
+
+// Writes an `update` with terms behind it, which go on with its value: `(let x (update r x e) (seq term ..))`.
+fn updated(read: Reading, out: &mut Writing, at: usize, here: Here) -> Result<(), Stop> {
+    let parts = read.parts(at);
+    let Some(first) = first_of(read.forms, parts) else {
+        return Ok(());
+    };
+    match picked_row(read, out, first, here)? {
+        Some(row) => pick(out, at, row, here),
+        None => updated_then(read, out, at, None, here),
+    }
+}
+
+// Plans an `update` with terms behind it, of the ref that its first part names, or of a ref of a row.
+fn updated_then(
+    read: Reading,
+    out: &mut Writing,
+    at: usize,
+    picked: Option<usize>,
+    here: Here,
+) -> Result<(), Stop> {
+    let parts = read.parts(at);
+    let Some(name) = nth_of(read.forms, parts, 1) else {
+        return Ok(());
+    };
+    let work = FormWork {
+        at,
+        word: Word::Let,
+        here,
+        picked,
+        last: None,
+    };
+    out.values.clear();
+    out.made.clear();
+    out.lets = 0;
+    out.then(Task::Open(Word::Let, at))?;
+    plan_binder(read, out, work, NameKind::Value, name)?;
+    out.then(Task::Updated(at, picked, here))?;
+    let behind = behind_nth(read.forms, parts, parts_wanted(Word::Update));
+    plan_term(read, out, work, Part::Under(0), Follow::Block(behind), here)?;
+    out.then(Task::Close(1))
+}
+
+/// Writes the `update` of the form with this number, without the terms behind it.
+pub(crate) fn update_form(
+    read: Reading,
+    out: &mut Writing,
+    at: usize,
+    picked: Option<usize>,
+    here: Here,
+) -> Result<(), Stop> {
+    let work = FormWork {
+        at,
+        word: Word::Update,
+        here,
+        picked,
+        last: None,
+    };
+    plan_form(read, out, work, read.parts(at))
 }
 
 // Writes a form with the right number of parts.
@@ -224,6 +287,9 @@ pub(crate) fn one_form(
     let wanted = parts_wanted(word);
     let mut last = None;
     if wanted < count_of(read.forms, parts) {
+        if matches!(word, Word::Update) {
+            return updated_then(read, out, at, Some(name), here);
+        }
         last = Some(behind_nth(read.forms, parts, wanted.saturating_sub(1)));
     }
     let work = FormWork {
@@ -351,7 +417,7 @@ fn plan_part(
         Part::Bind(kind) => plan_binder(read, out, work, kind_of(kind), at),
         Part::Use(kind) => plan_use(read, out, work, kind_of(kind), at),
         Part::Value => plan_value(out, work, number),
-        Part::Term | Part::Under(_) | Part::UnderBoth(_, _) => {
+        Part::Term | Part::Under(_) | Part::Pure(_) | Part::UnderBoth(_, _) => {
             let follow = follow_of(work, number, at);
             let here = here_in(read, work, number);
             if out.names && is_body(work.word, number) {
@@ -374,7 +440,7 @@ fn plan_rest(
     block: Block,
 ) -> Result<(), Stop> {
     match part {
-        Part::Term | Part::Under(_) | Part::UnderBoth(_, _) => {
+        Part::Term | Part::Under(_) | Part::Pure(_) | Part::UnderBoth(_, _) => {
             plan_term(read, out, work, part, Follow::Block(block), work.here)
         }
         Part::Bind(_) | Part::Use(_) | Part::Value | Part::More | Part::Close => Ok(()),
@@ -510,7 +576,7 @@ fn plan_term(
 ) -> Result<(), Stop> {
     let scope = here.view.scope;
     let scope = match part {
-        Part::Under(i) => enter_made(read, out, scope, i)?,
+        Part::Under(i) | Part::Pure(i) => enter_made(read, out, scope, i)?,
         Part::UnderBoth(i, j) => {
             let scope = enter_made(read, out, scope, i)?;
             enter_made(read, out, scope, j)?

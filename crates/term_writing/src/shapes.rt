@@ -32,6 +32,9 @@ fn language_shape(word: Word) -> &'static str {
         Word::Get => "`(get r)`",
         Word::Set => "`(set r v)`",
         Word::Modify => "`(modify r v)`: it adds v to r, and gives the value before",
+        Word::Update => {
+            "`(update r x e)`: r becomes e, which sees its value x; `(update r x e term ..)` goes on with x"
+        }
         Word::Deferred => "`(deferred d)` before what sees d, or `(deferred d k)`",
         Word::Complete => "`(complete d v)`",
         Word::Await => "`(await d)`",

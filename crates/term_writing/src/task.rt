@@ -65,6 +65,9 @@ pub enum Task {
     Side(usize, Side, Here),
     /// A form of the language with a name of a row as its first part: the number of the form, and the name.
     One(usize, usize, Here),
+    /// The `update` of the form with this number, without the terms behind it; the name of its ref, if it is one of a
+    /// row.
+    Updated(usize, Option<usize>, Here),
     /// Notes the form that reads a ref, if the term reads the ref from this byte on, before it changes the ref: the
     /// byte and the ref's name.
     Torn(usize, usize),

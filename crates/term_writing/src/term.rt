@@ -1,7 +1,9 @@
 //! Writes terms and statements, step by step.
 
 use crate::condition::{choice, choice_word, choose, side};
-use crate::form::{FormWork, form, is_binder, one_form, parts_wanted, plan_form, sign_word};
+use crate::form::{
+    FormWork, form, is_binder, one_form, parts_wanted, plan_form, sign_word, update_form,
+};
 use crate::look::{value, wrong_at};
 use crate::named::NamedItem;
 use crate::probe::note_torn;
@@ -47,6 +49,7 @@ fn step(read: Reading, out: &mut Writing, task: Task) -> Result<(), Stop> {
         Task::Choose(choice) => choose(read, out, choice),
         Task::Side(at, it, here) => side(read, out, at, it, here),
         Task::One(at, name, here) => one(read, out, at, name, here),
+        Task::Updated(at, picked, here) => update_form(read, out, at, picked, here),
         Task::Torn(start, name) => note_torn(out, start, name),
     }
 }

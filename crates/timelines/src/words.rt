@@ -34,6 +34,7 @@ pub(crate) fn push_event(text: &mut String, event: &Event) -> Result<(), AllocEr
     }
     match event.deed {
         Deed::Called(call, reply) => push_call(text, call, reply),
+        Deed::Raised(number, old, code) => push_raised(text, number, old.get(), code.get()),
         Deed::Rested => text.push_str("waits for nothing"),
         Deed::Alone => Ok(()),
     }
@@ -104,6 +105,12 @@ fn push_modify(text: &mut String, number: u16, added: i64, old: i64) -> Result<(
 fn push_update(text: &mut String, number: u16, old: i64, value: i64) -> Result<(), AllocError> {
     push_about(text, "update ref ", number, ": ", old)?;
     push_number(text, " -> ", value)
+}
+
+// An `update` whose term raised a code, with the ref's value, which stays.
+fn push_raised(text: &mut String, number: u16, old: i64, code: i64) -> Result<(), AllocError> {
+    push_about(text, "update ref ", number, ": ", old)?;
+    push_number(text, ", raises ", code)
 }
 
 // A completion, or that the deferred was completed before.

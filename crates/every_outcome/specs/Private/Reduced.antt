@@ -7,7 +7,7 @@ use Rattle.cell_registry.specs.declared.call.Call.TheVariants.{Mask}
 use Rattle.cell_registry.specs.declared.limits.RunError.{RunError}
 use Rattle.fiber_frames.specs.Fiber.{Fiber, ask_of}
 use Rattle.scheduled_core.specs.declared.wish.Wish.{Wish}
-use Rattle.scheduled_core.specs.declared.wish.Wish.TheVariants.{Shared, Alone, Nothing}
+use Rattle.scheduled_core.specs.declared.wish.Wish.TheVariants.{Shared, Updates, Alone, Nothing}
 use Rattle.scheduled_core.specs.Core.{World, wish_of}
 use Rattle.every_schedule.specs.Reduced.{has_own, may_be}
 use Rattle.world_search.specs.Systems.{run}
@@ -33,6 +33,7 @@ is_mask _ = false
 
 abbrev pub wants_mask : Wish → Bool
 wants_mask (Shared c) = is_mask c
+wants_mask (Updates r) = false
 wants_mask Alone = false
 wants_mask Nothing = false
 

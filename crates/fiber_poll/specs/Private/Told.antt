@@ -17,7 +17,8 @@ use Rattle.derived_ops.specs.Naming.{Given}
 use Rattle.fiber_frames.specs.Naming.{AskNamed, NamedBeginning, NamedRun, NumberGiven}
 use Rattle.fiber_poll.specs.Turns.{Ends, Event, Starts_child, Waits_for, Wakes_fiber, Wakes_topic, Yields, awaited}
 use Rattle.fiber_poll.specs.Turns.{event_of, woken}
-use Rattle.fiber_poll.specs.Tasks.{TaskView, Went}
+use Rattle.cell_registry.specs.Passes.{OnlySees}
+use Rattle.fiber_poll.specs.Tasks.{IsTask, TaskView, Went}
 use Rattle.fiber_poll.specs.Stepping.{IsChild}
 
 -- what the ask of a fiber determines about it, and about the result of its move
@@ -28,9 +29,10 @@ pub record IsAsked (g : Fiber) (a : Ask) : Type 0 where
   pub moves_names : (b : Given) (r : Reply) → NamedRun b g.running → NumberGiven b a r → NamedRun b (move g r).running
   pub child_names : (b : Given) (n : ℕ) → NamedRun b g.running → NamedBeginning b (child g n)
 
--- a move with this ask starts no fiber
+-- a move with this ask starts no fiber, and updates no ref
 abbrev pub IsStep : Ask → Type 0
 IsStep ask.Start = ⊥
+IsStep (ask.Update x) = ⊥
 IsStep (ask.Over o) = ⊥
 IsStep ask.Broken = ⊥
 IsStep _ = Unit {0}
@@ -108,6 +110,12 @@ pub record Made (old : TaskView) (a : Ask) (s : MoveEnd) (new : TaskView) : Type
   pub tells : Tells a s
   pub way : way_of new.state.running ≡ way_after a (way_of old.state.running)
   pub goes : event_of old.state reply ≡ None → IsGoing (way_of new.state.running)
+
+-- no move was made, since attempts of an `update` failed: the pass has possibly seen more
+pub record Missed (old new : TaskView) : Type 0 where
+  pub task : new ≡ record old { pass = new.pass }
+  pub sees : OnlySees old.pass new.pass
+  pub lawful : IsTask new
 
 -- one move, which started the fiber of the task c
 pub record Bears (old new c : TaskView) : Type 0 where

@@ -9,10 +9,10 @@ use Rattle.fiber_frames.specs.Moves.{moved}
 use Rattle.cell_registry.specs.declared.limits.CellError.{CellError}
 use Rattle.cell_registry.specs.declared.limits.RunError.{RunError}
 use Rattle.cell_registry.specs.declared.call.Call.{Call}
-use Rattle.cell_registry.specs.Cells.{refusal}
+use Rattle.cell_registry.specs.Cells.{ref_of, refusal}
 use Rattle.cell_registry.specs.Plain.{IsMade, PlainView}
-use Rattle.scheduled_core.specs.declared.wish.Wish.TheVariants.{Alone, Nothing, Shared}
-use Rattle.scheduled_core.specs.Core.{fault_of, wish_of}
+use Rattle.scheduled_core.specs.declared.wish.Wish.TheVariants.{Alone, Nothing, Shared, Updates}
+use Rattle.scheduled_core.specs.Core.{call_at, fault_of, wish_of}
 use Rattle.scheduled_core.specs.Private.Asking.{Asking}
 
 -- the child of a move, if it started one
@@ -27,6 +27,8 @@ children (moves.Ended o) = []
 pub data Replied (old : PlainView) (f : ℕ) (g : Fiber) (r : Reply) (new : PlainView) : Type 0 where
   Unshared : wish_of (ask_of g) ≡ Alone → r ≡ reply.Done → new ≡ old → Replied old f g r new
   Made : (c : Call) → wish_of (ask_of g) ≡ Shared c → IsMade old new f c r → Replied old f g r new
+  Updated : (x : ℕ) → wish_of (ask_of g) ≡ Updates x → r ≡ reply.Value (ref_of old.state x) →
+      IsMade old new f (call_at old.state g x) r → Replied old f g r new
 
 -- fiber f has no move, or made its next one
 pub data Moves (old : PlainView) (f : ℕ) (g : Fiber) (new : PlainView) (after : Fiber) (born : List Fiber) : Type 0
