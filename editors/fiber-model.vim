@@ -38,7 +38,7 @@ syntax match fiberModelBinding "(\@1<=\%(let\|ref\|refs\|deferred\|deferreds\|st
 syntax match fiberModelBlock "(\@1<=\%(do\|seq\|if\|if0\|when\|unless\|repeat\|forever\)\>"
 syntax match fiberModelMask "(\@1<=\%(uncancelable\|poll\|oncancel\|guarantee\|bracket\|bracketcase\|bracketfull\)\>"
 syntax match fiberModelWord "(\@1<=\%(pure\|raise\|handle\|add\|say\|cede\|never\|canceled\)\>"
-syntax match fiberModelWord "(\@1<=\%(join\|cancel\|get\|set\|modify\|complete\|await\|race\|both\)\>"
+syntax match fiberModelWord "(\@1<=\%(join\|cancel\|get\|set\|modify\|update\|complete\|await\|race\|both\)\>"
 syntax match fiberModelWord "(\@1<=\%(sub\|mul\|div\|mod\|less\|equal\)\>"
 syntax match fiberModelWord "(\@1<=\%(+\|-\|\*\|/\|%\)[[:space:]]\@="
 syntax match fiberModelPrelude "(\@1<=\%(wait\|value-of\|spin-until-zero\|ignore-errors\|guarantee-case\)\>"

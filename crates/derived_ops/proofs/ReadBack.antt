@@ -17,7 +17,7 @@ use Rattle.derived_ops.specs.Tree.{Make, Start, Loop, Uncancelable, Poll, Update
 use Rattle.derived_ops.specs.Words.{rest_of, tree_at}
 
 -- ---- what has words: no number in the place of a name, and no form that only a running fiber has
-abbrev handle_has : Handle → Bool
+abbrev pub handle_has : Handle → Bool
 handle_has (Known n) = false
 handle_has (Open_slot s) = true
 

@@ -2,6 +2,7 @@
 use Rattle.fiber_frames.proofs.Prelude.{◌≡◌, ℕ, List, [], ◌∷◌, map, refl, ap, ap₂, ◌∙◌, fun_ext, Guarded, Handled, If0, Join, Let, Loop, Make, Mask, Masked}
 use Rattle.fiber_frames.proofs.Prelude.{Named, Note, On_cancel, Pair, Poll, Polled, Seq, Start, Tree, Uncancelable, Final, Running, Runs, all_renumbered}
 use Rattle.fiber_frames.proofs.Prelude.{mask_to, masks_first, masks_of, masks_on, number_to, renumbered, run_renumbered}
+use Rattle.fiber_frames.proofs.Prelude.{Update}
 
 -- first those of fiber i, and then, where it is all in fiber c
 module _ (i c : ℕ) (one two : ℕ → ℕ → Mask) where
@@ -27,6 +28,7 @@ module _ (i c : ℕ) (one two : ℕ → ℕ → Mask) where
     twice (Loop n e) = ap (Loop n) (twice e)
     twice (Uncancelable x e) = ap (Uncancelable x) (twice e)
     twice (Poll q e) = ap₂ (λ a b. Poll a b) (mask_twice q) (twice e)
+    twice (Update r x e) = ap (Update r x) (twice e)
     twice (On_cancel e fin) = ap₂ (λ a b. On_cancel a b) (twice e) (twice fin)
     twice (Masked m e) = ap₂ (λ a b. Masked a b) (numbers m) (twice e)
     twice (Polled q e) = ap₂ (λ a b. Polled a b) (mask_twice q) (twice e)

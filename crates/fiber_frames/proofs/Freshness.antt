@@ -4,7 +4,8 @@ use Rattle.fiber_frames.proofs.Prelude.{sym, ap, ap₂, ◌∙◌, subst, arith,
 use Rattle.fiber_frames.proofs.Prelude.{source_of, Put, mask_at, Guarded, Handled, If0, Join, Let, Loop, Make, Mask, Masked, Named, Note, On_cancel, Pair, Poll}
 use Rattle.fiber_frames.proofs.Prelude.{Polled, Seq, Start, Tree, Uncancelable, Reply, Running, Runs, Born, RowKind, Fiber, Looks, Move_case, child, move}
 use Rattle.fiber_frames.proofs.Prelude.{move_case, move_in, term_born, Reached, born, broken, moved, root, mask_to, masks_of, renumbered, run_renumbered}
-use Rattle.derived_ops.proofs.ReadBack.{expansion_has, has_words}
+use Rattle.fiber_frames.proofs.Prelude.{Update}
+use Rattle.derived_ops.proofs.ReadBack.{expansion_has, handle_has, has_words}
 use Rattle.fiber_frames.specs.Fiber.{kind_of}
 use Rattle.fiber_frames.proofs.Marks.Cutting.{Static}
 use Rattle.fiber_frames.proofs.Marks.Runs.{LiveRun, live_run}
@@ -56,6 +57,7 @@ module _ (i : ℕ) (to : ℕ → ℕ → Mask) where
   words_stay (Uncancelable x e) h = ap (Uncancelable x) (words_stay e h)
   words_stay (Poll (Named s) e) h = ap (Poll (Named s)) (words_stay e h)
   words_stay (Poll (Pair g m) e) h = absurd (cc)
+  words_stay (Update r x e) h = ap (Update r x) (words_stay e (of_second (handle_has r) _ h))
   words_stay (On_cancel e fin) h = ap₂ (λ a b. On_cancel a b) (words_stay e (of_first _ _ h)) (words_stay fin (of_second (has_words e) _ h))
   words_stay (Masked m e) h = absurd (cc)
   words_stay (Polled q e) h = absurd (cc)
@@ -87,6 +89,7 @@ module _ (i c : ℕ) (to : ℕ → ℕ → Mask) where
   static_own (Loop n e) h = ap (Loop n) (static_own e h)
   static_own (Uncancelable x e) h = ap (Uncancelable x) (static_own e h.0)
   static_own (Poll q e) h = ap₂ (λ a b. Poll a b) (same_mask_to q) (static_own e h)
+  static_own (Update r x e) h = ap (Update r x) (static_own e h)
   static_own (On_cancel e fin) h = ap₂ (λ a b. On_cancel a b) (static_own e h.0) (static_own fin h.1)
   static_own (Masked m e) h = absurd h
   static_own (Polled q e) h = absurd h

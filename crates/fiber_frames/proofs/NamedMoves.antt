@@ -6,6 +6,7 @@ use Rattle.fiber_frames.proofs.Prelude.{Runs, focus, Born, RowKind, Row, row_at,
 use Rattle.fiber_frames.proofs.Prelude.{kind_in, move, move_case, move_in, row_of, term_born, Reached, IsCode, ActionFits, AllClosed, A_deferred, A_fiber}
 use Rattle.fiber_frames.proofs.Prelude.{A_ref, Closed, Given, HandleFits, IsMore, No_handle, Place, given_of, made_by, AskNamed, NamedBeginning, NamedLive}
 use Rattle.fiber_frames.proofs.Prelude.{NamedRun, NumberGiven}
+use Rattle.fiber_frames.proofs.Prelude.{Update}
 use Rattle.fiber_frames.specs.Fiber.{kind_of}
 use Rattle.fiber_frames.proofs.CallBeforeReply.{call_same}
 use Rattle.fiber_frames.proofs.Walk.{End, Works, active_root, end_of, finalizers_below, masks_below, root_row, row_root, walk}
@@ -55,6 +56,7 @@ module _ (b c : Given) (more : IsMore b c) where
   named_more g (Loop t e) h = named_more g e h
   named_more g (Uncancelable x e) h = (h.0, named_more (g ++ No_handle ∷ []) e h.1)
   named_more g (Poll q e) h = named_more g e h
+  named_more g (Update r x e) h = (handle_more g A_ref r h.0, (h.1.0, named_more (g ++ No_handle ∷ []) e h.1.1))
   named_more g (On_cancel e fin) h = (named_more g e h.0, named_more g fin h.1)
   named_more g (Masked m e) h = h
   named_more g (Polled q e) h = h

@@ -9,6 +9,7 @@ use Rattle.fiber_frames.proofs.Prelude.{In_masked, In_polled, In_seq, undone, Ro
 use Rattle.fiber_frames.proofs.Prelude.{is_zero, looped, number_in, number_of, one_less, outcome_in, read_in, unit, ActionFits, A_deferred, A_fiber, A_ref}
 use Rattle.fiber_frames.proofs.Prelude.{Closed, Given, HandleFits, No_handle, Place, given_of, made_by, AskNamed, NamedLive, NumberGiven, PathStep, Calculate}
 use Rattle.fiber_frames.proofs.Prelude.{calculated, value_or_raise}
+use Rattle.fiber_frames.proofs.Prelude.{Update, Computed, old_or_raise, update_computed, value_in}
 use Rattle.fiber_frames.proofs.Walk.{End, Gives, Throws, Works, end_of, under, walk}
 use Rattle.fiber_frames.proofs.Marks.Actions.{If_born, none_born, wait_none}
 use Rattle.derived_ops.specs.Naming.{Named}
@@ -85,6 +86,8 @@ module _ (b : Given) (p : Put) (g g' : List Place) (long : length g ≡ length g
   named_put d (Loop t e) h = named_put d e h
   named_put d (Uncancelable x e) h = (slot_at d x h.0, outward d No_handle (put p e) (named_put (d ++ No_handle ∷ []) e (inward d No_handle e h.1)))
   named_put d (Poll q e) h = named_put d e h
+  named_put d (Update r x e) h =
+      (each d A_ref r h.0, (slot_at d x h.1.0, outward d No_handle (put p e) (named_put (d ++ No_handle ∷ []) e (inward d No_handle e h.1.1))))
   named_put d (On_cancel e fin) h = (named_put d e h.0, named_put d fin h.1)
   named_put d (Masked m e) h = absurd h
   named_put d (Polled q e) h = absurd h
@@ -314,6 +317,11 @@ module _ (b : Given) (i n : ℕ) (r : Reply) where
   row_named (Loop m e) up h = on _ tt tt (looped_named m e h)
   row_named (Uncancelable x e) up h = on _ tt tt (closed_live b (put (Put_mask x i n) e) (closed_mask b x i n e (closed_below b h.0 e h.1.1)))
   row_named (Poll q e) up h = on _ (switch_nameless _ Ask.Unmask tt) tt (closed_live b e h)
+  row_named (Update x y e) up h = record {
+    becomes = λ g. elim (update_computed y e (value_in r)) as (λ c. NamedLive b (old_or_raise (value_in r) c)) [ Computed.Comes z ↦ (0, tt) | Computed.Raises z ↦ (0, tt) ];
+    born = tt;
+    asks = shut_handle b h.0 A_ref x no_ref h.1.0;
+  }
   row_named (On_cancel e fin) up h = on _ tt tt (closed_live b e (h.0, h.1.0), (h.0, h.1.1))
   row_named (Masked m e) up h = step_named up (In_masked m) tt (end_of e) (walk i n r (Pair i m ∷ up) e) (row_named e (Pair i m ∷ up) h)
   row_named (Polled q e) up h = step_named up (In_polled q) tt (end_of e) (walk i n r (undone q up) e) (row_named e (undone q up) h)

@@ -10,6 +10,7 @@ pub use Rattle.std.proofs.lemmas.List.{append-nil, length-map, length-set, map_m
 pub use Rattle.std.proofs.lemmas.Result.{IfOk-weaker, on_ok_weaker}
 pub use Rattle.std.specs.Prelude.{max, min}
 pub use Rattle.effect_term.specs.Arithmetic.{calculated}
+pub use Rattle.effect_term.specs.declared.computed.Computed.{Computed}
 pub use Rattle.effect_term.specs.declared.reply.Outcome.{Outcome}
 pub use Rattle.effect_term.specs.declared.reply.Reply.{Reply}
 pub use Rattle.effect_term.specs.declared.reply.Reply.TheVariants.{Done}
@@ -26,7 +27,7 @@ pub use Rattle.derived_ops.specs.Source.{Source}
 pub use Rattle.derived_ops.specs.Tree.{Acquired, Act, Action, Add, Always, Await, Bracket_mark, Cancel, Canceled, Complete, Ending, Get, Guarded, Handle}
 pub use Rattle.derived_ops.specs.Tree.{Handled, If0, Join, Known, Last, Let, Loop, Make, Maker, Mask, Masked, Modify, More, Named, Never, New_deferred, New_ref}
 pub use Rattle.derived_ops.specs.Tree.{Note, Number, On_cancel, Open_slot, Operand, Pair, Poll, Polled, Pure, Raise, Released, Releasing, Request, Rest, Say}
-pub use Rattle.derived_ops.specs.Tree.{Calculate, Seq, Set, Slot, Start, Times, Tree, Turns, Uncancelable}
+pub use Rattle.derived_ops.specs.Tree.{Calculate, Seq, Set, Slot, Start, Times, Tree, Turns, Uncancelable, Update}
 pub use Rattle.derived_ops.specs.Words.{rest_of, second, third, tree_at, word_at, word_or_never, word_tree}
 pub use Rattle.derived_ops.specs.declared.core_word.CoreWord.{CoreWord}
 pub use mathlib.Core.List.{reverse_aux}
@@ -61,7 +62,7 @@ pub use Rattle.fiber_frames.specs.Reached.{Reached, born, broken, moved, root}
 pub use Rattle.fiber_frames.specs.Rows.{Born, Ceded, Ended, Plain, Row, RowKind, Waited, action_row, after_end, after_read, branch, calls, completed_in, enters}
 pub use Rattle.fiber_frames.specs.Rows.{error_row, error_under, fits, handle_number, is_ended, is_positive, is_zero, looped, mask_number, note_mark, notes}
 pub use Rattle.fiber_frames.specs.Rows.{number_in, number_of, one_less, outcome_in, placed, read_in, row, row_at, sum_or_raise, switches, unit, value_in}
-pub use Rattle.fiber_frames.specs.Rows.{value_or_raise, value_row, value_under, wait}
+pub use Rattle.fiber_frames.specs.Rows.{old_or_raise, update_computed, value_or_raise, value_row, value_under, wait}
 pub use Rattle.fiber_frames.specs.Shapes.{entry_placed, frame_placed, numbers_in, path_masks, stage_placed}
 pub use Rattle.fiber_frames.specs.SlotNames.{Agree, AreSameAt, Names, Needs, NeedsAt, many_parts}
 pub use Rattle.fiber_frames.specs.Told.{BornReached, kind_of_row_end, told_by}

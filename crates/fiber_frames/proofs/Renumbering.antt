@@ -8,6 +8,9 @@ use Rattle.fiber_frames.proofs.Prelude.{In_guarded, In_handle, In_let, In_masked
 use Rattle.fiber_frames.proofs.Prelude.{without_first, Born, Ceded, Ended, Plain, Row, RowKind, Waited, action_row, after_end, after_read, branch, fits}
 use Rattle.fiber_frames.proofs.Prelude.{is_ended, is_positive, is_zero, looped, mask_number, number_in, number_of, one_less, outcome_in, read_in, unit, wait}
 use Rattle.fiber_frames.proofs.Prelude.{mask_to, masks_on, number_to, renumbered, Calculate, calculated, value_or_raise}
+use Rattle.fiber_frames.proofs.Prelude.{Computed, Update, fun_ext, old_or_raise, update_computed, value_in}
+use Rattle.effect_term.specs.Computing.{before, caught, chosen}
+use Rattle.derived_ops.specs.Computing.{Values, computed, value_under, with_value}
 use Rattle.fiber_frames.proofs.Walk.{End, Gives, Throws, Works, end_of, under, walk}
 
 -- what a kind of move starts, with its masks' numbers changed
@@ -22,6 +25,18 @@ kind_renumbered r (Ended o) = Ended o
 abbrev pub Each : {A : Type 0} → (A → Type 0) → List A → Type 0
 Each P [] = Unit {0}
 Each P (x ∷ xs) = P x × Each P xs
+
+-- what a term comes to doesn't depend on the numbers of masks
+computed_renumbered_by : (i : ℕ) (to : ℕ → ℕ → Mask) (g : Values) (t : Tree) → computed g t ≡ computed g (renumbered i to t)
+computed_renumbered_by i to g (Let e x k) =
+    ap₂ before (computed_renumbered_by i to g e) (fun_ext (λ z. computed_renumbered_by i to (with_value g x z) k))
+computed_renumbered_by i to g (Seq w e k) =
+    ap₂ before (computed_renumbered_by i to g e) (fun_ext (λ z. computed_renumbered_by i to g k))
+computed_renumbered_by i to g (Handled e x h) =
+    ap₂ caught (computed_renumbered_by i to g e) (fun_ext (λ z. computed_renumbered_by i to (with_value g x z) h))
+computed_renumbered_by i to g (If0 v s e) =
+    ap₂ (chosen (value_under g v)) (computed_renumbered_by i to g s) (computed_renumbered_by i to g e)
+computed_renumbered_by i to g _ = refl
 
 module _ (i : ℕ) (to : ℕ → ℕ → Mask) (closed : (p : Put) (g m : ℕ) → mask_at p (to g m) ≡ to g m) where
   abbrev pub R : Tree → Tree
@@ -78,6 +93,7 @@ module _ (i : ℕ) (to : ℕ → ℕ → Mask) (closed : (p : Put) (g m : ℕ) �
     put_renumbered (Loop n e) = ap₂ (λ a b. Loop a b) (turns_same n) (put_renumbered e)
     put_renumbered (Uncancelable x e) = ap (Uncancelable x) (put_renumbered e)
     put_renumbered (Poll q e) = ap₂ (λ a b. Poll a b) (same.mask q) (put_renumbered e)
+    put_renumbered (Update r x e) = ap₂ (λ a b. Update a x b) (same.handle r) (put_renumbered e)
     put_renumbered (On_cancel e fin) = ap₂ (λ a b. On_cancel a b) (put_renumbered e) (put_renumbered fin)
     put_renumbered (Masked m e) = ap (Masked (number_to i to m)) (put_renumbered e)
     put_renumbered (Polled q e) = ap₂ (λ a b. Polled a b) (same.mask q) (put_renumbered e)
@@ -284,6 +300,12 @@ module _ (i : ℕ) (to : ℕ → ℕ → Mask) (closed : (p : Put) (g m : ℕ) �
     walk_alike (Uncancelable x e) up up' k g q h = record {
       call = refl;
       becomes = ap₂ (λ n t. Masked n t) (ap mask_number (sym (h refl))) (put_mask next next' (h refl) x e);
+      kind = refl;
+    }
+    walk_alike (Update c x e) up up' k g q h = record {
+      call = refl;
+      becomes = ap (old_or_raise (value_in r)) (sym (computed_renumbered_by i to (with_value (λ s. pos 0) x (value_in r)) e))
+          ∙ elim (update_computed x e (value_in r)) as (λ y. old_or_raise (value_in r) y ≡ R (old_or_raise (value_in r) y)) [ Computed.Comes z ↦ refl | Computed.Raises z ↦ refl ];
       kind = refl;
     }
     walk_alike (Poll p e) up up' k g q h =

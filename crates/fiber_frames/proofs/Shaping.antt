@@ -10,6 +10,7 @@ use Rattle.fiber_frames.proofs.Prelude.{finalizers_of, leaf_of, running_in, runn
 use Rattle.fiber_frames.proofs.Prelude.{In_let, In_masked, In_polled, In_seq, PathStep, Running, around, whole, entry_placed, frame_placed, numbers_in}
 use Rattle.fiber_frames.proofs.Prelude.{path_masks, stage_placed, all_renumbered, mask_to, masks_of, masks_on, number_to, placed_in, renumbered, run_renumbered}
 use Rattle.fiber_frames.proofs.Prelude.{run_unmarked, unmarked, Mask_code, Calculate}
+use Rattle.fiber_frames.proofs.Prelude.{Update}
 use Rattle.fiber_frames.specs.declared.frame.Place.{Place}
 
 -- ---- terms without numbers of masks, and without the forms that only a running fiber has
@@ -29,6 +30,7 @@ Words (Start x e k) = Words e × Words k
 Words (Loop n e) = Words e
 Words (Uncancelable x e) = Words e
 Words (Poll q e) = Unnumbered q × Words e
+Words (Update r x e) = Words e
 Words (On_cancel e fin) = Words e × Words fin
 Words (Masked m e) = ⊥
 Words (Polled q e) = ⊥
@@ -46,6 +48,7 @@ word_words (CoreWord.Start j) n a b c f g h = (f n, g (n + 1))
 word_words (CoreWord.Loop t) n a b c f g h = f n
 word_words CoreWord.Uncancelable n a b c f g h = f (n + 1)
 word_words (CoreWord.Poll p) n a b c f g h = (tt, f n)
+word_words (CoreWord.Update r) n a b c f g h = f (n + 1)
 word_words (CoreWord.OnCancel j) n a b c f g h = (f n, g n)
 word_words _ n a b c f g h = tt
 
@@ -167,6 +170,7 @@ module _ (i : ℕ) (ms : List ℕ) where
     tree_close (Loop n e) h = ap₂ (λ a b. Loop a b) (turns_close n) (tree_close e h)
     tree_close (Uncancelable x e) h = ap (Uncancelable x) (tree_close e h)
     tree_close (Poll q e) h = ap₂ (λ a b. Poll a b) (mask_close q h.0) (tree_close e h.1)
+    tree_close (Update r x e) h = ap₂ (λ a b. Update a x b) (handle_close r) (tree_close e h)
     tree_close (On_cancel e fin) h = ap₂ (λ a b. On_cancel a b) (tree_close e h.0) (tree_close fin h.1)
     tree_close _ h = absurd h
 

@@ -83,6 +83,7 @@ module _ (g h : Env) (n : ℕ) (a b c : ℕ → Tree) where
   word_same (CoreWord.Loop t) own first next last = let p = first (omega arith) n in cc
   word_same CoreWord.Uncancelable own first next last = ap (λ (x : Tree). Uncancelable n x) (first (omega arith) (n + 1))
   word_same (CoreWord.Poll q) own first next last = let p = first (omega arith) n in cc
+  word_same (CoreWord.Update q) own first next last = let p = first (omega arith) (n + 1) in cc
   word_same (CoreWord.OnCancel j) own first next last = ap₂ (λ (x y : Tree). On_cancel x y) (first (omega arith) n) (next (omega arith) n)
   word_same _ own first next last = own
 

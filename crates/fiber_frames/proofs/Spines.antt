@@ -4,6 +4,7 @@ use Rattle.fiber_frames.proofs.Prelude.{Put_handle, Put_mask, Put_value, put, Ac
 use Rattle.fiber_frames.proofs.Prelude.{Mask, Masked, New_deferred, On_cancel, Pair, Poll, Polled, Seq, Start, Times, Tree, Turns, Uncancelable, Outcome, Reply}
 use Rattle.fiber_frames.proofs.Prelude.{In_guarded, In_handle, In_let, In_masked, In_polled, In_seq, PathStep, undone, Row, branch, is_positive, is_zero}
 use Rattle.fiber_frames.proofs.Prelude.{looped, number_in, number_of, one_less, outcome_in, unit, masks_on}
+use Rattle.fiber_frames.proofs.Prelude.{Update, Computed, old_or_raise, update_computed, value_in}
 use Rattle.fiber_frames.proofs.Walk.{End, Gives, Throws, Works, end_of, under, walk}
 use Rattle.fiber_frames.proofs.Marks.Actions.{If_born, Simple, a_value, action_case, none_born, wait_none}
 use Rattle.fiber_frames.proofs.Marks.Cutting.{Live, Static}
@@ -89,6 +90,11 @@ module _ (P : ℕ → Type 0) where
     walk_on (Loop m e) up h g = record { on = looped_on m e h; rises = inl refl; born = tt }
     walk_on (Uncancelable x e) up h g = record { on = (new, put_each (Put_mask x i next) (mask_runtime x i next) e h.0); rises = inr refl; born = tt }
     walk_on (Poll q e) up h g = record { on = static_each e h; rises = inl refl; born = tt }
+    walk_on (Update c x e) up h g = record {
+      on = elim (update_computed x e (value_in r)) as (λ y. Each P (masks_on (old_or_raise (value_in r) y))) [ Computed.Comes z ↦ tt | Computed.Raises z ↦ tt ];
+      rises = inl refl;
+      born = tt;
+    }
     walk_on (On_cancel e fin) up h g = record { on = static_each e h.0; rises = inl refl; born = tt }
     walk_on (Masked m e) up h g = under_on up (In_masked m) (end_of e) (walk i next r (Pair i m ∷ up) e) g.0 (walk_on e (Pair i m ∷ up) h g.1)
     walk_on (Polled q e) up h g = under_on up (In_polled q) (end_of e) (walk i next r (undone q up) e) tt (walk_on e (undone q up) h g)

@@ -9,6 +9,7 @@ use Rattle.fiber_frames.proofs.Prelude.{action_row, after_end, after_read, branc
 use Rattle.fiber_frames.proofs.Prelude.{number_of, one_less, outcome_in, read_in, unit, Apart, AskApart, Bound, NumberApart, By_none, By_other, Scope}
 use Rattle.fiber_frames.proofs.Prelude.{action_uses, all_open, bound_by, handle_count, of_use, open_count, tree_uses, under_binder, used_place, PathStep}
 use Rattle.fiber_frames.proofs.Prelude.{Calculate, calculated, value_or_raise}
+use Rattle.fiber_frames.proofs.Prelude.{Update, Computed, old_or_raise, update_computed, value_in}
 use Rattle.fiber_frames.proofs.Walk.{End, Gives, Throws, Works, end_of, under, walk}
 use Rattle.fiber_frames.proofs.Marks.Actions.{If_born, none_born, wait_none}
 
@@ -127,6 +128,8 @@ module _ (u : Use) (n : ℕ) where
     tree_put a b r (Loop t e) z = tree_put a b r e z
     tree_put a b r (Uncancelable x e) z = tree_put a b r e z
     tree_put a b r (Poll q e) z = tree_put a b r e z
+    tree_put a b r (Update f x e) z =
+        two_put _ _ _ _ (use_put Use.Gets a b r f) (λ more. two_put _ _ _ _ (use_put Use.Stores a b r f) (tree_put a b r e) more) z
     tree_put a b r (On_cancel e fin) z = two_put _ _ _ _ (tree_put a b r e) (tree_put a b r fin) z
     tree_put a b r (Masked m e) z = tree_put a b r e z
     tree_put a b r (Polled q e) z = tree_put a b r e z
@@ -337,6 +340,11 @@ module _ (u : Use) (n : ℕ) where
     row_unused (Loop m e) up h = on _ tt tt (looped_unused m e h)
     row_unused (Uncancelable x e) up h = on _ tt tt (unused_mask x i next e h)
     row_unused (Poll q e) up h = on _ (switch_useless _ Ask.Unmask tt) tt h
+    row_unused (Update f x e) up h = record {
+      becomes = λ g. elim (update_computed x e (value_in r)) as (λ y. Unused (old_or_raise (value_in r) y)) [ Computed.Comes z ↦ refl | Computed.Raises z ↦ refl ];
+      born = tt;
+      asks = (used_apart Use.Gets f (none_first _ _ h), used_apart Use.Stores f (none_first _ _ (none_second _ _ h)));
+    }
     row_unused (On_cancel e fin) up h = on _ tt tt h
     row_unused (Masked m e) up h = step_unused up (In_masked m) tt (end_of e) (walk i next r (Pair i m ∷ up) e) (row_unused e (Pair i m ∷ up) h)
     row_unused (Polled q e) up h = step_unused up (In_polled q) tt (end_of e) (walk i next r (undone q up) e) (row_unused e (undone q up) h)

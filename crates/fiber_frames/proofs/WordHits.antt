@@ -9,6 +9,7 @@ last_part (CoreWord.Make m) a b c = a
 last_part (CoreWord.Loop t) a b c = a
 last_part CoreWord.Uncancelable a b c = a
 last_part (CoreWord.Poll q) a b c = a
+last_part (CoreWord.Update q) a b c = a
 last_part _ a b c = b
 
 module _ (ws : List CoreWord) (i : ℕ) where
@@ -24,6 +25,7 @@ module _ (ws : List CoreWord) (i : ℕ) where
   last_at (CoreWord.Loop t) j = ap (λ k. tree_at ws k j) (omega arith)
   last_at CoreWord.Uncancelable j = ap (λ k. tree_at ws k j) (omega arith)
   last_at (CoreWord.Poll q) j = ap (λ k. tree_at ws k j) (omega arith)
+  last_at (CoreWord.Update q) j = ap (λ k. tree_at ws k j) (omega arith)
   last_at _ j = refl
 
 module _ (u : Use) (n : ℕ) (es : List EnvEntry) (level : ℕ) where
@@ -46,6 +48,7 @@ module _ (u : Use) (n : ℕ) (es : List EnvEntry) (level : ℕ) where
     word_front (CoreWord.Loop t) some own first next = (m, refl)
     word_front CoreWord.Uncancelable some own first next = (m + 1, refl)
     word_front (CoreWord.Poll q) some own first next = (m, refl)
+    word_front (CoreWord.Update q) some own first next = (m + 1, omega (arith, own))
     word_front (CoreWord.OnCancel j) some own first next = let z = first (omega arith) m in (m, omega (arith, z))
     word_front _ some own first next = absurd (omega (arith, some))
 

@@ -44,6 +44,7 @@ module _ (es : List EnvEntry) (level : ℕ) where
         (m, ap (λ i. min i top) (omega (arith, e, s, z, o)))
     word_front CoreWord.Uncancelable some h k p q = let z = k (omega arith) in let o = q (omega arith) in (m + 1, omega (arith, z, o))
     word_front (CoreWord.Poll r) some h k p q = let z = k (omega arith) in let o = q (omega arith) in (m, omega (arith, z, o))
+    word_front (CoreWord.Update r) some h k p q = let z = k (omega arith) in let o = q (omega arith) in (m + 1, omega (arith, z, o))
     word_front (CoreWord.OnCancel j) some h k p q = let z = h (omega arith) m in let o = q (omega arith) in (m, omega (arith, z, o))
     word_front _ some h k p q = absurd (omega (arith, some))
 

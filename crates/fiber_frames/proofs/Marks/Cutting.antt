@@ -1,6 +1,7 @@
 -- Which masks the marks show as on, and which brackets a term may still acquire.
 use Rattle.fiber_frames.proofs.Prelude.{◌≡◌, ◌⊎◌, ℕ, ◌+◌, ◌≤◌, Bool, true, false, nat_eq, if◌then◌else◌, List, [], ◌∷◌, Acquired, Guarded, Handled, If0, Join}
 use Rattle.fiber_frames.proofs.Prelude.{Let, Loop, Make, Mask, Masked, Named, Note, On_cancel, Poll, Polled, Seq, Start, Tree, Uncancelable, same_mask, Mark}
+use Rattle.fiber_frames.proofs.Prelude.{Update}
 
 -- whether mask m is entered, not left and not polled, after a mark
 abbrev pub on_after : ℕ → Mark → Bool → Bool
@@ -49,6 +50,7 @@ Static (Start v e b) = Static e × Static b
 Static (Loop m e) = Static e
 Static (Uncancelable v e) = Static e × (spends (only (Named v)) e ≤ 1)
 Static (Poll q e) = Static e
+Static (Update r x e) = Static e
 Static (On_cancel e fin) = Static e × Static fin
 Static (Masked m e) = ⊥
 Static (Polled q e) = ⊥

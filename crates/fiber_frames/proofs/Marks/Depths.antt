@@ -6,6 +6,7 @@ use Rattle.fiber_frames.proofs.Prelude.{Tree, Turns, Uncancelable, Outcome, Repl
 use Rattle.fiber_frames.proofs.Prelude.{term_born, At_final, At_term, Broken, Final, In_guarded, In_handle, In_let, In_masked, In_polled, In_seq, PathStep}
 use Rattle.fiber_frames.proofs.Prelude.{masks_in, ℤ, Over, Running, Runs, active_at, focus, is_effective, same_mask, undone, without_first, Born, RowKind, Row}
 use Rattle.fiber_frames.proofs.Prelude.{action_row, branch, is_positive, is_zero, looped, number_in, number_of, one_less, outcome_in, row_at, unit, Mark}
+use Rattle.fiber_frames.proofs.Prelude.{Update, Computed, old_or_raise, update_computed, value_in}
 use Rattle.derived_ops.specs.Counts.{masks}
 use Rattle.fiber_frames.proofs.Marks.Actions.{ActionRow, If_born, action_case, none_born, simple_case, wait_none}
 use Rattle.fiber_frames.proofs.Marks.Cutting.{Live, Static}
@@ -29,6 +30,7 @@ masks_put (Start v e b) p = λ j. max (masks_put e p j) (masks_put b p j)
 masks_put (Loop m e) p = masks_put e p
 masks_put (Uncancelable v e) p = ap (λ n. 1 + n) (masks_put e p)
 masks_put (Poll q e) p = masks_put e p
+masks_put (Update r x e) p = masks_put e p
 masks_put (On_cancel e fin) p = λ j. max (masks_put e p j) (1 + masks_put fin p j)
 masks_put _ p = refl
 
@@ -157,6 +159,10 @@ module _ (i B : ℕ) where
     row_room (Uncancelable v e) up l h =
         record { term = put_room e (Put_mask v i n) (Pair i n ∷ up) (static_put e (Put_mask v i n) (mask_runtime v i n) l.0) (omega arith); born = tt }
     row_room (Poll q e) up l h = record { term = (omega arith, static_room e (undone q up) l (omega (arith, undone_shorter q up))); born = tt }
+    row_room (Update c v e) up l h = record {
+      term = elim (update_computed v e (value_in r)) as (λ y. Room up (old_or_raise (value_in r) y)) [ Computed.Comes z ↦ omega arith | Computed.Raises z ↦ omega arith ];
+      born = tt;
+    }
     row_room (On_cancel e fin) up l h = record { term = (static_room e up l.0 (omega arith), omega arith); born = tt }
     row_room (Masked m e) up l h =
         step_room up (In_masked m) tt (let z : length (Pair i m ∷ up) ≤ B = room_here e (Pair i m ∷ up) h in omega arith) (end_of e)

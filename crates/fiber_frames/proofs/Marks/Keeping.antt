@@ -6,6 +6,7 @@ use Rattle.fiber_frames.proofs.Prelude.{Pair, Poll, Polled, Pure, Raise, Release
 use Rattle.fiber_frames.proofs.Prelude.{Reply, In_guarded, In_handle, In_let, In_masked, In_polled, In_seq, PathStep, is_effective, same_mask, undone, RowKind}
 use Rattle.fiber_frames.proofs.Prelude.{Plain, Row, action_row, branch, calls, enters, is_positive, is_zero, looped, mask_number, note_mark, number_in}
 use Rattle.fiber_frames.proofs.Prelude.{number_of, one_less, outcome_in, unit, Ask, Mark}
+use Rattle.fiber_frames.proofs.Prelude.{Update, Computed, old_or_raise, update_computed, value_in}
 use Rattle.fiber_frames.proofs.Marks.Actions.{ActionRow, If_born, NoBirth, Says, action_case, none_born, said, silent, simple_case, wait_none}
 use Rattle.fiber_frames.proofs.Marks.Opened.{Freeing, Held, after_marks, and_then}
 use Rattle.fiber_frames.proofs.Marks.Putting.{AllOf-undone}
@@ -268,6 +269,11 @@ module _ (i : ℕ) (Q : ℕ → Masks) (closed : (n t : ℕ) → Q n (Named t) �
   walk_keeps (Loop m e) up k s n x a o b h = keep_plain up k s n x a b _ _ (looped_typed m e up k s n x a.open_now h.0 h.1 h.2)
   walk_keeps (Uncancelable v e) up k s n x a o b h = entered up k s n x _ a b h.2 h.3 (typed_new i Q closed grows fresh next made_known v e up k s n x a o h.4)
   walk_keeps (Poll q e) up k s n x a o b h = keep_marked up k s n x a b _ _ _ _ tt (in_quiet i (is_effective q up) (mask_number q) s) (h.1, h.2, h.3, h.4)
+  walk_keeps (Update c v e) up k s n x a o b h =
+      keep_plain up k s n x a b _ _ (elim (update_computed v e (value_in r)) as (λ y. Typed i (Q next) up k s n x (old_or_raise (value_in r) y)) [
+        | Computed.Comes z ↦ (h.0, h.1)
+        | Computed.Raises z ↦ (h.0, h.2)
+      ])
   walk_keeps (On_cancel e fin) up k s n x a o b h = keep_plain up k s n x a b _ _ (h.1, h.2, h.3, h.4, h.5, h.6)
   walk_keeps (Masked m e) up k s n x a o b h =
       let a' : Around (Q next) (Older i next) (Pair i m ∷ up) k s n x = record {

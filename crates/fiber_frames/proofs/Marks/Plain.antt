@@ -3,6 +3,7 @@ use Rattle.fiber_frames.proofs.Prelude.{◌≡◌, ◌≢◌, ℕ, ◌+◌, ◌�
 use Rattle.fiber_frames.proofs.Prelude.{subst, arith, ne_eqb, bracket_case, Act, Action, Cancel, Handle, Handled, If0, Join, Let, Loop, Make, Maker, Mask}
 use Rattle.fiber_frames.proofs.Prelude.{Named, On_cancel, Pair, Poll, Pure, Raise, Rest, Seq, Start, Tree, Turns, Uncancelable, Operand, same_mask, undone}
 use Rattle.fiber_frames.proofs.Prelude.{Reply}
+use Rattle.fiber_frames.proofs.Prelude.{Update}
 use Rattle.fiber_frames.proofs.Marks.Cutting.{Active, Static, only, spends}
 use Rattle.fiber_frames.proofs.Marks.Derived.{Neutral, Safe, bracket_neutral, named_ne, pair_named, safe_at, safe_fine}
 use Rattle.fiber_frames.proofs.Marks.Regions.{same_true}
@@ -50,6 +51,9 @@ module _ (V : Masks) (d : ℕ) where
 
   pub part_cancel : (f : Handle) → Part V d (Cancel f)
   part_cancel f = record { neutral = λ i P up k s vp fresh known safe. (safe_fine V d up k s safe, refl, refl); static = tt; unspent = λ q b. refl }
+
+  pub part_update : (r : Handle) (x : ℕ) (e : Tree) → Static e → Part V d (Update r x e)
+  part_update r x e he = record { neutral = λ i P up k s vp fresh known safe. (safe_fine V d up k s safe, refl, refl); static = he; unspent = λ q b. refl }
 
   pub part_let : (e : Tree) (v : ℕ) (b : Tree) → Part V d e → Part V d b → Part V d (Let e v b)
   part_let e v b he hb = record {

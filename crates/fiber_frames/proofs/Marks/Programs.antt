@@ -237,6 +237,7 @@ mutual
   sound (term.Get r) g m d V s w = part_act V d _
   sound (term.Set r v) g m d V s w = part_act V d _
   sound (term.Modify r v) g m d V s w = part_act V d _
+  sound (term.Update' r _ e) g m d V s w = part_update V d _ d _ (bound g m d V s Kind.Value not_poll_value e (sound e) w.1).static
   sound (term.Deferred' _ k) g m d V s w = part_make V d New_deferred d _ (bound g m d V s Kind.Deferred not_poll_deferred k (sound k) w)
   sound (term.Complete c v) g m d V s w = part_act V d _
   sound (term.Await c) g m d V s w = part_act V d _

@@ -3,6 +3,7 @@ use Rattle.fiber_frames.proofs.Prelude.{◌≡◌, ℕ, inl, inr, Bool, true, fa
 use Rattle.fiber_frames.proofs.Prelude.{mask_at, put, Acquired, Act, Bracket_mark, Cancel, Guarded, Handled, If0, Join, Let, Loop, Make, Mask, Masked, Named}
 use Rattle.fiber_frames.proofs.Prelude.{Note, On_cancel, Pair, Poll, Polled, Pure, Raise, Released, Releasing, Seq, Start, Tree, Uncancelable, is_effective}
 use Rattle.fiber_frames.proofs.Prelude.{same_mask, undone, without_first}
+use Rattle.fiber_frames.proofs.Prelude.{Update}
 use Rattle.fiber_frames.proofs.Marks.Opened.{Freeing, Held, Opened}
 use Rattle.fiber_frames.proofs.Marks.Typed.{AllOf, Fine, If_ends, In, Leads, Leaves, Masks, Opens, Stack, Typed, Weaker, with_slot}
 
@@ -151,6 +152,7 @@ module _ (R : Masks) (p : Put) (z : Same R p) where
     subst (λ qs. Typed i P' qs (end_at p k) (stack_at p s) (end_at p n) (end_at p x) (put p e)) (sym (undone_at q up (w.regular q h.1) a))
         (typed_put e i P P' (undone q up) k s n x w (AllOf-undone R q up a) h.4),
   )
+  typed_put (Update r v e) i P P' up k s n x w a h = (fine_at p up k s h.0, ap (end_at p) h.1, ap (end_at p) h.2)
   typed_put (On_cancel e fin) i P P' up k s n x w a h = (
     fine_at p up k s h.0,
     end_at p h.1,

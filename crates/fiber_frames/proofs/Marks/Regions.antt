@@ -6,6 +6,7 @@ use Rattle.fiber_frames.proofs.Prelude.{New_ref, Note, On_cancel, Pair, Poll, Po
 use Rattle.fiber_frames.proofs.Prelude.{In_guarded, In_handle, In_let, In_masked, In_polled, In_seq, PathStep, masks_in, is_effective, same_mask, undone}
 use Rattle.fiber_frames.proofs.Prelude.{RowKind, Plain, Row, action_row, branch, calls, enters, is_positive, is_zero, looped, mask_number, note_mark, notes}
 use Rattle.fiber_frames.proofs.Prelude.{number_in, number_of, one_less, outcome_in, switches, unit, Ask, Mark}
+use Rattle.fiber_frames.proofs.Prelude.{Update, Computed, old_or_raise, update_computed, value_in}
 use Rattle.fiber_frames.proofs.Marks.Actions.{ActionRow, Says, action_case, said, silent, simple_case}
 use Rattle.fiber_frames.proofs.Marks.Cutting.{Active, Live, Static, is_on, only}
 use Rattle.fiber_frames.proofs.Marks.Keeping.{Own}
@@ -34,6 +35,7 @@ static_put (Start v e b) p z h = (static_put e p z h.0, static_put b p z h.1)
 static_put (Loop m e) p z h = static_put e p z h
 static_put (Uncancelable v e) p z h = (static_put e p z h.0, omega (arith, spends_put e p (only (Named v)) (only (Named v)) (z v), h.1))
 static_put (Poll q e) p z h = static_put e p z h
+static_put (Update r x e) p z h = static_put e p z h
 static_put (On_cancel e fin) p z h = (static_put e p z h.0, static_put fin p z h.1)
 static_put _ p z h = h
 
@@ -237,6 +239,8 @@ module _ (i next : ℕ) (r : Reply) where
   row_agrees (Loop m e) up o h = quiet _ up up _ (looped_static m e h) refl
   row_agrees (Uncancelable v e) up o h = enters_agrees up _ (static_put e (Put_mask v i next) (mask_runtime v i next) h.0)
   row_agrees (Poll q e) up o h = polls_in Ask.Unmask q e up o h
+  row_agrees (Update c v e) up o h =
+      quiet _ up up _ (elim (update_computed v e (value_in r)) as (λ y. Static (old_or_raise (value_in r) y)) [ Computed.Comes z ↦ tt | Computed.Raises z ↦ tt ]) refl
   row_agrees (On_cancel e fin) up o h =
       record { live = (static_live e h.0, h.1); agrees = λ m c w g. subst (Active (Pair i m)) (sym (static_active i e up h.0)) (w g) }
   row_agrees (Masked n e) up o h =

@@ -6,6 +6,7 @@ use Rattle.fiber_frames.proofs.Prelude.{Polled, Pure, Raise, Released, Releasing
 use Rattle.fiber_frames.proofs.Prelude.{In_guarded, In_handle, In_let, In_masked, In_polled, In_seq, PathStep, around, is_effective, same_mask, undone, Born}
 use Rattle.fiber_frames.proofs.Prelude.{RowKind, Plain, Row, action_row, branch, calls, enters, is_positive, is_zero, looped, mask_number, number_in, number_of}
 use Rattle.fiber_frames.proofs.Prelude.{one_less, outcome_in, switches, unit, Ask, Mark}
+use Rattle.fiber_frames.proofs.Prelude.{Update, Computed, old_or_raise, update_computed, value_in}
 use Rattle.fiber_frames.proofs.Marks.Actions.{ActionRow, If_born, NoBirth, Says, action_case, none_born, said, silent, simple_case, wait_none}
 use Rattle.fiber_frames.proofs.Marks.Cutting.{Live, Static, only, spends}
 use Rattle.fiber_frames.proofs.Marks.Keeping.{Own, own_pair}
@@ -211,6 +212,9 @@ module _ (i next : ℕ) (r : Reply) where
   row_saves (Poll q e) up l o =
       switch_saves (is_effective q up) Ask.Unmask (Mark.PollIn (mask_number q)) (Poll q e) (Polled q e) (λ w. refl) (elim [ inl e ↦ cc | inr e ↦ e ])
       (λ w l. omega arith)
+  row_saves (Update c v e) up l o =
+      plain_saves _ (Update c v e) _
+      (λ w l. elim (update_computed v e (value_in r)) as (λ y. spends w (old_or_raise (value_in r) y) ≤ 0) [ Computed.Comes z ↦ omega arith | Computed.Raises z ↦ omega arith ])
   row_saves (On_cancel e fin) up l o = plain_saves _ (On_cancel e fin) (Guarded e fin) (λ w l. omega arith)
   row_saves (Masked m e) up l o = step_saves up (In_masked m) e (end_of e) (walk i next r (Pair i m ∷ up) e) (row_saves e (Pair i m ∷ up) l o)
   row_saves (Polled q e) up l o = step_saves up (In_polled q) e (end_of e) (walk i next r (undone q up) e) (row_saves e (undone q up) l o)

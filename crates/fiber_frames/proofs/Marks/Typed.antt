@@ -2,6 +2,7 @@
 use Rattle.fiber_frames.proofs.Prelude.{◌≡◌, ℕ, ◌⊎◌, List, [], ◌∷◌, Option, Some, None, Acquired, Act, Bracket_mark, Cancel, Guarded, Handled, If0, Join, Let}
 use Rattle.fiber_frames.proofs.Prelude.{Loop, Make, Mask, Masked, Named, Note, On_cancel, Pair, Poll, Polled, Pure, Raise, Released, Releasing, Seq, Start}
 use Rattle.fiber_frames.proofs.Prelude.{Tree, Uncancelable, undone}
+use Rattle.fiber_frames.proofs.Prelude.{Update}
 use Rattle.fiber_frames.proofs.Marks.Opened.{Freeing, Held, Opened}
 
 abbrev pub Stack : Type 0
@@ -77,6 +78,7 @@ Typed i P up k s n x (Start _ e b) = Fine up k s × ((c : ℕ) → Typed c P [] 
 Typed i P up k s n x (Loop _ e) = Fine up k s × (n ≡ Some s) × Typed i P up k s (Some s) x e
 Typed i P up k s n x (Uncancelable p e) = Fine up k s × (P (Named p) → ⊥) × Leaves up k n × Leaves up k x × Typed i (with_slot P p) (Named p ∷ up) k s n x e
 Typed i P up k s n x (Poll q e) = Fine up k s × P q × Leaves up k n × Leaves up k x × Typed i P (undone q up) k s n x e
+Typed i P up k s n x (Update _ _ e) = Fine up k s × (n ≡ Some s) × (x ≡ Some s)
 Typed i P up k s n x (On_cancel e fin) =
     Fine up k s × (j : Option Stack) × If_ends j (In P) × Typed i P up j s n x e ×
     Leads j k (λ a b. (f m : ℕ) → (P (Pair f m) → ⊥) → Typed i P (Pair f m ∷ []) None a (Some b) (Some b) fin) × Leaves up k n × Leaves up k x

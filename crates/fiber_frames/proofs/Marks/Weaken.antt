@@ -1,6 +1,7 @@
 -- A term stays typed where more masks may be named.
 use Rattle.fiber_frames.proofs.Prelude.{ℕ, inl, inr, List, [], ◌∷◌, Option, Some, None, sym, subst, Guarded, Handled, If0, Join, Let, Loop, Make, Mask, Masked}
 use Rattle.fiber_frames.proofs.Prelude.{Named, Note, On_cancel, Pair, Poll, Polled, Seq, Start, Tree, Uncancelable, undone}
+use Rattle.fiber_frames.proofs.Prelude.{Update}
 use Rattle.fiber_frames.proofs.Marks.Opened.{Freeing, Held}
 use Rattle.fiber_frames.proofs.Marks.Typed.{AllOf, If_ends, In, Leads, Masks, Stack, Typed, Weaker, with_slot}
 
@@ -66,6 +67,7 @@ typed_more (Loop m e) i P P' up k s n x w h = (h.0, h.1, typed_more e i P P' up 
 typed_more (Uncancelable v e) i P P' up k s n x w h =
     (h.0, (λ g. h.1 (w.back v g)), h.2, h.3, typed_more e i (with_slot P v) (with_slot P' v) (Named v ∷ up) k s n x (more_below P P' v w) h.4)
 typed_more (Poll q e) i P P' up k s n x w h = (h.0, w.more q h.1, h.2, h.3, typed_more e i P P' (undone q up) k s n x w h.4)
+typed_more (Update r v e) i P P' up k s n x w h = h
 typed_more (On_cancel e fin) i P P' up k s n x w h = (
   h.0,
   h.1,
