@@ -37,7 +37,9 @@ fn reply(fiber: u16, ask: &Ask, requested: bool) -> Option<Reply>
             None => None,
         },
         Ask::NewRef | Ask::NewDeferred => Some(Reply::Number(0)),
-        Ask::Get(_) | Ask::Modify(_, _) => Some(Reply::Value(Value::from_i32(5))),
+        Ask::Get(_) | Ask::Modify(_, _) | Ask::Update(_) => {
+            Some(Reply::Value(Value::from_i32(5)))
+        }
         Ask::Complete(_, _) => Some(Reply::Completed(true)),
         Ask::Read(_) => Some(Reply::Read(Some(Value::from_i32(7)))),
         Ask::Cut | Ask::Mask | Ask::Unmask | Ask::Finish(_) => Some(Reply::Done),

@@ -196,7 +196,7 @@ fn make_move(config: &mut Config, registry: &mut PlainRegistry) -> Result<Option
             }
         }
         Wish::Updates(number) => {
-            let (old, _) = update_ref(config, registry, number)?;
+            let (old, _) = update_ref(&*config, registry, number)?;
             resumed(config, Reply::Value(old))
         }
     }
