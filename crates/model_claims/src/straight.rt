@@ -32,6 +32,7 @@ fn is_straight(word: &[u8]) -> bool {
         b"get" => true,
         b"set" => true,
         b"modify" => true,
+        b"update" => true,
         b"add" => true,
         b"sub" => true,
         b"mul" => true,
