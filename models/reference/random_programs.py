@@ -14,8 +14,8 @@ LARGE = ["4611686018427387903", "-4611686018427387904", "4611686018427387901", "
          "4611686000000000001"]
 # How often a term is made of each word: those that don't nest, and those that do.
 SMALL = {"say": 8, "get": 6, "set": 6, "modify": 8, "complete": 4, "await": 4, "cede": 1, "never": 1, "canceled": 1,
-         "raise": 2, "arithmetic": 5, "pure": 1, "cancel": 6, "wait": 3, "value-of": 2, "part": 6, "spin-until-zero": 0.5}
-NESTED = {"handle": 4, "condition": 6, "if0": 2, "do": 2, "uncancelable": 5, "poll": 6, "oncancel": 5, "guarantee": 5,
+         "raise": 2, "arithmetic": 6, "pure": 1, "cancel": 6, "wait": 3, "value-of": 2, "part": 6, "spin-until-zero": 0.5}
+NESTED = {"handle": 4, "condition": 9, "if0": 2, "do": 2, "uncancelable": 5, "poll": 6, "oncancel": 5, "guarantee": 5,
           "bracket": 4, "bracketcase": 3, "bracketfull": 2, "guarantee-case": 2, "race": 5, "both": 4, "join": 4,
           "repeat": 1, "forever": 1, "ignore-errors": 1, "defined": 9, "bind": 2}
 # Words and signs of arithmetic.
@@ -102,6 +102,8 @@ class Maker:
             return self.one(names)
         if deep > 0 and self.chance(0.25):
             return self.term(scope, deep - 1)
+        if deep > 0 and self.chance(0.15):
+            return self.make_arithmetic(scope, deep - 1)
         return self.one(LARGE) if self.chance(0.02) else self.one(NUMBERS)
 
     def term(self, scope, deep):
