@@ -1,5 +1,5 @@
 -- The forms that are open, under the binders that stand around the innermost.
-use Rattle.std.proofs.{Common.{◌≡◌, ◌≤◌, ◌<◌, ◌+◌, ℕ, List, [], ◌∷◌, ◌++◌, length, take, refl, ap, sym, subst, ◌∙◌, arith, Box}, lemmas.List.take-take}
+use Rattle.std.proofs.{Common.{◌≡◌, ◌≤◌, ◌<◌, ◌+◌, ℕ, Bool, false, List, [], ◌∷◌, ◌++◌, length, take, refl, ap, sym, subst, ◌∙◌, arith, Box}, lemmas.List.take-take}
 use Rattle.std.{proofs.lemmas.List.length-take, specs.declared.alloc.Global.Global}
 use Rattle.term_parse.specs.{declared.{error.ParseError.ParseError, table.Word.Word, scope.Binding.Binding, form.{Form.Form, FormStep.FormStep}}, Atoms.word}
 use Rattle.term_parse.specs.{Atoms.atoms_of, Language.parts_of, Reading.{term, parts, with_front, reads_at, Fails}, OpenForms.{innermost, outer, outers}}
@@ -69,21 +69,22 @@ open_reads text at next s t f g fs o r l w =
       growing = subst (λ x. Growing 0 fs (length x)) (sym same) o.growing;
     }
 
-begun_is : (w : Word) (s : List Binding) (f : Form) → IsBegun w f → begun_form w s ≡ innermost s f
-begun_is w s f b =
+begun_is : (w : Word) (u : Bool) (s : List Binding) (f : Form) → IsBegun w u f → begun_form w u s ≡ innermost s f
+begun_is w u s f b =
     let a : f.word ≡ w = b.word_is in
+    let p : f.pure ≡ u = b.pure_is in
     let n : f.next ≡ 0 = b.next_is in
     let c : f.bound.items ≡ [] = b.bound_is in
     let d : f.pieces.items ≡ [] = b.pieces_are in
-    rw (a, n, c, d) refl
+    rw (a, p, n, c, d) refl
 
-pub open_opens : (text : List ℕ) (at next depth : ℕ) (s t : List Binding) (f inner : Form) (w : Word)
+pub open_opens : (text : List ℕ) (at next depth : ℕ) (s t : List Binding) (f inner : Form) (w : Word) (u : Bool)
     (b : Box Form Global) (fs new : List (Box Form Global)) → IsOpen text at s f fs →
-    Opens text at depth (innermost s f) (outer t b.value) (begun_form w t) next → depth ≡ length fs + 1 →
-    b.value.scope ≡ length s → length s ≤ length t → IsBegun w inner → new ≡ fs ++ b ∷ [] → at + 2 ≤ next →
+    Opens text at depth (innermost s f) (outer t b.value) (begun_form w u t) next → depth ≡ length fs + 1 →
+    b.value.scope ≡ length s → length s ≤ length t → IsBegun w u inner → new ≡ fs ++ b ∷ [] → at + 2 ≤ next →
     next ≤ length text → IsOpen text next t inner new
-open_opens text at next depth s t f inner w b fs new o p d e k i n l h =
-    let begun : begun_form w t ≡ innermost t inner = begun_is w t inner i in
+open_opens text at next depth s t f inner w u b fs new o p d e k i n l h =
+    let begun : begun_form w u t ≡ innermost t inner = begun_is w u t inner i in
     let p' : Opens text at depth (innermost s f) (outer t b.value) (innermost t inner) next =
     subst (λ x. Opens text at depth (innermost s f) (outer t b.value) x next) begun p in
     let first : take (length s) t ≡ s = ap (λ x. take x t) (sym e) ∙ p.same_scope in
@@ -134,17 +135,17 @@ forms_few text at s f fs o = omega (arith, o.stack.forms, outers-length s fs)
 pub buildable : (text : List ℕ) (at depth : ℕ) (s t : List Binding) (f g : Form) (step : FormStep) →
     Sound text (innermost s f) → Stepped text at depth s f t g step → Buildable g step
 buildable text at depth s t f g (steps.Read next) a h = tt
-buildable text at depth s t f g (steps.Opened w next) a h = tt
+buildable text at depth s t f g (steps.Opened w u next) a h = tt
 buildable text at depth s t f g (steps.Closed next) a h =
     subst (λ x. Shaped x.word (sorts x.pieces.items)) (sym h.1) (h.0.shaped a)
 
 -- the whole term's form, of which the word has been read
 pub open_first : (text : List ℕ) (next : ℕ) (w : Word) (s : List Binding) (f : Form) (fs : List (Box Form Global)) →
-    IsBegun w f → s ≡ [] → fs ≡ [] → next ≤ length text →
-    reads_at text 0 (term [] ∷ []) ≡ with_front (word w ∷ []) (reads_at text next (parts [] [] (parts_of w) ∷ [])) →
+    IsBegun w false f → s ≡ [] → fs ≡ [] → next ≤ length text →
+    reads_at text 0 (term [] ∷ []) ≡ with_front (word w ∷ []) (reads_at text next (parts false [] [] (parts_of w) ∷ [])) →
     IsOpen text next s f fs
 open_first text next w s f fs b e n l r =
-    let begun : IsStack text next (begun_form w []) [] = record {
+    let begun : IsStack text next (begun_form w false []) [] = record {
       within = l;
       left = sym r;
       sound = record { shape = λ more c. completed w more c; scope = tt; bound = tt };
@@ -153,6 +154,6 @@ open_first text next w s f fs b e n l r =
       few_around = tt;
       forms = omega arith;
     } in
-    let form : IsStack text next (innermost [] f) [] = subst (λ x. IsStack text next x []) (begun_is w [] f b) begun in
+    let form : IsStack text next (innermost [] f) [] = subst (λ x. IsStack text next x []) (begun_is w false [] f b) begun in
     let first : IsOpen text next [] f [] = record { stack = form; growing = omega arith } in
     subst (λ x. IsOpen text next x f fs) (sym e) (subst (λ x. IsOpen text next [] f x) (sym n) first)

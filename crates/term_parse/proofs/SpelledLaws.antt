@@ -9,9 +9,9 @@ use Rattle.term_parse.specs.declared.error.ParseError.TheVariants as errors
 reads_spelled : (text : List ℕ) (atoms : List Atom) → Spells text atoms → reads (length text) (term [] ∷ []) (lexemes_at 0 text) ≡ Ok atoms
 unfolding reads want_step
 reads_spelled text atoms s =
-    rw s.tokens (opened (length text) s.opening_place s.word_place s.first (term []) [] [] [] (tokens_of s.rest) refl (omega arith)
-    ∙ ap (with_front (word s.first ∷ [])) (ap (reads (length text) (parts [] [] (parts_of s.first) ∷ [])) (sym (append-nil (tokens_of s.rest))) ∙
-    reads_phrase (length text) s.rest [] [] (parts_of s.first) s.inner [] [] s.means (omega (arith, s.shallow)) ∙ ap (λ x. Ok x) (append-nil s.inner))
+    rw s.tokens (opened (length text) s.opening_place s.word_place s.first (term []) false [] [] [] (tokens_of s.rest) refl refl (omega arith)
+    ∙ ap (with_front (word s.first ∷ [])) (ap (reads (length text) (parts false [] [] (parts_of s.first) ∷ [])) (sym (append-nil (tokens_of s.rest))) ∙
+    reads_phrase (length text) s.rest false [] [] (parts_of s.first) s.inner [] [] s.means (omega (arith, s.shallow)) ∙ ap (λ x. Ok x) (append-nil s.inner))
     ∙ ap (λ x. Ok x) (sym s.atoms_are))
 
 pub reading-from_spelled : (text : List ℕ) (atoms : List Atom) → Spells text atoms → reading text ≡ Ok atoms

@@ -174,10 +174,10 @@ pub no_opening : (text : List ℕ) (at : ℕ) (t : Token) → IsNext text at t �
 no_opening text at t n g h = read_fault text at t (term []) [] (errors.Arity t.start) n (term_misfit 0 [] (slice_range text t.start t.end) t.kind t.start g h)
 
 pub first_opening : (text : List ℕ) (at : ℕ) (t : Token) → IsNext text at t → t.kind ≡ tokens.Open →
-    reads_at text at (term [] ∷ []) ≡ reads_at text t.end (a_word [] ∷ [])
+    reads_at text at (term [] ∷ []) ≡ reads_at text t.end (a_word false [] ∷ [])
 unfolding want_step
 first_opening text at t n k =
-    read_step text at t (term []) [] (record { atoms = []; wants = a_word [] ∷ [] }) n
+    read_step text at t (term []) [] (record { atoms = []; wants = a_word false [] ∷ [] }) n
     (ap (λ y. want_step 0 (term []) (seen_kind (slice_range text t.start t.end) y) t.start) k) ∙ with_none _
 
 -- the whole text

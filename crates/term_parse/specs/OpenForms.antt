@@ -21,13 +21,13 @@ pub record OpenForm : Type 0 where
 abbrev pub innermost : List Binding → Form → OpenForm
 innermost scope f =
     record {
-  word = f.word;
-  pure = f.pure;
-  next = f.next;
-  scope = scope;
-  bound = f.bound.items;
-  pieces = f.pieces.items;
-}
+      word = f.word;
+      pure = f.pure;
+      next = f.next;
+      scope = scope;
+      bound = f.bound.items;
+      pieces = f.pieces.items;
+    }
 
 -- a form around it
 abbrev pub outer : List Binding → Form → OpenForm

@@ -12,7 +12,7 @@ returns-in_default c = record {
 pub returns-clause-found : goal.returns-clause-found
 returns-clause-found c = λ s at d n. (
   reads_bind c.args.text.now at (innermost s c.args.form.now) _ c.args.token c.args.kind n c.in-Called.is
-      c.requires.part refl refl refl (search rules) refl,
+      c.requires.part refl refl refl (search rules) refl refl,
   omega (arith, n.later, n.some),
   n.within,
 )

@@ -14,9 +14,9 @@ returns-in_ok-push-in-Opened c = λ text at depth s f o d h.
     let t = c.args.stack.now.scope.items in
     let b = c.args.stack.now.form in
     let r = subst (Stepped text at depth s f t b.value) c.in-Opened.is h in
-    let begun = subst (λ x. IsBegun c.in-Opened.word x.value) (sym c.replace-outer.ensures.after)
+    let begun = subst (λ x. IsBegun c.in-Opened.word c.in-Opened.pure x.value) (sym c.replace-outer.ensures.after)
     c.in_ok-inner-in-Opened.ensures in (
-      open_opens text at c.in-Opened.next depth s t f c.replace-outer.new.dest.value c.in-Opened.word b
+      open_opens text at c.in-Opened.next depth s t f c.replace-outer.new.dest.value c.in-Opened.word c.in-Opened.pure b
           c.args.stack.now.around.items c.push.new.self.items o r.0 d r.1 r.2 begun (search rules) r.3 r.4,
       omega (arith, r.3),
     )
