@@ -164,6 +164,11 @@ const SHARED: &[Row<'static>] = &[
         (repeat 25 (let x (get s) (let y (modify r x) (seq (set s y) (say y))))) (pure 0))))))",
     ),
     (
+        "values of a ref come again by updates",
+        "(ref r 0 (repeat 4 (start f (repeat 25 (update r x (sub 1 x))) (start g (repeat 25 (handle (let x (update r y \
+        (div 1 y)) (say x)) e (say e))) (pure 0)))))",
+    ),
+    (
         "each sets a ref and then reads the other's",
         "(repeat 20 (ref a 0 (ref b 0 (start f (seq (set a 1) (get b)) (start g (seq (set b 1) (get a)) (pure 0))))))",
     ),

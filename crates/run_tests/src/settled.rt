@@ -114,6 +114,18 @@ const SETTLED: &[Settled<'static>] = &[
         0) (pure 0)) (join g x (pure 0) e (pure 0) (pure 0)) (get r)))))",
         "fiber 0 succeeded 30\nfiber 1 succeeded 0\nfiber 2 succeeded 0\n",
     ),
+    (
+        "no update by a term is lost",
+        "(ref r 0 (start f (repeat 10 (update r x (add x 1))) (start g (repeat 10 (update r x (add x 2))) (seq (join f \
+        x (pure 0) e (pure 0) (pure 0)) (join g x (pure 0) e (pure 0) (pure 0)) (get r)))))",
+        "fiber 0 succeeded 30\nfiber 1 succeeded 0\nfiber 2 succeeded 0\n",
+    ),
+    (
+        "an update that raises changes nothing",
+        "(ref r 5 (start f (repeat 10 (handle (update r x (raise x)) e (pure 0))) (start g (repeat 10 (modify r 1)) \
+        (seq (join f x (pure 0) e (pure 0) (pure 0)) (join g x (pure 0) e (pure 0) (pure 0)) (get r)))))",
+        "fiber 0 succeeded 15\nfiber 1 succeeded 0\nfiber 2 succeeded 0\n",
+    ),
 ];
 
 const RUNS: Runs<'static> = Runs {
