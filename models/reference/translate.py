@@ -13,7 +13,7 @@ from terms import MAIN, UNNAMED, Terms, Use
 FORMS = {
     "pure": "v", "raise": "v", "handle": "tbk", "if0": "vtt", "add": "vv", "say": "v", "cede": "",
     "sub": "vv", "mul": "vv", "div": "vv", "mod": "vv", "less": "vv", "equal": "vv", "never": "", "canceled": "", "poll": "Pt", "oncancel": "tt", "cancel": "F", "get": "R", "set": "Rv",
-    "modify": "Rv", "complete": "Dv", "await": "D", "repeat": "vt", "forever": "t", "guarantee": "tt", "race": "tt",
+    "modify": "Rv", "update": "Rbk", "complete": "Dv", "await": "D", "repeat": "vt", "forever": "t", "guarantee": "tt", "race": "tt",
 }
 KINDS = {"P": "poll", "F": "fiber", "R": "ref", "D": "deferred"}
 # The words of the signs of arithmetic.
@@ -220,6 +220,8 @@ class Translation:
         if word in BLOCKS and len(parts) > BLOCKS[word] + 1:
             head = parts[:BLOCKS[word]]
             return self.of([word] + head + [["do"] + parts[BLOCKS[word]:]], scope)
+        if word == "update" and len(parts) > 3:
+            return self.of(["let", parts[1], form[:4], ["do"] + parts[3:]], scope)
         if word in ("if", "when", "unless"):
             return self.choice(word, parts, scope)
         special = getattr(self, "of_" + word, None)
