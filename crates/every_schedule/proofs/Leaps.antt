@@ -1,6 +1,6 @@
 -- The reduced exploration makes only own moves after each entry.
 use Rattle.std.proofs.Common.{◌≡◌, ◌≢◌, ◌⊎◌, inl, inr, ℕ, zero, suc, ◌<◌, ◌≤◌, Bool, true, false, ◌&&◌, ◌||◌, length, Some, None}
-use Rattle.std.proofs.Common.{Option, Result, Ok, Err, refl, sym, ap, ap₂, ◌∙◌, subst}
+use Rattle.std.proofs.Common.{Option, Result, Ok, Err, refl, sym, ap, ap₂, ◌∙◌, subst, arith}
 use Rattle.std.specs.List.{slice_get}
 use Rattle.std.proofs.lemmas.Option.{slice_get_past, same_Some}
 use Rattle.cell_registry.specs.declared.limits.RunError.{RunError}
@@ -148,6 +148,12 @@ swept_more b n p = refl
 
 pub swept_next : (b : AtOnce) (n m : ℕ) (p q : Place) → n ≡ suc m → q ≡ moved_on b b.most m p → swept b n p ≡ swept b m q
 swept_next b n m p q e h = ap (λ i. swept b i p) e ∙ swept_more b m p ∙ ap (swept b m) (sym h)
+
+-- fibers that have no own moves make none in a round
+pub swept_settled : (b : AtOnce) (n : ℕ) (p : Place) → ((k : ℕ) → k < n → moved_on b b.most k p ≡ p) → swept b n p ≡ p
+unfolding swept
+swept_settled b zero p none = refl
+swept_settled b (suc n) p none = ap (swept b n) (none n (omega arith)) ∙ swept_settled b n p (λ k low. none k (omega (arith, low)))
 
 swept_leads : (b : AtOnce) (n : ℕ) (p q : Place) → Leads stepped (IsMade b) (swept b n p) q → Leads stepped (IsMade b) p q
 unfolding swept
