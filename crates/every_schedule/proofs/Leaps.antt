@@ -1,6 +1,6 @@
 -- The reduced exploration makes only own moves after each entry.
 use Rattle.std.proofs.Common.{◌≡◌, ◌≢◌, ◌⊎◌, inl, inr, ℕ, zero, suc, ◌<◌, ◌≤◌, Bool, true, false, ◌&&◌, ◌||◌, length, Some, None}
-use Rattle.std.proofs.Common.{Option, Result, Ok, Err, refl, sym, ap, ap₂, ◌∙◌, subst, arith}
+use Rattle.std.proofs.Common.{Option, Result, Ok, Err, refl, sym, ap, ◌∙◌, subst, arith}
 use Rattle.std.specs.List.{slice_get}
 use Rattle.std.proofs.lemmas.Option.{slice_get_past, same_Some}
 use Rattle.cell_registry.specs.declared.limits.RunError.{RunError}
@@ -15,7 +15,7 @@ use Rattle.scheduled_core.specs.Core.{World, wish_of}
 use Rattle.every_schedule.specs.Explored.{HasMove}
 use Rattle.every_schedule.specs.Places.{Place, moves_at, stepped, wants}
 use Rattle.every_schedule.specs.declared.leaping.AtOnce.{AtOnce}
-use Rattle.every_schedule.specs.Reduced.{IsMade, after_own, behind, has_birth, has_own, if_own, is_made, is_own, is_own_at_once, leapt, leapt_by}
+use Rattle.every_schedule.specs.Reduced.{IsMade, after_own, behind, has_birth, has_own, if_own, is_birth, is_made, is_own, is_own_at_once, leapt, leapt_by}
 use Rattle.every_schedule.specs.Reduced.{may_be, moved_on, none_at_once, or_stays, own_of, pushed, pushed_once, swept}
 use Rattle.every_schedule.proofs.Bare.{idle_stays, own_from, unborn_stays}
 use Rattle.every_schedule.proofs.EarlyMoves.{birth_from, birth_moves, made_early}
@@ -57,18 +57,27 @@ made_as n w f e =
       | inr birth ↦ inr (two_true n.births (has_birth w f o) birth)
     ]
 
--- which moves are made
-pub made_allowed : (n : AtOnce) (w : World) (f : ℕ) → is_own_at_once n.stores w f ≡ true → is_made n w f ≡ true
-made_allowed n w f own = ap (λ (t : Bool). t || (n.births && has_birth w f (slice_get w.fibers f))) own
+-- which moves are made, by what is known of the state of their fiber
+no_second : (t u : Bool) → t || (u && false) ≡ t
+no_second true u = refl
+no_second false true = refl
+no_second false false = refl
 
-pub made_neither : (n : AtOnce) (w : World) (f : ℕ) → is_own_at_once n.stores w f ≡ false → n.births ≡ false → is_made n w f ≡ false
-made_neither n w f own none = ap₂ (λ (s t : Bool). s || (t && has_birth w f (slice_get w.fibers f))) own none
+module _ (n : AtOnce) (p : Place) (f : ℕ) (g : Fiber) (at : slice_get p.world.fibers f ≡ Some g) where
+  pub made_never : is_own p.world f g (wish_of (ask_of g)) ≡ false → is_made n p.world f ≡ n.births && has_birth p.world f (slice_get p.world.fibers f)
+  made_never none =
+      ap (λ (t : Bool). (t && may_be n.stores (slice_get p.world.fibers f)) || (n.births && has_birth p.world f (slice_get p.world.fibers f)))
+      (ap (has_own p.world f) at ∙ none)
 
-pub made_birth : (n : AtOnce) (p q : Place) (f : ℕ) → q ≡ p → is_own_at_once n.stores p.world f ≡ false → n.births ≡ true →
-    is_made n p.world f ≡ has_birth q.world f (slice_get q.world.fibers f)
-made_birth n p q f same own births =
-    ap₂ (λ (s t : Bool). s || (t && has_birth p.world f (slice_get p.world.fibers f))) own births
-    ∙ ap (λ (x : Place). has_birth x.world f (slice_get x.world.fibers f)) (sym same)
+  pub made_own : is_birth p.world f (wish_of (ask_of g)) ≡ false → is_made n p.world f ≡ is_own_at_once n.stores p.world f
+  made_own none =
+      ap (λ (t : Bool). is_own_at_once n.stores p.world f || (n.births && t)) (ap (has_birth p.world f) at ∙ none)
+      ∙ no_second (is_own_at_once n.stores p.world f) n.births
+
+  pub made_always : is_birth p.world f (wish_of (ask_of g)) ≡ false → is_own p.world f g (wish_of (ask_of g)) ≡ true →
+      is_made n p.world f ≡ may_be n.stores (slice_get p.world.fibers f)
+  made_always none own =
+      made_own none ∙ ap (λ (t : Bool). t && may_be n.stores (slice_get p.world.fibers f)) (ap (has_own p.world f) at ∙ own)
 
 pub made_unborn : (n : AtOnce) (p : Place) (f : ℕ) → length p.world.fibers ≤ f → is_made n p.world f ≡ false
 made_unborn n p f past = by (slice_get p.world.fibers f) (slice_get_past p.world.fibers f past)

@@ -10,6 +10,7 @@ ghost use Rattle.every_schedule.specs.Private.Trails.{AreSettled, IsFirstOf, IsL
 
 use crate::births::is_birth;
 use crate::current::Current;
+use crate::known::Owned;
 use crate::own_moves::{is_own_move, may_be_made};
 use cell_registry::RunError;
 use effect_term::facts_of;
@@ -227,16 +228,20 @@ pub(crate) fn has_own_move(current: &mut Current, at_once: AtOnce, fiber: u16) -
     ensures same { IsSame current.old current.new }
     ensures own { result ≡ is_made at_once (here current.old).world fiber }
 {
-    if usize::from(fiber) >= few_born(&*current) {
+    let place = usize::from(fiber);
+    if place >= few_born(&*current) {
         return false;
     }
-    if is_allowed(&mut *current, at_once.stores, fiber) {
-        return true;
+    match current.owned(place) {
+        Owned::Never => {
+            if !at_once.births {
+                return false;
+            }
+            is_birth(current, fiber)
+        }
+        Owned::Always => may_be_made(&*current, at_once.stores, fiber),
+        Owned::Sometimes => is_allowed(current, at_once.stores, fiber),
     }
-    if !at_once.births {
-        return false;
-    }
-    is_birth(current, fiber)
 }
 
 // Whether the next move of a fiber is an own move that is allowed at once.

@@ -8,7 +8,7 @@ use Rattle.scheduled_core.specs.Core.{wish_of}
 use Rattle.every_schedule.specs.Private.Knowing.{IsOwned}
 use Rattle.every_schedule.specs.Private.Numbered.{picked}
 use Rattle.every_schedule.specs.Private.Standing.{Stand}
-use Rattle.every_schedule.proofs.Standing.{picked_long, state_is}
+use Rattle.every_schedule.proofs.Standing.{all_low, picked_long, state_is}
 use Rattle.every_schedule.proofs.current.Current.owned.Goals as goal
 
 pub index-requires : goal.index-requires
@@ -32,3 +32,27 @@ returns-in-Some c = λ g there.
     let here = subst (λ (x : Stand). slice_get (picked x.fibers x.numbers) c.args.place ≡ Some g) (sym c.self.view_is) there in
     let one = state_is fs s.numbers.items c.args.place c.index.result.now it.0 g c.self.invariant.0 at it.1 here in
     subst (λ (h : Fiber). IsOwned (wish_of (ask_of h)) (waits_alone h) c.in-Some.known.now.owned) one it.2.owned
+
+pub index-requires-in-None : goal.index-requires-in-None
+index-requires-in-None c =
+    let s = c.self.inside in
+    let long = picked_long s.states.fibers.items.items s.numbers.items c.self.invariant.0 in
+    let within = subst (λ (x : Stand). c.args.place < length (picked x.fibers x.numbers)) (sym c.self.view_is) c.requires in
+    let low : c.args.place < length s.numbers.items = omega arith in
+    let at : slice_get s.numbers.items c.args.place ≡ Some c.index.result.now = grind (arith, common_steps, gets) in
+    let there = all_low s.states.fibers.items.items s.numbers.items c.args.place c.index.result.now c.self.invariant.0 at in
+    omega arith
+
+pub returns-in-None : goal.returns-in-None
+returns-in-None c = λ g there.
+    let s = c.self.inside in
+    let fs = s.states.fibers.items.items in
+    let long = picked_long s.states.fibers.items.items s.numbers.items c.self.invariant.0 in
+    let within = subst (λ (x : Stand). c.args.place < length (picked x.fibers x.numbers)) (sym c.self.view_is) c.requires in
+    let low : c.args.place < length s.numbers.items = omega arith in
+    let at : slice_get s.numbers.items c.args.place ≡ Some c.index.result.now = grind (arith, common_steps, gets) in
+    let inside = all_low fs s.numbers.items c.args.place c.index.result.now c.self.invariant.0 at in
+    let state : slice_get fs c.index.result.now ≡ Some c.index-in-None.result.now = grind (arith, common_steps, gets) in
+    let here = subst (λ (x : Stand). slice_get (picked x.fibers x.numbers) c.args.place ≡ Some g) (sym c.self.view_is) there in
+    let one = state_is fs s.numbers.items c.args.place c.index.result.now c.index-in-None.result.now g c.self.invariant.0 at state here in
+    subst (λ (h : Fiber). IsOwned (wish_of (ask_of h)) (waits_alone h) c.owned_of.result) one c.owned_of.ensures
