@@ -31,6 +31,14 @@ pub(crate) struct AtOnce {
     pub(crate) chosen: bool,
 }
 
+/// Where an entry has led, and own moves after it: the numbers of the world, and the entries that were made.
+#[derive(Drop)]
+pub(crate) struct Leapt {
+    pub(crate) registry: u32,
+    pub(crate) fibers: Vec<u32>,
+    pub(crate) trail: Vec<u16>,
+}
+
 /// Makes the entry of a fiber, then the own moves that `at_once` allows. Adds these entries to the trail, also an entry
 /// that ends in a fault, but no entry of a fiber that isn't born or has ended.
 pub(crate) fn leap(
