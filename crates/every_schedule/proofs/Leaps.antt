@@ -1,6 +1,6 @@
 -- The reduced exploration makes only own moves after each entry.
 use Rattle.std.proofs.Common.{◌≡◌, ◌≢◌, ◌⊎◌, inl, inr, ℕ, zero, suc, ◌<◌, ◌≤◌, Bool, true, false, ◌&&◌, ◌||◌, length, Some, None}
-use Rattle.std.proofs.Common.{Option, Result, Ok, Err, refl, sym, ap, ap₂, ◌∙◌, subst}
+use Rattle.std.proofs.Common.{Option, Result, Ok, Err, refl, sym, ap, ap₂, ◌∙◌, subst, arith}
 use Rattle.std.specs.List.{slice_get}
 use Rattle.std.proofs.lemmas.Option.{slice_get_past, same_Some}
 use Rattle.cell_registry.specs.declared.limits.RunError.{RunError}
@@ -15,7 +15,7 @@ use Rattle.scheduled_core.specs.Core.{World, wish_of}
 use Rattle.every_schedule.specs.Explored.{HasMove}
 use Rattle.every_schedule.specs.Places.{Place, moves_at, stepped, wants}
 use Rattle.every_schedule.specs.declared.leaping.AtOnce.{AtOnce}
-use Rattle.every_schedule.specs.Reduced.{IsMade, after_own, behind, has_birth, has_own, if_own, is_made, is_own, is_own_at_once, leapt, leapt_by}
+use Rattle.every_schedule.specs.Reduced.{IsMade, after_own, behind, has_birth, has_own, if_own, is_birth, is_made, is_own, is_own_at_once, leapt, leapt_by}
 use Rattle.every_schedule.specs.Reduced.{may_be, moved_on, none_at_once, or_stays, own_of, pushed, pushed_once, swept}
 use Rattle.every_schedule.proofs.Bare.{idle_stays, own_from, unborn_stays}
 use Rattle.every_schedule.proofs.EarlyMoves.{birth_from, birth_moves, made_early}
@@ -69,6 +69,28 @@ pub made_birth : (n : AtOnce) (p q : Place) (f : ℕ) → q ≡ p → is_own_at_
 made_birth n p q f same own births =
     ap₂ (λ (s t : Bool). s || (t && has_birth p.world f (slice_get p.world.fibers f))) own births
     ∙ ap (λ (x : Place). has_birth x.world f (slice_get x.world.fibers f)) (sym same)
+
+-- which moves are made, by what is known of the state of their fiber
+no_second : (t u : Bool) → t || (u && false) ≡ t
+no_second true u = refl
+no_second false true = refl
+no_second false false = refl
+
+module _ (n : AtOnce) (p : Place) (f : ℕ) (g : Fiber) (at : slice_get p.world.fibers f ≡ Some g) where
+  pub made_never : is_own p.world f g (wish_of (ask_of g)) ≡ false → is_made n p.world f ≡ n.births && has_birth p.world f (slice_get p.world.fibers f)
+  made_never none =
+      ap (λ (t : Bool). (t && may_be n.stores (slice_get p.world.fibers f)) || (n.births && has_birth p.world f (slice_get p.world.fibers f)))
+      (ap (has_own p.world f) at ∙ none)
+
+  pub made_own : is_birth p.world f (wish_of (ask_of g)) ≡ false → is_made n p.world f ≡ is_own_at_once n.stores p.world f
+  made_own none =
+      ap (λ (t : Bool). is_own_at_once n.stores p.world f || (n.births && t)) (ap (has_birth p.world f) at ∙ none)
+      ∙ no_second (is_own_at_once n.stores p.world f) n.births
+
+  pub made_always : is_birth p.world f (wish_of (ask_of g)) ≡ false → is_own p.world f g (wish_of (ask_of g)) ≡ true →
+      is_made n p.world f ≡ may_be n.stores (slice_get p.world.fibers f)
+  made_always none own =
+      made_own none ∙ ap (λ (t : Bool). t && may_be n.stores (slice_get p.world.fibers f)) (ap (has_own p.world f) at ∙ own)
 
 pub made_unborn : (n : AtOnce) (p : Place) (f : ℕ) → length p.world.fibers ≤ f → is_made n p.world f ≡ false
 made_unborn n p f past = by (slice_get p.world.fibers f) (slice_get_past p.world.fibers f past)
@@ -148,6 +170,12 @@ swept_more b n p = refl
 
 pub swept_next : (b : AtOnce) (n m : ℕ) (p q : Place) → n ≡ suc m → q ≡ moved_on b b.most m p → swept b n p ≡ swept b m q
 swept_next b n m p q e h = ap (λ i. swept b i p) e ∙ swept_more b m p ∙ ap (swept b m) (sym h)
+
+-- fibers that have no own moves make none in a round
+pub swept_settled : (b : AtOnce) (n : ℕ) (p : Place) → ((k : ℕ) → k < n → moved_on b b.most k p ≡ p) → swept b n p ≡ p
+unfolding swept
+swept_settled b zero p none = refl
+swept_settled b (suc n) p none = ap (swept b n) (none n (omega arith)) ∙ swept_settled b n p (λ k low. none k (omega (arith, low)))
 
 swept_leads : (b : AtOnce) (n : ℕ) (p q : Place) → Leads stepped (IsMade b) (swept b n p) q → Leads stepped (IsMade b) p q
 unfolding swept

@@ -40,3 +40,4 @@ pub mod Prefixes
 pub mod Certified
 pub mod Sets
 pub mod Seeds
+pub mod MadeBefore

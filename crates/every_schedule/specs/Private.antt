@@ -12,3 +12,4 @@ pub mod Seen
 pub mod Looking
 pub mod Stopping
 pub mod Persistent
+pub mod MadeBefore

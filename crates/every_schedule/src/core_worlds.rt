@@ -1,5 +1,5 @@
 //! The worlds that an exploration has found, each with a number.
-ghost use Rattle.std.specs.Prelude.{◌≡◌, ◌≢◌, ◌⊎◌, ◌++◌, ◌<◌, ◌≤◌, ℕ, [], ◌∷◌, length, max};
+ghost use Rattle.std.specs.Prelude.{◌≡◌, ◌≢◌, ◌⊎◌, ◌++◌, ◌<◌, ◌≤◌, ℕ, [], ◌∷◌, length, max, true};
 ghost use Rattle.std.specs.Prelude.{IfOk, IfErr, IfSome, OnOk, OnErr, Some, None};
 ghost use Rattle.std.specs.Prelude.{Ok as GoesWell, Err as Fails, Result as TheResult, List};
 ghost use Rattle.std.specs.List.{All, slice_get};
@@ -14,7 +14,10 @@ ghost use Rattle.every_schedule.specs.Claims.{stored_by};
 ghost use Rattle.every_schedule.specs.Places.{Place, first_place, report_at};
 ghost use Rattle.every_schedule.specs.Reduced.{leapt};
 ghost use Rattle.every_schedule.specs.Persistent.{pick as the_pick};
+ghost use Rattle.cell_registry.specs.Plain.{PlainView};
 ghost use Rattle.every_schedule.specs.Private.Keeping.{AreSingle};
+ghost use Rattle.every_schedule.specs.Private.MadeBefore.{IsAhead, IsAheadOf, IsEntryOf, IsPicked, IsTaken, leapt_in};
+ghost use Rattle.every_schedule.specs.Private.Numbered.{Numbers};
 ghost use Rattle.every_schedule.specs.Private.Persistent.{IsSet};
 ghost use Rattle.every_schedule.specs.Private.Trails.{MakesAtOnce};
 
@@ -22,9 +25,9 @@ use crate::core_world::CoreWorld;
 use crate::current::{Current, fibers_of};
 use crate::faults::Faults;
 use crate::frames::frame_bytes;
-use crate::leaping::{AtOnce, leap};
+use crate::leaping::{AtOnce, Leapt, leap};
 use crate::own_moves::stored_in;
-use crate::persistent::pick;
+use crate::persistent::{Choice, Seed, pick};
 use crate::pool::{Pool, Pooled};
 use crate::reports::{digest_of, same_reports};
 use crate::rows::Rows;
@@ -61,6 +64,17 @@ pub(crate) struct CoreWorlds {
     faults: Faults,
     // The bytes for each state of a fiber that its own size doesn't count.
     each: usize,
+    // An entry that was made already, when the fibers were chosen.
+    ahead: Option<Ahead>,
+}
+
+/// An entry at a world, and where it leads.
+#[derive(Drop)]
+pub(crate) struct Ahead {
+    world: usize,
+    fiber: u16,
+    at_once: AtOnce,
+    leapt: Leapt,
 }
 
 impl Model for CoreWorlds {
@@ -72,6 +86,7 @@ impl Model for CoreWorlds {
     ghost use Rattle.every_schedule.specs.Places.{Kept};
     ghost use Rattle.every_schedule.specs.Sizes.{capped};
     ghost use Rattle.every_schedule.specs.Private.Numbered.{AreWorlds, place_of};
+    ghost use Rattle.every_schedule.specs.Private.MadeBefore.{IsAhead};
 
     ghost Value = { Kept };
 
@@ -84,7 +99,8 @@ impl Model for CoreWorlds {
     } };
 
     ghost invariant = { λ s.
-        AreWorlds s.limits s.current.fibers s.current.registries s.rows.rows };
+        AreWorlds s.limits s.current.fibers s.current.registries s.rows.rows ×
+        IsAhead s.current.fibers s.current.registries s.rows.rows s.ahead };
 }
 
 impl CoreWorlds {
@@ -109,6 +125,7 @@ impl CoreWorlds {
             rows,
             faults: Faults::new(alloc),
             each: frame_bytes(program, limits),
+            ahead: None,
         })
     }
 
@@ -216,9 +233,46 @@ impl CoreWorlds {
         ensures picked { IfOk result (λ it. (p : Place) → slice_get self.old.places world ≡ Some p →
             IsSet (the_pick at_once p) it) }
     {
+        self.ahead = None;
         self.current
             .go_to(self.rows.registry(world), self.rows.fibers(world))?;
-        pick(self.alloc, &mut self.current, at_once)
+        let choice = pick(self.alloc, &mut self.current, at_once)?;
+        let (set, ahead) = split(choice, world, at_once);
+        self.ahead = ahead;
+        Ok(set)
+    }
+
+    /// Does the same as [`entry`](CoreWorlds::entry). An entry that was made when the fibers were chosen isn't made again.
+    pub(crate) fn chosen_entry(
+        &mut self,
+        world: usize,
+        fiber: u16,
+        most: usize,
+        at_once: AtOnce,
+        trail: &mut Vec<u16>,
+    ) -> Result<Entered, AllocError>
+        requires { world < length self.old.places }
+        ensures worlds { IsMore self.old.places self.new.places }
+        ensures faults { OnOk result (IsMore self.old.faults self.new.faults) }
+        ensures lands { IfOk result (λ it. (p : Place) → slice_get self.old.places world ≡ Some p →
+            EntersAt self.new.places self.new.faults it (leapt at_once p fiber)) }
+        ensures makes { IfOk result (λ it. (p : Place) → slice_get self.old.places world ≡ Some p →
+            MakesAtOnce at_once p fiber trail.new.items) }
+        ensures room { OnOk result (length self.new.places ≤ max most (length self.old.places)) }
+        ensures next { IfOk result (IsNext (length self.old.places) (length self.new.places) most) }
+    {
+        match taken(&mut self.ahead, world, fiber, at_once) {
+            None => self.entry(world, fiber, most, at_once, trail),
+            Some(it) => {
+                let Leapt {
+                    registry,
+                    fibers,
+                    trail: made,
+                } = it;
+                *trail = made;
+                self.rows.keep(registry, fibers.as_slice(), most)
+            }
+        }
     }
 
     /// Makes the entry of a fiber at a world, then own moves, as `at_once` allows. The trail becomes these entries.
@@ -250,6 +304,80 @@ impl CoreWorlds {
         let registry = self.current.number()?;
         self.rows.keep(registry, self.current.numbers(), most)
     }
+}
+
+// Returns the set that was chosen at the world of this number, and the entry that was made then.
+fn split(
+    choice: Option<Choice>,
+    world: usize,
+    at_once: AtOnce,
+) -> (Option<Vec<bool>>, Option<Ahead>)
+    ensures set { (fs : List Fiber) (rs : List PlainView) (p : Place) → IsPicked at_once fs rs p choice →
+        IsSet (the_pick at_once p) result.0 }
+    ensures ahead { (fs : List Fiber) (rs : List PlainView) (p : Place) → IsPicked at_once fs rs p choice →
+        IsAheadOf fs rs world p result.1 }
+{
+    match choice {
+        None => (None, None),
+        Some(it) => {
+            let Choice { seed, leapt } = it;
+            let Seed { fiber, set, .. } = seed;
+            let ahead = Ahead {
+                world,
+                fiber,
+                at_once,
+                leapt,
+            };
+            (Some(set), Some(ahead))
+        }
+    }
+}
+
+// Takes out where the entry of a fiber at the world of this number leads, if this is the entry that was made already.
+fn taken(ahead: &mut Option<Ahead>, world: usize, fiber: u16, at_once: AtOnce) -> Option<Leapt>
+    ensures left { (fs : List Fiber) (rs : List PlainView) (rows : List Numbers) → IsAhead fs rs rows ahead.old →
+        IsAhead fs rs rows ahead.new }
+    ensures taken { (fs : List Fiber) (rs : List PlainView) (rows : List Numbers) → IsAhead fs rs rows ahead.old →
+        IsTaken fs rs rows world fiber at_once result }
+{
+    if !is_of(&*ahead, world, fiber, at_once) {
+        return None;
+    }
+    leapt_of(ahead.take())
+}
+
+// Whether this is the entry of a fiber at the world of this number.
+fn is_of(ahead: &Option<Ahead>, world: usize, fiber: u16, at_once: AtOnce) -> bool
+    ensures { result ≡ true → IsEntryOf world fiber at_once ahead.now }
+{
+    match ahead {
+        None => false,
+        Some(it) => { it.world == world && it.fiber == fiber && are_same(it.at_once, at_once) }
+    }
+}
+
+// Where an entry leads, if there is one.
+fn leapt_of(ahead: Option<Ahead>) -> Option<Leapt>
+    ensures { result ≡ leapt_in ahead }
+{
+    match ahead {
+        None => None,
+        Some(it) => {
+            let Ahead { leapt, .. } = it;
+            Some(leapt)
+        }
+    }
+}
+
+// Whether the two say the same.
+fn are_same(one: AtOnce, other: AtOnce) -> bool
+    ensures { result ≡ true → one ≡ other }
+{
+    one.rounds == other.rounds
+        && one.most == other.most
+        && one.stores == other.stores
+        && one.births == other.births
+        && one.chosen == other.chosen
 }
 
 // The ref that the next move of a fiber sets or changes, if there is one. The fibers have the states of these numbers.

@@ -23,7 +23,7 @@ ghost use Rattle.every_schedule.specs.Private.Knowing.{AreKnownOf, IsOwned};
 ghost use Rattle.every_schedule.specs.Private.Turning.{AreTurned, IsChild, IsMoved, IsSaid, MayTurn, reply_of};
 
 use crate::core_world::CoreWorld;
-use crate::known::{Known, Owned, weight_of};
+use crate::known::{Known, Owned, owned_of, weight_of};
 use crate::pool::{Pool, Pooled};
 use crate::turns::{Said, Turn, Turns, reply_said, told};
 use cell_registry::{Limits, PlainRegistry, RunError};
@@ -251,7 +251,7 @@ impl Current {
         let number = self.numbers[place] as usize;
         match self.states.known.get(number) {
             Some(known) => known.owned,
-            None => Owned::Sometimes,
+            None => owned_of(&self.states.fibers.items[number]),
         }
     }
 

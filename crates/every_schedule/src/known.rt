@@ -20,11 +20,11 @@ const MOST: u16 = 64;
 /// In which worlds the next move of a state is an own move.
 #[derive(Clone, Copy)]
 pub(crate) enum Owned {
-    /// In none.
+    /// In none. It can be a birth.
     Never,
-    /// In each.
+    /// In each. It is no birth.
     Always,
-    /// In some worlds: the other fibers or the registry decide.
+    /// In some worlds: the other fibers or the registry decide. It is no birth.
     Sometimes,
 }
 
@@ -86,8 +86,8 @@ pub(crate) fn weight_of(fiber: &Config) -> u64
     fiber.weight()
 }
 
-// In which worlds the next move of a state is an own move.
-fn owned_of(fiber: &Config) -> Owned
+/// In which worlds the next move of a state is an own move.
+pub(crate) fn owned_of(fiber: &Config) -> Owned
     ensures { IsOwned (wish_of (ask_of fiber.now)) (waits_alone fiber.now) result }
 {
     owned_by(Wish::of(fiber.ask()), fiber.waits_alone())
@@ -117,7 +117,11 @@ fn owned_by_call(call: Call) -> Owned
     match call {
         Call::Mask | Call::Unmask => Owned::Always,
         Call::Start | Call::NewRef | Call::NewDeferred => Owned::Never,
-        _ => Owned::Sometimes,
+        Call::Look | Call::Cut | Call::Finish(_) | Call::Cancel(_) | Call::Join(_) => {
+            Owned::Sometimes
+        }
+        Call::Get(_) | Call::Set(_, _) | Call::Modify(_, _) => Owned::Sometimes,
+        Call::Complete(_, _) | Call::Read(_) => Owned::Sometimes,
     }
 }
 

@@ -1,15 +1,16 @@
 //! Entries, each followed by own moves.
-ghost use Rattle.std.specs.Prelude.{◌≡◌, ◌≢◌, ◌⊎◌, ◌++◌, ◌<◌, ◌≤◌, [], ◌∷◌, length, false, true};
-ghost use Rattle.std.specs.Prelude.{IfErr, IfOk, OnOk};
+ghost use Rattle.std.specs.Prelude.{◌≡◌, ◌≢◌, ◌⊎◌, ◌++◌, ◌<◌, ◌≤◌, ℕ, [], ◌∷◌, length, false, true};
+ghost use Rattle.std.specs.Prelude.{IfErr, IfOk, OnOk, Some, None};
 ghost use Rattle.std.specs.Prelude.{Ok as GoesWell, Err as Fails};
 ghost use Rattle.scheduled_core.specs.Fitting.{AllFit};
 ghost use Rattle.every_schedule.specs.Reduced.{after_own, is_made, is_own_at_once, leapt, moved_on, own_of, pushed};
 ghost use Rattle.every_schedule.specs.Reduced.{pushed_once};
 ghost use Rattle.every_schedule.specs.Private.Standing.{IsOnward, IsSame, here};
-ghost use Rattle.every_schedule.specs.Private.Trails.{IsFirstOf, IsLeapTrail, IsOwnTrail};
+ghost use Rattle.every_schedule.specs.Private.Trails.{AreSettled, IsFirstOf, IsLeapTrail, IsOwnTrail};
 
 use crate::births::is_birth;
 use crate::current::Current;
+use crate::known::Owned;
 use crate::own_moves::{is_own_move, may_be_made};
 use cell_registry::RunError;
 use effect_term::facts_of;
@@ -28,6 +29,14 @@ pub(crate) struct AtOnce {
     pub(crate) births: bool,
     /// Only the entries of a persistent set are made, where a search finds one.
     pub(crate) chosen: bool,
+}
+
+/// Where an entry has led, and own moves after it: the numbers of the world, and the entries that were made.
+#[derive(Drop)]
+pub(crate) struct Leapt {
+    pub(crate) registry: u32,
+    pub(crate) fibers: Vec<u32>,
+    pub(crate) trail: Vec<u16>,
 }
 
 /// Makes the entry of a fiber, then the own moves that `at_once` allows. Adds these entries to the trail, also an entry
@@ -99,44 +108,66 @@ fn push(current: &mut Current, at_once: AtOnce, trail: &mut Vec<u16>) -> Result<
     ensures trail { OnOk result (IsOwnTrail at_once trail.old.items trail.new.items (here current.old)
         (here current.new)) }
 {
+    let mut settled = 0;
     for _round in 0..at_once.rounds {
-        let moved = push_once(&mut *current, at_once, &mut *trail)?;
-        if !moved {
-            return Ok(());
+        match push_once(&mut *current, at_once, settled, &mut *trail)? {
+            None => return Ok(()),
+            Some(last) => settled = last,
         }
     }
     Ok(())
 }
 
-// Makes the own moves of a round: at most `most` of each fiber, the last fiber first. Returns whether any was made.
+// Makes the own moves of a round: at most `most` of each fiber, the last fiber first. Returns the fiber that made the
+// last one, if any was made. The first `settled` fibers have none in this world, and so aren't asked before another
+// fiber has made one.
 fn push_once(
     current: &mut Current,
     at_once: AtOnce,
+    settled: usize,
     trail: &mut Vec<u16>,
-) -> Result<bool, AllocError>
-    requires { AllFit (here current.old).world }
+) -> Result<Option<usize>, AllocError>
+    requires fits { AllFit (here current.old).world }
+    requires settled { AreSettled at_once (here current.old) settled }
     ensures onward { IsOnward current.old current.new }
     ensures goes { OnOk result (here current.new ≡ pushed_once at_once (here current.old)) }
-    ensures stays { IfOk result (λ it. it ≡ false → pushed_once at_once (here current.new) ≡ here current.new) }
+    ensures stays { IfOk result (λ it. it ≡ None → pushed_once at_once (here current.new) ≡ here current.new) }
+    ensures settled { IfOk result (λ it. (f : ℕ) → it ≡ Some f → AreSettled at_once (here current.new) f) }
     ensures fits { OnOk result (AllFit (here current.new).world) }
     ensures trail { OnOk result (IsOwnTrail at_once trail.old.items trail.new.items (here current.old)
         (here current.new)) }
 {
     let born = few_born(&*current);
-    let mut moved = false;
+    let mut last = None;
     for done in 0..born {
-        let fiber = (born - 1 - done) as u16;
-        let made = push_on(&mut *current, at_once, fiber, &mut *trail)?;
-        moved = either(moved, made);
+        let fiber = born - 1 - done;
+        if is_none_left(last, settled, fiber) {
+            return Ok(None);
+        }
+        let made = push_on(&mut *current, at_once, fiber as u16, &mut *trail)?;
+        last = last_of(last, made, fiber);
     }
-    Ok(moved)
+    Ok(last)
 }
 
-// Whether at least one of the two is true.
-fn either(one: bool, other: bool) -> bool
-    ensures { result ≡ false → (one ≡ false) × (other ≡ false) }
+// Whether neither this fiber nor one before it has an own move: no fiber has made one yet, and this is one of the first
+// `settled` fibers.
+fn is_none_left(last: Option<usize>, settled: usize, fiber: usize) -> bool
+    ensures none { result ≡ true → last ≡ None }
+    ensures low { result ≡ true → fiber < settled }
 {
-    one || other
+    match last {
+        None => fiber < settled,
+        Some(_) => false,
+    }
+}
+
+// The fiber that has made the last own move: this one, if it has made any, or else the one before.
+fn last_of(before: Option<usize>, made: bool, fiber: usize) -> Option<usize>
+    ensures yes { made ≡ true → result ≡ Some fiber }
+    ensures no { made ≡ false → result ≡ before }
+{
+    if made { Some(fiber) } else { before }
 }
 
 // Makes own moves of this fiber, at most `most`, as long as it has one. Returns whether any was made.
@@ -205,16 +236,20 @@ pub(crate) fn has_own_move(current: &mut Current, at_once: AtOnce, fiber: u16) -
     ensures same { IsSame current.old current.new }
     ensures own { result ≡ is_made at_once (here current.old).world fiber }
 {
-    if usize::from(fiber) >= few_born(&*current) {
+    let place = usize::from(fiber);
+    if place >= few_born(&*current) {
         return false;
     }
-    if is_allowed(&mut *current, at_once.stores, fiber) {
-        return true;
+    match current.owned(place) {
+        Owned::Never => {
+            if !at_once.births {
+                return false;
+            }
+            is_birth(current, fiber)
+        }
+        Owned::Always => may_be_made(&*current, at_once.stores, fiber),
+        Owned::Sometimes => is_allowed(current, at_once.stores, fiber),
     }
-    if !at_once.births {
-        return false;
-    }
-    is_birth(current, fiber)
 }
 
 // Whether the next move of a fiber is an own move that is allowed at once.

@@ -12,30 +12,14 @@ ghost use Rattle.every_schedule.specs.Reduced.{is_left_alone as has_no_other, is
 
 use crate::core_world::CoreWorld;
 use crate::current::Current;
-use crate::known::Owned;
 use crate::leaping::few_born;
 use cell_registry::Call;
 use effect_term::facts_of;
 use fiber_frames::Use;
 use scheduled_core::Wish;
 
-/// Whether the next move of fiber `by` is an own move.
+/// Whether the next move of fiber `by` is an own move, by what the other fibers can still do, and by the registry.
 pub(crate) fn is_own_move(current: &mut Current, by: u16) -> bool
-    requires born { by < length (here current.old).world.fibers }
-    requires within { by < (here current.old).limits.fibers }
-    requires fits { AllFit (here current.old).world }
-    ensures same { IsSame current.old current.new }
-    ensures own { result ≡ has_own (here current.old).world by (slice_get (here current.old).world.fibers by) }
-{
-    match current.owned(usize::from(by)) {
-        Owned::Never => false,
-        Owned::Always => true,
-        Owned::Sometimes => is_own_now(current, by),
-    }
-}
-
-// The same, by what the other fibers can still do, and by the registry.
-fn is_own_now(current: &mut Current, by: u16) -> bool
     requires born { by < length (here current.old).world.fibers }
     requires within { by < (here current.old).limits.fibers }
     requires fits { AllFit (here current.old).world }

@@ -12,13 +12,15 @@ ghost use Rattle.every_schedule.specs.Persistent.{members as the_members, one_if
 ghost use Rattle.every_schedule.specs.Persistent.{grown, pick as the_pick, set_of as the_set, spread};
 ghost use Rattle.every_schedule.specs.Persistent.{stands_in, weight_at};
 ghost use Rattle.every_schedule.specs.Reduced.{is_made, leapt};
+ghost use Rattle.every_schedule.specs.Private.Numbered.{IsWorldOf};
 ghost use Rattle.every_schedule.specs.Private.Persistent.{AreRows, AreWide, IsBest, IsSet, has_fewer, joined_by};
+ghost use Rattle.every_schedule.specs.Private.MadeBefore.{IsChosen, IsLighter, IsPicked};
 ghost use Rattle.every_schedule.specs.Private.Persistent.{least as the_least};
 ghost use Rattle.every_schedule.specs.Private.Persistent.{row_at, spared_by};
 ghost use Rattle.every_schedule.specs.Private.Standing.{IsOnward, IsSame, here};
 
 use crate::current::Current;
-use crate::leaping::{AtOnce, few_born, has_own_move, is_memory, leap};
+use crate::leaping::{AtOnce, Leapt, few_born, has_own_move, is_memory, leap};
 use crate::needs::{depends_on, is_ready_at, is_sound, needs_of};
 use std::alloc::{AllocError, Global};
 
@@ -28,6 +30,13 @@ pub(crate) struct Seed {
     pub(crate) fiber: u16,
     pub(crate) set: Vec<bool>,
     pub(crate) many: usize,
+}
+
+/// A set that is chosen: its seed, and where the seed's entry leads, with the own moves after it.
+#[derive(Drop)]
+pub(crate) struct Choice {
+    pub(crate) seed: Seed,
+    pub(crate) leapt: Leapt,
 }
 
 // Returns a row for each fiber: the flags of the fibers on which its next move depends.
@@ -323,47 +332,68 @@ fn stands_if_in(current: &Current, rows: &[Vec<bool>], fiber: u16, set: &[bool])
     stands(current, fiber, rows[place].as_slice(), set)
 }
 
-// Whether the entry of a fiber, and the own moves after it, lead to a world that weighs less than `most`.
-fn is_lighter(
+// Where the entry of a fiber, and the own moves after it, lead, if that world weighs less than `most`.
+fn lighter_leap(
     current: &mut Current,
     fiber: u16,
     at_once: AtOnce,
     most: u64,
-) -> Result<bool, AllocError>
+) -> Result<Option<Leapt>, AllocError>
     requires fits { AllFit (here current.old).world }
     ensures onward { IsOnward current.old current.new }
-    ensures lighter { IfOk result (λ it. it ≡ the_lightness most (leapt at_once (here current.old) fiber)) }
+    ensures lighter { IfOk result (IsLighter at_once current.new.fibers current.new.registries (here current.old)
+        fiber most) }
 {
     let mut trail = Vec::new(current.alloc());
     match leap(&mut *current, fiber, at_once, &mut trail) {
-        Ok(()) => Ok(current.weight() < most),
+        Ok(()) => {}
         Err(fault) => {
             if is_memory(fault) {
                 return Err(AllocError);
             }
-            Ok(false)
+            return Ok(None);
         }
     }
+    if current.weight() >= most {
+        return Ok(None);
+    }
+    Ok(Some(landed(current, trail)?))
 }
 
-// Whether the entry of a fiber, and the own moves after it, lead to a world that weighs less than this one. Goes back to
+// Returns this world, to which these entries have led.
+fn landed(current: &mut Current, trail: Vec<u16>) -> Result<Leapt, AllocError>
+    ensures onward { IsOnward current.old current.new }
+    ensures row { IfOk result (λ it. IsWorldOf current.new.fibers current.new.registries
+        record { registry = it.registry; fibers = it.fibers.items } (here current.old)) }
+    ensures trail { IfOk result (λ it. it.trail ≡ trail) }
+{
+    let registry = current.number()?;
+    let fibers = Vec::from_slice(current.alloc(), current.numbers())?;
+    Ok(Leapt {
+        registry,
+        fibers,
+        trail,
+    })
+}
+
+// Where the entry of a fiber, and the own moves after it, lead, if that world weighs less than this one. Goes back to
 // this world.
 fn leads_down(
     alloc: Global,
     current: &mut Current,
     fiber: u16,
     at_once: AtOnce,
-) -> Result<bool, AllocError>
+) -> Result<Option<Leapt>, AllocError>
     requires fits { AllFit (here current.old).world }
     ensures onward { IsOnward current.old current.new }
     ensures here { OnOk result (here current.new ≡ here current.old) }
-    ensures lighter { IfOk result (λ it. it ≡
-        the_lightness (weight_at (here current.old)) (leapt at_once (here current.old) fiber)) }
+    ensures lighter { IfOk result (IsLighter at_once current.new.fibers current.new.registries (here current.old)
+        fiber (weight_at (here current.old))) }
 {
     let most = current.weight();
     let registry = current.number()?;
     let numbers = Vec::from_slice(alloc, current.numbers())?;
-    let lighter = is_lighter(&mut *current, fiber, at_once, most)?;
+    let lighter = lighter_leap(&mut *current, fiber, at_once, most)?;
     current.go_to(registry, numbers.as_slice())?;
     Ok(lighter)
 }
@@ -405,59 +435,57 @@ pub(crate) fn is_entered(
     if is_inside(seed.set.as_slice(), Some(fiber)) {
         return Ok(true);
     }
-    let chosen = is_chosen(alloc, current, rows.as_slice(), &seed, at_once)?;
-    Ok(!chosen)
+    let chosen = chosen_leap(alloc, current, rows.as_slice(), &seed, at_once)?;
+    Ok(chosen.is_none())
 }
 
-/// Returns the fibers whose entries are made at this world, or `None` if those of all fibers are. The entries of all
-/// are made if no smaller set is found: a set whose next moves depend on no other fiber, and one of which leads to a
+/// Returns the set of fibers whose entries are made at this world, or `None` if those of all fibers are. The entries of
+/// all are made if no smaller set is found: a set whose next moves depend on no other fiber, and one of which leads to a
 /// world that weighs less.
 pub(crate) fn pick(
     alloc: Global,
     current: &mut Current,
     at_once: AtOnce,
-) -> Result<Option<Vec<bool>>, AllocError>
+) -> Result<Option<Choice>, AllocError>
     requires fits { AllFit (here current.old).world }
     ensures onward { IsOnward current.old current.new }
     ensures here { OnOk result (here current.new ≡ here current.old) }
-    ensures picked { IfOk result (λ it. IsSet (the_pick at_once (here current.old)) it) }
+    ensures picked { IfOk result (IsPicked at_once current.new.fibers current.new.registries (here current.old)) }
 {
     let rows = rows_of(alloc, &mut *current)?;
     let seed = match best(alloc, &*current, rows.as_slice())? {
         None => return Ok(None),
         Some(seed) => seed,
     };
-    if !is_chosen(alloc, current, rows.as_slice(), &seed, at_once)? {
-        return Ok(None);
+    match chosen_leap(alloc, current, rows.as_slice(), &seed, at_once)? {
+        None => Ok(None),
+        Some(leapt) => Ok(Some(Choice { seed, leapt })),
     }
-    let Seed { set, .. } = seed;
-    Ok(Some(set))
 }
 
-// Whether the set of a seed is chosen: the seed doesn't go round in a loop of moves that are made at once, the next moves
-// of the set's fibers depend on no other fiber, and that of the seed leads to a world that weighs less. Goes back to
-// this world.
-fn is_chosen(
+// Where the entry of a seed leads, if the seed's set is chosen: the seed doesn't go round in a loop of moves that are
+// made at once, the next moves of the set's fibers depend on no other fiber, and that of the seed leads to a world that
+// weighs less. Goes back to this world.
+fn chosen_leap(
     alloc: Global,
     current: &mut Current,
     rows: &[Vec<bool>],
     seed: &Seed,
     at_once: AtOnce,
-) -> Result<bool, AllocError>
+) -> Result<Option<Leapt>, AllocError>
     requires fits { AllFit (here current.old).world }
     requires rows { AreRows (here current.old).world rows.now }
     requires many { length seed.now.set.items ≡ length (here current.old).world.fibers }
     ensures onward { IsOnward current.old current.new }
     ensures here { OnOk result (here current.new ≡ here current.old) }
-    ensures chosen { IfOk result (λ it. it ≡ (not (is_made at_once (here current.old).world seed.now.fiber)
-        && (the_persistence (here current.old).world seed.now.set.items
-        && the_lightness (weight_at (here current.old)) (leapt at_once (here current.old) seed.now.fiber)))) }
+    ensures chosen { IfOk result (IsChosen at_once current.new.fibers current.new.registries (here current.old)
+        seed.now) }
 {
     if has_own_move(&mut *current, at_once, seed.fiber) {
-        return Ok(false);
+        return Ok(None);
     }
     if !is_persistent(&*current, rows, seed.set.as_slice()) {
-        return Ok(false);
+        return Ok(None);
     }
     leads_down(alloc, current, seed.fiber, at_once)
 }

@@ -140,7 +140,7 @@ impl Worlds for ReducedWorlds {
             return Ok(Entered::At(Landing::World(world)));
         }
         self.worlds
-            .entry(world, fiber, most, AT_ONCE, &mut self.trail)
+            .chosen_entry(world, fiber, most, AT_ONCE, &mut self.trail)
     }
 
     fn same_report(&self, one: usize, other: usize) -> bool {

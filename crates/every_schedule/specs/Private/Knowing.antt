@@ -12,7 +12,7 @@ use Rattle.scheduled_core.specs.declared.wish.Wish.{Wish}
 use Rattle.scheduled_core.specs.Core.{World, wish_of}
 use Rattle.every_schedule.specs.Sizes.{capped}
 use Rattle.fiber_frames.specs.Weights.{weight_of}
-use Rattle.every_schedule.specs.Reduced.{is_own}
+use Rattle.every_schedule.specs.Reduced.{is_birth, is_own}
 use Rattle.every_schedule.specs.declared.known.Known.{Known}
 use Rattle.every_schedule.specs.declared.known.Owned.{Owned}
 use Rattle.every_schedule.specs.declared.known.Owned.TheVariants.{Never, Always, Sometimes}
@@ -38,11 +38,15 @@ abbrev pub TellUses : Fiber → List (Option Bool) → Type 0
 TellUses g uses = (given : Given) → NamedRun given g.running → (u : Use) (n : ℕ) (b : Bool) →
     slice_get uses (use_place u n) ≡ Some (Some b) → b ≡ is_some (uses_in u n g.running)
 
--- a move with this wish is an own move in no world, or in each
+-- a move with this wish is a birth in no world
+abbrev pub IsNoBirth : Wish → Type 0
+IsNoBirth d = (w : World) (f : ℕ) → is_birth w f d ≡ false
+
+-- a move with this wish is an own move in no world, or in each; or it is no birth
 abbrev pub IsOwned : Wish → Bool → Owned → Type 0
 IsOwned d alone Never = (w : World) (f : ℕ) (g : Fiber) → waits_alone g ≡ alone → is_own w f g d ≡ false
-IsOwned d alone Always = (w : World) (f : ℕ) (g : Fiber) → waits_alone g ≡ alone → is_own w f g d ≡ true
-IsOwned d alone Sometimes = Unit {0}
+IsOwned d alone Always = ((w : World) (f : ℕ) (g : Fiber) → waits_alone g ≡ alone → is_own w f g d ≡ true) × IsNoBirth d
+IsOwned d alone Sometimes = IsNoBirth d
 
 pub record IsKnown (g : Fiber) (k : Known) : Type 0 where
   pub wish : k.wish ≡ wish_of (ask_of g)

@@ -12,7 +12,7 @@ use Rattle.every_schedule.specs.declared.leaping.AtOnce.{AtOnce}
 use Rattle.every_schedule.specs.Explored.{HasMove}
 use Rattle.every_schedule.specs.Places.{Place, stepped}
 use Rattle.every_schedule.specs.Persistent.{chosen}
-use Rattle.every_schedule.specs.Reduced.{IsMade, leapt}
+use Rattle.every_schedule.specs.Reduced.{IsMade, leapt, moved_on}
 
 -- each of these entries, from this place on, is of a fiber that has a next move where the entry is made
 abbrev pub AreMade : Place → List ℕ → Type 0
@@ -26,6 +26,10 @@ pub record IsTrail (old new : List ℕ) (p : Place) (y : Result Place RunError) 
   pub leads : run stepped (Ok p) added ≡ y
   pub few : All (λ f. f < 1000) added
   pub moves : AreMade p added
+
+-- none of the first s fibers has a move that is made at once
+abbrev pub AreSettled : AtOnce → Place → ℕ → Type 0
+AreSettled n p s = (k : ℕ) → k < s → moved_on n n.most k p ≡ p
 
 -- the new trail is the old one and moves made at once that lead from p to q
 pub record IsOwnTrail (n : AtOnce) (old new : List ℕ) (p q : Place) : Type 0 where

@@ -1,9 +1,16 @@
-use Rattle.std.proofs.Common.{◌≡◌, ◌<◌, Bool, true, false, not, length, refl, sym, ◌∙◌, subst, arith}
-use Rattle.scheduled_core.specs.Fitting.{AllFit}
-use Rattle.every_schedule.specs.Places.{Place}
+use Rattle.std.proofs.Common.{◌≡◌, ◌<◌, Bool, true, false, not, length, refl, sym, ap, ◌∙◌, subst, arith}
+use Rattle.std.specs.Prelude.{Some}
+use Rattle.std.specs.List.{slice_get}
+use Rattle.fiber_frames.specs.Fiber.{ask_of, waits_alone}
+use Rattle.scheduled_core.specs.Core.{wish_of}
+use Rattle.world_search.proofs.Lists.{get_low}
+use Rattle.every_schedule.specs.declared.known.Owned.{Owned}
+use Rattle.every_schedule.specs.declared.known.Owned.TheVariants.{Never, Always, Sometimes}
+use Rattle.every_schedule.specs.Reduced.{has_birth}
+use Rattle.every_schedule.specs.Private.Knowing.{IsOwned}
 use Rattle.every_schedule.specs.Private.Standing.{here}
-use Rattle.every_schedule.proofs.Leaps.{made_allowed, made_birth, made_neither, made_unborn}
-use Rattle.every_schedule.proofs.Standing.{same_none, same_on}
+use Rattle.every_schedule.proofs.Leaps.{made_always, made_never, made_own, made_unborn}
+use Rattle.every_schedule.proofs.Standing.{same_none}
 use Rattle.every_schedule.proofs.leaping.has_own_move.Goals as goal
 
 not_true : (b : Bool) → not b ≡ true → b ≡ false
@@ -14,41 +21,62 @@ not_false : (b : Bool) → not b ≡ false → b ≡ true
 not_false true e = refl
 not_false false e = absurd (cc)
 
-pub returns-then-from-few_born-clause-same : goal.returns-then-from-few_born-clause-same
-returns-then-from-few_born-clause-same c = same_none c.args.current.now
+pub returns-then-place-clause-same : goal.returns-then-place-clause-same
+returns-then-place-clause-same c = same_none c.args.current.now
 
-pub returns-then-from-few_born-clause-own : goal.returns-then-from-few_born-clause-own
-returns-then-from-few_born-clause-own c =
+pub returns-then-place-clause-own : goal.returns-then-place-clause-own
+returns-then-place-clause-own c =
     sym (made_unborn c.args.at_once (here c.args.current.now) c.args.fiber (let born = c.few_born.ensures.born in omega arith))
 
-pub returns-then-is_allowed-clause-same : goal.returns-then-is_allowed-clause-same
-returns-then-is_allowed-clause-same c = c.is_allowed.ensures.same
-
-pub returns-then-is_allowed-clause-own : goal.returns-then-is_allowed-clause-own
-returns-then-is_allowed-clause-own c =
-    sym (made_allowed c.args.at_once (here c.args.current.now).world c.args.fiber (sym c.is_allowed.ensures.allowed ∙ c.if-is_allowed.true))
-
 pub returns-then-not-at_once-clause-same : goal.returns-then-not-at_once-clause-same
-returns-then-not-at_once-clause-same c = c.is_allowed.ensures.same
+returns-then-not-at_once-clause-same c = same_none c.args.current.now
 
 pub returns-then-not-at_once-clause-own : goal.returns-then-not-at_once-clause-own
 returns-then-not-at_once-clause-own c =
-    sym (made_neither c.args.at_once (here c.args.current.now).world c.args.fiber (sym c.is_allowed.ensures.allowed ∙ c.if-is_allowed.false)
-    (not_true c.args.at_once.births c.if-not-at_once.true))
+    let p = here c.args.current.now in
+    let f = c.args.fiber in
+    let low : f < length p.world.fibers = (let born = c.few_born.ensures.born in omega arith) in
+    let b = get_low p.world.fibers f low in
+    let at = subst (λ i. slice_get p.world.fibers i ≡ Some b.0) (sym c.from-place.ensures) b.1 in
+    let told : IsOwned (wish_of (ask_of b.0)) (waits_alone b.0) Never =
+    subst (λ (o : Owned). IsOwned (wish_of (ask_of b.0)) (waits_alone b.0) o) c.in-Never.is (c.owned.ensures b.0 at) in
+    sym (made_never c.args.at_once p f b.0 b.1 (told p.world f b.0 refl)
+    ∙ ap (λ (t : Bool). t && has_birth p.world f (slice_get p.world.fibers f)) (not_true c.args.at_once.births c.if-not-at_once.true))
 
-pub is_birth-requires-clause-born : goal.is_birth-requires-clause-born
-is_birth-requires-clause-born c =
-    subst (λ (p : Place). c.args.fiber < length p.world.fibers) (sym c.is_allowed.ensures.same.here) (let born = c.few_born.ensures.born in omega arith)
-
-pub is_birth-requires-clause-fits : goal.is_birth-requires-clause-fits
-is_birth-requires-clause-fits c = subst (λ (p : Place). AllFit p.world) (sym c.is_allowed.ensures.same.here) c.requires
-
-pub returns-clause-same : goal.returns-clause-same
-returns-clause-same c =
-    same_on c.args.current.now c.is_allowed.new.current c.is_birth.new.current c.is_allowed.ensures.same c.is_birth.ensures.same
-
-pub returns-clause-own : goal.returns-clause-own
-returns-clause-own c =
+pub returns-in-Never-clause-own : goal.returns-in-Never-clause-own
+returns-in-Never-clause-own c =
+    let p = here c.args.current.now in
+    let f = c.args.fiber in
+    let low : f < length p.world.fibers = (let born = c.few_born.ensures.born in omega arith) in
+    let b = get_low p.world.fibers f low in
+    let at = subst (λ i. slice_get p.world.fibers i ≡ Some b.0) (sym c.from-place.ensures) b.1 in
+    let told : IsOwned (wish_of (ask_of b.0)) (waits_alone b.0) Never =
+    subst (λ (o : Owned). IsOwned (wish_of (ask_of b.0)) (waits_alone b.0) o) c.in-Never.is (c.owned.ensures b.0 at) in
     c.is_birth.ensures.birth
-    ∙ sym (made_birth c.args.at_once (here c.args.current.now) (here c.is_allowed.new.current) c.args.fiber c.is_allowed.ensures.same.here
-    (sym c.is_allowed.ensures.allowed ∙ c.if-is_allowed.false) (not_false c.args.at_once.births c.if-not-at_once.false))
+    ∙ sym (made_never c.args.at_once p f b.0 b.1 (told p.world f b.0 refl)
+    ∙ ap (λ (t : Bool). t && has_birth p.world f (slice_get p.world.fibers f)) (not_false c.args.at_once.births c.if-not-at_once.false))
+
+pub returns-in-Always-clause-same : goal.returns-in-Always-clause-same
+returns-in-Always-clause-same c = same_none c.args.current.now
+
+pub returns-in-Always-clause-own : goal.returns-in-Always-clause-own
+returns-in-Always-clause-own c =
+    let p = here c.args.current.now in
+    let f = c.args.fiber in
+    let low : f < length p.world.fibers = (let born = c.few_born.ensures.born in omega arith) in
+    let b = get_low p.world.fibers f low in
+    let at = subst (λ i. slice_get p.world.fibers i ≡ Some b.0) (sym c.from-place.ensures) b.1 in
+    let told : IsOwned (wish_of (ask_of b.0)) (waits_alone b.0) Always =
+    subst (λ (o : Owned). IsOwned (wish_of (ask_of b.0)) (waits_alone b.0) o) c.in-Always.is (c.owned.ensures b.0 at) in
+    c.may_be_made.ensures ∙ sym (made_always c.args.at_once p f b.0 b.1 (told.1 p.world f) (told.0 p.world f b.0 refl))
+
+pub returns-in-Sometimes-clause-own : goal.returns-in-Sometimes-clause-own
+returns-in-Sometimes-clause-own c =
+    let p = here c.args.current.now in
+    let f = c.args.fiber in
+    let low : f < length p.world.fibers = (let born = c.few_born.ensures.born in omega arith) in
+    let b = get_low p.world.fibers f low in
+    let at = subst (λ i. slice_get p.world.fibers i ≡ Some b.0) (sym c.from-place.ensures) b.1 in
+    let told : IsOwned (wish_of (ask_of b.0)) (waits_alone b.0) Sometimes =
+    subst (λ (o : Owned). IsOwned (wish_of (ask_of b.0)) (waits_alone b.0) o) c.in-Sometimes.is (c.owned.ensures b.0 at) in
+    c.is_allowed.ensures.allowed ∙ sym (made_own c.args.at_once p f b.0 b.1 (told p.world f))

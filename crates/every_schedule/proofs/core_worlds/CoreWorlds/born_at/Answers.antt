@@ -10,7 +10,7 @@ registry_of-registry-requires c =
     let m = found.0 in
     let row = found.1 in
     subst (λ i. i < length s.current.registries) (sym (c.registry.ensures m row))
-    (registry_there s.limits s.current.fibers s.current.registries m (c.self.invariant c.args.world m row))
+    (registry_there s.limits s.current.fibers s.current.registries m (c.self.invariant.0 c.args.world m row))
 
 pub overflow_cast-result : goal.overflow_cast-result
 overflow_cast-result c =
@@ -20,7 +20,7 @@ overflow_cast-result c =
     let row = found.1 in
     let rs = s.current.registries in
     let few = born_few s.limits s.current.fibers rs m c.registry_of-registry.result.now
-    (c.self.invariant c.args.world m row) (ap (slice_get rs) (sym (c.registry.ensures m row)) ∙ c.registry_of-registry.ensures) c.limits.ensures.lawful in
+    (c.self.invariant.0 c.args.world m row) (ap (slice_get rs) (sym (c.registry.ensures m row)) ∙ c.registry_of-registry.ensures) c.limits.ensures.lawful in
     let long = ap length (c.fibers.ensures m row) in
     omega arith
 
@@ -32,7 +32,7 @@ returns-clause-few c =
     let row = found.1 in
     let rs = s.current.registries in
     let few = born_few s.limits s.current.fibers rs m c.registry_of-registry.result.now
-    (c.self.invariant c.args.world m row) (ap (slice_get rs) (sym (c.registry.ensures m row)) ∙ c.registry_of-registry.ensures) c.limits.ensures.lawful in
+    (c.self.invariant.0 c.args.world m row) (ap (slice_get rs) (sym (c.registry.ensures m row)) ∙ c.registry_of-registry.ensures) c.limits.ensures.lawful in
     let long = ap length (c.fibers.ensures m row) in
     omega arith
 
@@ -47,7 +47,7 @@ returns-clause-born c = λ p at.
     let row = found.1 in
     let places : map (place_of k fs rs) s.rows.rows ≡ c.args.self.now.places = ap (λ (x : Kept). x.places) c.self.view_is in
     let here : place_of k fs rs m ≡ p = place_at k fs rs s.rows.rows c.args.world m p row (ap (λ l. slice_get l c.args.world) places ∙ at) in
-    let born = born_of k fs rs m (c.self.invariant c.args.world m row) in
+    let born = born_of k fs rs m (c.self.invariant.0 c.args.world m row) in
     let same : length (place_of k fs rs m).world.fibers ≡ length p.world.fibers = ap (λ (q : Place). length q.world.fibers) here in
     let long = ap length (c.fibers.ensures m row) in
     omega arith

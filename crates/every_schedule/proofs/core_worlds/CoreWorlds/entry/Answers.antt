@@ -15,6 +15,7 @@ use Rattle.every_schedule.specs.Private.Trails.{IsLeapTrail, MakesAtOnce}
 use Rattle.every_schedule.proofs.Entering.{always, is_here, lands, next_kept, places_hold, places_stay, room_kept, rows_hold, rows_stay}
 use Rattle.every_schedule.proofs.Numbered.{row_at, fits_so}
 use Rattle.every_schedule.proofs.Leaps.{refused_with}
+use Rattle.every_schedule.proofs.MadeBefore.{ahead_more, may_more}
 use Rattle.every_schedule.proofs.Packed.{gone}
 use Rattle.every_schedule.proofs.Trails.{leap_made}
 use Rattle.every_schedule.proofs.core_worlds.CoreWorlds.entry.Goals as goal
@@ -28,7 +29,7 @@ go_to-requires c =
     let found = row_at (place_of s.limits s.current.fibers s.current.registries) s.rows.rows c.args.world (subst (λ (x : Kept). c.args.world < length x.places) (sym c.self.view_is) c.requires) in
     let m = found.0 in
     let row = found.1 in
-    (k, subst (λ (n : Numbers). IsWorld k fs rs n) (gone c.registry.result c.fibers.result.now m (c.registry.ensures m row) (c.fibers.ensures m row)) (c.self.invariant c.args.world m row))
+    (k, subst (λ (n : Numbers). IsWorld k fs rs n) (gone c.registry.result c.fibers.result.now m (c.registry.ensures m row) (c.fibers.ensures m row)) (c.self.invariant.0 c.args.world m row))
 
 pub leap-requires : goal.leap-requires
 leap-requires c =
@@ -42,7 +43,7 @@ leap-requires c =
     let row = found.1 in
     let now = here c.go_to.new.self in
     let is_now : IsWorldOf fs rs m now = subst (λ (n : Numbers). IsWorldOf fs rs n now) (sym (gone c.registry.result c.fibers.result.now m (c.registry.ensures m row) (c.fibers.ensures m row))) c.in_ok-go_to.ensures.here in
-    fits_so k fs rs m now (c.self.invariant c.args.world m row) is_now
+    fits_so k fs rs m now (c.self.invariant.0 c.args.world m row) is_now
 
 pub invariant_of-self-2 : goal.invariant_of-self-2
 invariant_of-self-2 c =
@@ -68,8 +69,11 @@ invariant_of-self-2 c =
     let next = here c.leap.new.current in
     let is_next : IsWorldOf fs' rs' n next = subst (λ (l : List ℕ). IsWorldOf fs' rs' record { registry = c.in_ok-registry.registry; fibers = l } next) (sym c.numbers.ensures) c.in_ok-registry.ensures.row in
     let rows' = c.keep.new.self.rows in
-    rows_hold k fs fs' rs rs' mf mr rows c.self.invariant c.args.world m row now is_now
-    c.args.at_once c.args.fiber n next c.in-Ok.ensures.goes is_next c.in-Ok.ensures.fits rows' c.keep.ensures.adds
+    (
+      rows_hold k fs fs' rs rs' mf mr rows c.self.invariant.0 c.args.world m row now is_now
+      c.args.at_once c.args.fiber n next c.in-Ok.ensures.goes is_next c.in-Ok.ensures.fits rows' c.keep.ensures.adds,
+      ahead_more fs fs' rs rs' mf mr rows rows' (may_more rows rows' n c.keep.ensures.adds) s.ahead c.self.invariant.1,
+    )
 
 pub invariant_of-self-in-Err : goal.invariant_of-self-in-Err
 invariant_of-self-in-Err c =
@@ -87,7 +91,10 @@ invariant_of-self-in-Err c =
     let qs = c.leap.new.current.registries in
     let mg : IsMore fs gs = subst (λ (l : List Fiber). IsMore l gs) c.go_to.ensures.fibers c.leap.ensures.onward.fibers in
     let mq : IsMore rs qs = subst (λ (l : List PlainView). IsMore l qs) c.go_to.ensures.registries c.leap.ensures.onward.registries in
-    rows_stay k fs gs rs qs mg mq rows c.self.invariant c.args.world m row now is_now
+    (
+      rows_stay k fs gs rs qs mg mq rows c.self.invariant.0 c.args.world m row now is_now,
+      ahead_more fs gs rs qs mg mq rows rows (more_same rows) s.ahead c.self.invariant.1,
+    )
 
 pub returns-clause-worlds : goal.returns-clause-worlds
 returns-clause-worlds c =
@@ -115,7 +122,7 @@ returns-clause-worlds c =
     let rows' = c.keep.new.self.rows in
     let places : map (place_of k fs rs) rows ≡ c.args.self.now.places = ap (λ (x : Kept). x.places) c.self.view_is in
     subst (λ l. IsMore l (map (place_of k fs' rs') rows')) places
-    (places_hold k fs fs' rs rs' mf mr rows c.self.invariant c.args.world m row now is_now
+    (places_hold k fs fs' rs rs' mf mr rows c.self.invariant.0 c.args.world m row now is_now
     c.args.at_once c.args.fiber n next c.in-Ok.ensures.goes is_next c.in-Ok.ensures.fits rows' c.keep.ensures.adds)
 
 pub returns-clause-faults : goal.returns-clause-faults
@@ -149,7 +156,7 @@ returns-clause-lands c =
     let rows' = c.keep.new.self.rows in
     let places : map (place_of k fs rs) rows ≡ c.args.self.now.places = ap (λ (x : Kept). x.places) c.self.view_is in
     IfOk-weaker c.keep.result _ _
-    (λ it kept. λ w at. lands k fs fs' rs rs' mf mr rows c.self.invariant c.args.world m row now is_now
+    (λ it kept. λ w at. lands k fs fs' rs rs' mf mr rows c.self.invariant.0 c.args.world m row now is_now
     c.args.at_once c.args.fiber n next c.in-Ok.ensures.goes is_next c.in-Ok.ensures.fits rows' c.keep.ensures.adds s.faults it kept w
     (ap (λ l. slice_get l c.args.world) places ∙ at)) c.keep.ensures.kept
 
@@ -228,7 +235,7 @@ returns-in-Err-clause-worlds c =
     let mg : IsMore fs gs = subst (λ (l : List Fiber). IsMore l gs) c.go_to.ensures.fibers c.leap.ensures.onward.fibers in
     let mq : IsMore rs qs = subst (λ (l : List PlainView). IsMore l qs) c.go_to.ensures.registries c.leap.ensures.onward.registries in
     let places : map (place_of k fs rs) rows ≡ c.args.self.now.places = ap (λ (x : Kept). x.places) c.self.view_is in
-    subst (λ l. IsMore l (map (place_of k gs qs) rows)) places (places_stay k fs gs rs qs mg mq rows c.self.invariant c.args.world m row now is_now)
+    subst (λ l. IsMore l (map (place_of k gs qs) rows)) places (places_stay k fs gs rs qs mg mq rows c.self.invariant.0 c.args.world m row now is_now)
 
 pub returns-in-Err-clause-lands : goal.returns-in-Err-clause-lands
 returns-in-Err-clause-lands c =
@@ -248,7 +255,7 @@ returns-in-Err-clause-lands c =
     let mq : IsMore rs qs = subst (λ (l : List PlainView). IsMore l qs) c.go_to.ensures.registries c.leap.ensures.onward.registries in
     let places : map (place_of k fs rs) rows ≡ c.args.self.now.places = ap (λ (x : Kept). x.places) c.self.view_is in
     IfOk-weaker c.fault_met.result _ _ (λ it met. λ w at.
-    let there = is_here k fs gs rs qs mg mq rows c.self.invariant c.args.world m row now is_now w (ap (λ l. slice_get l c.args.world) places ∙ at) in
+    let there = is_here k fs gs rs qs mg mq rows c.self.invariant.0 c.args.world m row now is_now w (ap (λ l. slice_get l c.args.world) places ∙ at) in
     met (map (place_of k gs qs) rows) (leapt c.args.at_once w c.args.fiber)
     (elim c.in-Err.ensures.stops [
       | inl memory ↦ inl memory
@@ -318,7 +325,10 @@ invariant_of-self-in_err-registry c =
     let rs' = c.number.new.self.registries in
     let mf = more_more fs gs fs' mg c.number.ensures.onward.fibers in
     let mr = more_more rs qs rs' mq c.number.ensures.onward.registries in
-    rows_stay k fs fs' rs rs' mf mr rows c.self.invariant c.args.world m row now is_now
+    (
+      rows_stay k fs fs' rs rs' mf mr rows c.self.invariant.0 c.args.world m row now is_now,
+      ahead_more fs fs' rs rs' mf mr rows rows (more_same rows) s.ahead c.self.invariant.1,
+    )
 
 pub returns-in_err-registry-clause-worlds : goal.returns-in_err-registry-clause-worlds
 returns-in_err-registry-clause-worlds c =
@@ -341,7 +351,7 @@ returns-in_err-registry-clause-worlds c =
     let mf = more_more fs gs fs' mg c.number.ensures.onward.fibers in
     let mr = more_more rs qs rs' mq c.number.ensures.onward.registries in
     let places : map (place_of k fs rs) rows ≡ c.args.self.now.places = ap (λ (x : Kept). x.places) c.self.view_is in
-    subst (λ l. IsMore l (map (place_of k fs' rs') rows)) places (places_stay k fs fs' rs rs' mf mr rows c.self.invariant c.args.world m row now is_now)
+    subst (λ l. IsMore l (map (place_of k fs' rs') rows)) places (places_stay k fs fs' rs rs' mf mr rows c.self.invariant.0 c.args.world m row now is_now)
 
 pub returns-in_err-go_to-clause-worlds : goal.returns-in_err-go_to-clause-worlds
 returns-in_err-go_to-clause-worlds c =
@@ -379,7 +389,7 @@ returns-clause-makes c =
     (subst (λ (l : List ℕ). IsLeapTrail c.args.at_once l c.leap.new.trail.items now c.args.fiber) c.clear.ensures.items c.in-Ok.ensures.trail) in
     IfOk-weaker c.keep.result _ _
     (λ it kept. λ w at.
-    let there = is_here k fs gs rs qs mg mq rows c.self.invariant c.args.world m row now is_now w (ap (λ l. slice_get l c.args.world) places ∙ at) in
+    let there = is_here k fs gs rs qs mg mq rows c.self.invariant.0 c.args.world m row now is_now w (ap (λ l. slice_get l c.args.world) places ∙ at) in
     subst (λ (p : Place). MakesAtOnce c.args.at_once p c.args.fiber c.leap.new.trail.items) (sym there) made) c.keep.ensures.kept
 
 pub returns-in-Err-clause-makes : goal.returns-in-Err-clause-makes
@@ -400,7 +410,7 @@ returns-in-Err-clause-makes c =
     let mq : IsMore rs qs = subst (λ (l : List PlainView). IsMore l qs) c.go_to.ensures.registries c.leap.ensures.onward.registries in
     let places : map (place_of k fs rs) rows ≡ c.args.self.now.places = ap (λ (x : Kept). x.places) c.self.view_is in
     IfOk-weaker c.fault_met.result _ _ (λ it apart. λ w at.
-    let there = is_here k fs gs rs qs mg mq rows c.self.invariant c.args.world m row now is_now w (ap (λ l. slice_get l c.args.world) places ∙ at) in
+    let there = is_here k fs gs rs qs mg mq rows c.self.invariant.0 c.args.world m row now is_now w (ap (λ l. slice_get l c.args.world) places ∙ at) in
     let stops = refused_with c.in-Err.fault _ apart c.in-Err.ensures.stops in
     subst (λ (p : Place). MakesAtOnce c.args.at_once p c.args.fiber c.leap.new.trail.items) (sym there)
     (leap_made c.args.at_once c.leap.new.trail.items now c.args.fiber

@@ -19,7 +19,7 @@ invariant_of-result c =
     let fits : AllFit p.world = subst (λ (q : Place). AllFit q.world) (sym first) c.new.ensures.fits in
     let rows : c.in_ok-rows.rows.rows ≡ n ∷ [] = c.in_ok-rows.ensures ∙
     ap (λ (l : List ℕ). record { registry = c.in_ok-registry.registry; fibers = l } ∷ []) c.numbers.ensures in
-    subst (AreWorlds k fs rs) (sym rows) (first_worlds k fs rs n p c.in_ok-registry.ensures.row limits fits)
+    (subst (AreWorlds k fs rs) (sym rows) (first_worlds k fs rs n p c.in_ok-registry.ensures.row limits fits), tt)
 
 pub returns-clause-places : goal.returns-clause-places
 returns-clause-places c =

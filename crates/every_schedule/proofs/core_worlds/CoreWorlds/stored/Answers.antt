@@ -12,7 +12,7 @@ stored_at-requires c =
     let row = found.1 in
     subst (λ (l : List Fiber). All (λ m. m < length l) c.fibers-2.result.now) (sym c.fibers.ensures)
     (subst (λ (l : List ℕ). All (λ m. m < length fs) l) (sym (c.fibers-2.ensures m row))
-    (fibers_there s.limits fs s.current.registries m (c.self.invariant c.args.world m row)))
+    (fibers_there s.limits fs s.current.registries m (c.self.invariant.0 c.args.world m row)))
 
 pub returns : goal.returns
 returns c = λ p at.
@@ -28,7 +28,7 @@ returns c = λ p at.
     let places : map (place_of k fs rs) rows ≡ c.args.self.now.places = ap (λ (x : Kept). x.places) c.self.view_is in
     let here = place_at k fs rs rows c.args.world m p row (ap (λ l. slice_get l c.args.world) places ∙ at) in
     let numbers : c.fibers-2.result.now ≡ m.fibers = c.fibers-2.ensures m row in
-    stored_is k fs rs m (c.self.invariant c.args.world m row) p here f c.stored_at.result
+    stored_is k fs rs m (c.self.invariant.0 c.args.world m row) p here f c.stored_at.result
     (λ e. c.stored_at.ensures.none (ap (λ (l : List ℕ). slice_get l f) numbers ∙ e))
     (λ n g e there. c.stored_at.ensures.some n g (ap (λ (l : List ℕ). slice_get l f) numbers ∙ e)
     (ap (λ (l : List Fiber). slice_get l n) c.fibers.ensures ∙ there))

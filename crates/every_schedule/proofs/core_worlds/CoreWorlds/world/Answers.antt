@@ -14,7 +14,7 @@ fibers_of-requires c =
     let row = found.1 in
     subst (λ (l : List Fiber). All (λ n. n < length l) c.fibers-2.result.now) (sym c.fibers.ensures)
     (subst (λ (l : List ℕ). All (λ n. n < length fs) l) (sym (c.fibers-2.ensures m row))
-    (fibers_there s.limits fs s.current.registries m (c.self.invariant c.args.number m row)))
+    (fibers_there s.limits fs s.current.registries m (c.self.invariant.0 c.args.number m row)))
 
 pub registry_of-registry-requires : goal.registry_of-registry-requires
 registry_of-registry-requires c =
@@ -23,7 +23,7 @@ registry_of-registry-requires c =
     let m = found.0 in
     let row = found.1 in
     subst (λ i. i < length s.current.registries) (sym (c.registry.ensures m row))
-    (registry_there s.limits s.current.fibers s.current.registries m (c.self.invariant c.args.number m row))
+    (registry_there s.limits s.current.fibers s.current.registries m (c.self.invariant.0 c.args.number m row))
 
 pub new-requires : goal.new-requires
 new-requires c =
@@ -37,7 +37,7 @@ new-requires c =
     subst (λ (l : List Fiber). AreAt l m.fibers c.in_ok-fibers.fibers.items) c.fibers.ensures
     (subst (λ l. AreAt c.fibers.result.now.items.items l c.in_ok-fibers.fibers.items) (c.fibers-2.ensures m row) c.in_ok-fibers.ensures) in
     let there : slice_get rs m.registry ≡ Some c.in_ok-registry.registry = ap (slice_get rs) (sym (c.registry.ensures m row)) ∙ c.registry_of-registry.ensures ∙ ap Some (sym c.in_ok-registry.ensures) in
-    fits_at s.limits fs rs m c.in_ok-fibers.fibers.items c.in_ok-registry.registry (c.self.invariant c.args.number m row) are there
+    fits_at s.limits fs rs m c.in_ok-fibers.fibers.items c.in_ok-registry.registry (c.self.invariant.0 c.args.number m row) are there
 
 pub returns : goal.returns
 returns c = λ p at.
@@ -56,5 +56,5 @@ returns c = λ p at.
     let is_now : IsWorldOf fs rs m c.new.result =
     subst (λ (q : Place). IsWorldOf fs rs m q) (sym c.new.ensures) (is_at fs rs m c.in_ok-fibers.fibers.items c.in_ok-registry.registry are there) in
     let places : map (place_of k fs rs) rows ≡ c.args.self.now.places = ap (λ (x : Kept). x.places) c.self.view_is in
-    sym (is_here k fs fs rs rs (more_same fs) (more_same rs) rows c.self.invariant c.args.number m row c.new.result is_now p
+    sym (is_here k fs fs rs rs (more_same fs) (more_same rs) rows c.self.invariant.0 c.args.number m row c.new.result is_now p
     (ap (λ l. slice_get l c.args.number) places ∙ at))

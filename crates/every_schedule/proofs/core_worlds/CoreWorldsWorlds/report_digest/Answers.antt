@@ -13,7 +13,7 @@ digest_of-requires c =
     let row = found.1 in
     subst (λ (l : List Fiber). All (λ m. m < length l) c.fibers-2.result.now) (sym c.fibers.ensures)
     (subst (λ (l : List ℕ). All (λ m. m < length fs) l) (sym (c.fibers-2.ensures m row))
-    (fibers_there s.limits fs s.current.registries m (c.self.invariant c.args.world m row)))
+    (fibers_there s.limits fs s.current.registries m (c.self.invariant.0 c.args.world m row)))
 
 pub returns : goal.returns
 returns c = λ w at.

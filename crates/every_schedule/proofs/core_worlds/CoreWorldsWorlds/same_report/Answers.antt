@@ -13,7 +13,7 @@ same_reports-requires-clause-one c =
     let row = found.1 in
     subst (λ (l : List Fiber). All (λ m. m < length l) c.fibers-2.result.now) (sym c.fibers.ensures)
     (subst (λ (l : List ℕ). All (λ m. m < length fs) l) (sym (c.fibers-2.ensures m row))
-    (fibers_there s.limits fs s.current.registries m (c.self.invariant c.args.one m row)))
+    (fibers_there s.limits fs s.current.registries m (c.self.invariant.0 c.args.one m row)))
 
 pub same_reports-requires-clause-other : goal.same_reports-requires-clause-other
 same_reports-requires-clause-other c =
@@ -24,7 +24,7 @@ same_reports-requires-clause-other c =
     let row = found.1 in
     subst (λ (l : List Fiber). All (λ m. m < length l) c.fibers-3.result.now) (sym c.fibers.ensures)
     (subst (λ (l : List ℕ). All (λ m. m < length fs) l) (sym (c.fibers-3.ensures m row))
-    (fibers_there s.limits fs s.current.registries m (c.self.invariant c.args.other m row)))
+    (fibers_there s.limits fs s.current.registries m (c.self.invariant.0 c.args.other m row)))
 
 pub returns : goal.returns
 returns c =
@@ -49,8 +49,8 @@ returns c =
     let told = (λ (Are : List Fiber → List ℕ → List ℕ → Type 0) (h : Are c.fibers.result.now.items.items c.fibers-2.result.now c.fibers-3.result.now).
     subst (λ l. Are fs l n.fibers) (c.fibers-2.ensures m one) (subst (λ l. Are fs c.fibers-2.result.now l) (c.fibers-3.ensures n two)
     (subst (λ (l : List Fiber). Are l c.fibers-2.result.now c.fibers-3.result.now) c.fibers.ensures h))) in
-    let of_one = c.self.invariant c.args.one m one in
-    let of_other = c.self.invariant c.args.other n two in
+    let of_one = c.self.invariant.0 c.args.one m one in
+    let of_other = c.self.invariant.0 c.args.other n two in
     record {
       yes = λ yes v w first second.
           sym (ap report_at (left v first)) ∙ reports_alike k fs rs m n of_one of_other (told AreAlike (c.same_reports.ensures.same yes)) ∙
