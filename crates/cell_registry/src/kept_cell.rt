@@ -15,7 +15,7 @@ use std::mem::size_of;
 
 /// A cell in 24 bytes, which changes in place. With a field of type `Stage` it would have 40, since a stage and its
 /// outcome each have a tag. Contracts see a [`Cell`].
-#[derive(Clone, Drop)]
+#[derive(Clone, Copy)]
 pub(crate) struct KeptCell {
     count: u64,
     // What the fiber ended with, if it succeeded or errored.

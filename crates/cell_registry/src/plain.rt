@@ -1,5 +1,5 @@
 //! The registry for one thread.
-ghost use Rattle.std.specs.Prelude.{◌≡◌, ◌≢◌, ◌+◌, ◌<◌, is_none, length, IfErr, IfOk, false, true};
+ghost use Rattle.std.specs.Prelude.{◌≡◌, ◌≢◌, ◌+◌, ◌<◌, is_none, length, IfErr, IfOk, OnErr, OnOk, false, true};
 ghost use Rattle.cell_registry.specs.Cells.{AreLimits, Cells, cell_of, deferred_of, without_counts, without_waits};
 ghost use Rattle.cell_registry.specs.Words.{has_ended};
 ghost use Rattle.cell_registry.specs.Private.Shown.{Shows};
@@ -370,6 +370,27 @@ impl PlainRegistry {
         })
     }
 
+    /// Makes another registry equal to this one. Takes memory only if the limits of the two differ. If it is refused,
+    /// the other registry stays as it was.
+    pub fn copy_into(&self, alloc: Global, other: &mut PlainRegistry) -> Result<(), AllocError>
+        ensures same { OnOk result (other.new ≡ self.now) }
+        ensures stays { OnErr result (other.new ≡ other.old) }
+        ensures lawful { IsPlain other.new }
+    {
+        if !same_limits(self.limits, other.limits) {
+            let copy = self.copy(alloc)?;
+            *other = copy;
+            return Ok(());
+        }
+        other.next_fiber = self.next_fiber;
+        other.next_ref = self.next_ref;
+        other.next_deferred = self.next_deferred;
+        replace(&mut other.cells, self.cells.as_slice());
+        replace(&mut other.refs, self.refs.as_slice());
+        replace(&mut other.deferreds, self.deferreds.as_slice());
+        Ok(())
+    }
+
     /// Forgets which fibers were joined. No reply and no refusal depends on it.
     pub fn forget_waits(&mut self)
         ensures forgets { self.new ≡ record self.old { state = without_waits self.old.state } }
@@ -411,6 +432,14 @@ impl PlainRegistry {
         let digest = mixed_items(digest, self.refs.as_slice(), refs);
         mixed_items(digest, self.deferreds.as_slice(), deferreds)
     }
+}
+
+// Replaces all items by as many others.
+fn replace<T: Copy>(items: &mut Vec<T>, others: &[T])
+    requires { length items.old.items ≡ length others.now }
+    ensures { items.new.items ≡ others.now }
+{
+    items.as_mut_slice().copy_from_slice(others);
 }
 
 // Whether the limits are the same.

@@ -371,8 +371,7 @@ fn load(
             return Ok(());
         }
     }
-    let loaded = pool.items[number as usize].again(alloc)?;
-    *registry = loaded;
+    pool.items[number as usize].copy_into(alloc, registry)?;
     *at = Some(number);
     Ok(())
 }
