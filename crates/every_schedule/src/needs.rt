@@ -18,7 +18,7 @@ use fiber_frames::Use;
 use scheduled_core::Wish;
 
 /// The fibers on which a move depends: those that can use one of two numbers in this way, and the one of this number.
-#[derive(Clone, Copy)]
+#[derive(Clone, Copy, PartialEq)]
 pub(crate) struct Needs {
     pub(crate) one: Option<(Use, u16)>,
     pub(crate) two: Option<(Use, u16)>,

@@ -16,12 +16,12 @@ ghost use Rattle.every_schedule.specs.Private.Numbered.{IsWorldOf};
 ghost use Rattle.every_schedule.specs.Private.Persistent.{AreRows, AreWide, IsBest, IsSet, has_fewer, joined_by};
 ghost use Rattle.every_schedule.specs.Private.MadeBefore.{IsChosen, IsLighter, IsPicked};
 ghost use Rattle.every_schedule.specs.Private.Persistent.{least as the_least};
-ghost use Rattle.every_schedule.specs.Private.Persistent.{row_at, spared_by};
+ghost use Rattle.every_schedule.specs.Private.Persistent.{IsLastRow, row, row_at, spared_by};
 ghost use Rattle.every_schedule.specs.Private.Standing.{IsOnward, IsSame, here};
 
 use crate::current::Current;
 use crate::leaping::{AtOnce, Leapt, few_born, has_own_move, is_memory, leap};
-use crate::needs::{depends_on, is_ready_at, is_sound, needs_of};
+use crate::needs::{Needs, depends_on, is_ready_at, is_sound, needs_of};
 use std::alloc::{AllocError, Global};
 
 /// A seed, its set, and how many fibers are in the set.
@@ -47,22 +47,43 @@ fn rows_of(alloc: Global, current: &mut Current) -> Result<Vec<Vec<bool>>, Alloc
 {
     let many = few_born(&*current);
     let mut rows = Vec::with_capacity(alloc, many)?;
+    let mut before = None;
     for place in 0..many {
-        let row = row_of(alloc, &mut *current, place as u16)?;
+        let needs = needs_of(&*current, place as u16);
+        let row = next_row(alloc, &mut *current, rows.as_slice(), before, needs)?;
         rows.push(row)?;
+        before = Some(needs);
     }
     Ok(rows)
 }
 
-// Returns the flags of the fibers on which the next move of a fiber depends.
-fn row_of(alloc: Global, current: &mut Current, fiber: u16) -> Result<Vec<bool>, AllocError>
-    requires born { fiber < length (here current.old).world.fibers }
-    requires within { fiber < (here current.old).limits.fibers }
+// Returns the flags of the fibers on which a move with these needs depends. The last of the rows is that of a move with
+// the needs `before`.
+fn next_row(
+    alloc: Global,
+    current: &mut Current,
+    rows: &[Vec<bool>],
+    before: Option<Needs>,
+    needs: Needs,
+) -> Result<Vec<bool>, AllocError>
+    requires fits { AllFit (here current.old).world }
+    requires before { IsLastRow (here current.old).world before rows.now }
+    ensures same { IsSame current.old current.new }
+    ensures row { IfOk result (λ it. it.items ≡ row needs 0 (here current.old).world.fibers) }
+{
+    let many = rows.len();
+    if many > 0 && before == Some(needs) {
+        return Vec::from_slice(alloc, rows[many - 1].as_slice());
+    }
+    row_of(alloc, current, needs)
+}
+
+// Returns the flags of the fibers on which a move with these needs depends.
+fn row_of(alloc: Global, current: &mut Current, needs: Needs) -> Result<Vec<bool>, AllocError>
     requires fits { AllFit (here current.old).world }
     ensures same { IsSame current.old current.new }
-    ensures row { IfOk result (λ it. it.items ≡ row_at (here current.old).world fiber) }
+    ensures row { IfOk result (λ it. it.items ≡ row needs 0 (here current.old).world.fibers) }
 {
-    let needs = needs_of(&*current, fiber);
     let many = current.born();
     let mut row = Vec::with_capacity(alloc, many)?;
     for place in 0..many {

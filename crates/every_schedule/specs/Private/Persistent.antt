@@ -26,6 +26,11 @@ pub record AreRows (w : World) (rows : List (Vec Bool Global)) : Type 0 where
   pub many : length rows ≡ length w.fibers
   pub each : (f : ℕ) (v : Vec Bool Global) → slice_get rows f ≡ Some v → v.items ≡ row_at w f
 
+-- the last row is that of a move with these needs, if there are any
+abbrev pub IsLastRow : World → Option Needs → List (Vec Bool Global) → Type 0
+IsLastRow w None rows = Unit {0}
+IsLastRow w (Some d) rows = (f : ℕ) (v : Vec Bool Global) → f + 1 ≡ length rows → slice_get rows f ≡ Some v → v.items ≡ row d 0 w.fibers
+
 -- as many rows as flags in each row
 pub record AreWide (rows : List (Vec Bool Global)) (n : ℕ) : Type 0 where
   pub many : length rows ≡ n

@@ -17,7 +17,7 @@ loop-place-preserved c =
     let long = c.born-many.ensures in
     let low : i < length gs = omega arith in
     let b = get_low gs i low in
-    let d = c.needs_of-needs.result in
+    let d = c.args.needs in
     let at : slice_get (here c.loop-place.current).world.fibers i ≡ Some b.0 =
     subst (λ (p : Place). slice_get p.world.fibers i ≡ Some b.0) (sym known.same.here) b.1 in
     record {
