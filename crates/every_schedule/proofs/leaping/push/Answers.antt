@@ -1,4 +1,4 @@
-use Rattle.std.proofs.Common.{◌≡◌, ℕ, suc, ◌+◌, ◌-◌, sym, ap, ◌∙◌, arith}
+use Rattle.std.proofs.Common.{◌≡◌, ◌<◌, ℕ, suc, ◌+◌, ◌-◌, sym, ap, ◌∙◌, arith}
 use Rattle.every_schedule.specs.Reduced.{pushed}
 use Rattle.every_schedule.specs.Private.Standing.{here}
 use Rattle.every_schedule.proofs.Leaps.{pushed_next, pushed_none, pushed_stays}
@@ -10,39 +10,44 @@ pub loop-round-init : goal.loop-round-init
 loop-round-init c = record {
   onward = onward_none c.args.current.now;
   goes = ap (λ i. pushed c.args.at_once i (here c.args.current.now)) (let e : c.args.at_once.rounds ≡ c.args.at_once.rounds - 0 = omega arith in e);
+  settled = λ k low. absurd (omega (arith, low));
   fits = c.requires;
   trail = own_none c.args.at_once c.args.trail.now.items (here c.args.current.now);
 }
 
-pub returns-then-not-moved-clause-goes : goal.returns-then-not-moved-clause-goes
-returns-then-not-moved-clause-goes c =
+pub push_once-requires : goal.push_once-requires
+push_once-requires c = record { fits = c.loop-round.invariant.fits; settled = c.loop-round.invariant.settled }
+
+pub returns-in-None-clause-goes : goal.returns-in-None-clause-goes
+returns-in-None-clause-goes c =
     let known = c.loop-round.invariant in
-    let told = c.in_ok-moved.ensures in
+    let told = c.in_ok-push_once.ensures in
     let next = here c.push_once.new.current in
     let m : ℕ = c.args.at_once.rounds - (c.loop-round._round + 1) in
     let left : c.args.at_once.rounds - c.loop-round._round ≡ suc m = omega arith in
     sym (known.goes ∙ pushed_next c.args.at_once (c.args.at_once.rounds - c.loop-round._round) m (here c.loop-round.current) next left told.goes ∙
-    pushed_stays c.args.at_once m next (told.stays c.if-not-moved.true))
+    pushed_stays c.args.at_once m next (told.stays c.in-None.is))
 
-pub returns-then-not-moved-clause-onward : goal.returns-then-not-moved-clause-onward
-returns-then-not-moved-clause-onward c =
+pub returns-in-None-clause-onward : goal.returns-in-None-clause-onward
+returns-in-None-clause-onward c =
     onward_on c.args.current.now c.loop-round.current c.push_once.new.current c.loop-round.invariant.onward c.push_once.ensures.onward
 
-pub returns-then-not-moved-clause-trail : goal.returns-then-not-moved-clause-trail
-returns-then-not-moved-clause-trail c =
+pub returns-in-None-clause-trail : goal.returns-in-None-clause-trail
+returns-in-None-clause-trail c =
     own_more c.args.at_once c.args.trail.now.items c.loop-round.trail.items c.push_once.new.trail.items (here c.args.current.now) (here c.loop-round.current)
-    (here c.push_once.new.current) c.loop-round.invariant.trail c.in_ok-moved.ensures.trail
+    (here c.push_once.new.current) c.loop-round.invariant.trail c.in_ok-push_once.ensures.trail
 
 pub loop-round-preserved : goal.loop-round-preserved
 loop-round-preserved c =
     let known = c.loop-round.invariant in
-    let told = c.in_ok-moved.ensures in
+    let told = c.in_ok-push_once.ensures in
     let next = here c.push_once.new.current in
     let m : ℕ = c.args.at_once.rounds - (c.loop-round._round + 1) in
     let left : c.args.at_once.rounds - c.loop-round._round ≡ suc m = omega arith in
     record {
       onward = onward_on c.args.current.now c.loop-round.current c.push_once.new.current known.onward c.push_once.ensures.onward;
       goes = known.goes ∙ pushed_next c.args.at_once (c.args.at_once.rounds - c.loop-round._round) m (here c.loop-round.current) next left told.goes;
+      settled = told.settled c.in-Some.last c.in-Some.is;
       fits = told.fits;
       trail = own_more c.args.at_once c.args.trail.now.items c.loop-round.trail.items c.push_once.new.trail.items (here c.args.current.now)
           (here c.loop-round.current) next known.trail told.trail;
