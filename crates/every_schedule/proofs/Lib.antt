@@ -41,3 +41,4 @@ pub mod Certified
 pub mod Sets
 pub mod Seeds
 pub mod MadeBefore
+pub mod Steps

@@ -13,3 +13,4 @@ pub mod Looking
 pub mod Stopping
 pub mod Persistent
 pub mod MadeBefore
+pub mod Steps

@@ -1,5 +1,5 @@
 //! The answers of a reduced search, with schedules in which each entry is one move.
-ghost use Rattle.std.specs.Prelude.{◌≡◌, ◌≤◌, ◌<◌, ◌++◌, ℕ, [], ◌∷◌, length, true, false, IfErr, IfOk, OnOk, Some, None};
+ghost use Rattle.std.specs.Prelude.{◌≡◌, ◌≤◌, ◌<◌, ◌++◌, ℕ, List, [], ◌∷◌, length, take, true, false, IfErr, IfOk, OnOk, Some, None};
 ghost use Rattle.std.specs.List.{slice_get};
 ghost use Rattle.std.specs.List.Sorted.{IsPermutation};
 ghost use Rattle.derived_ops.specs.Expansion.{code_of};
@@ -16,6 +16,10 @@ ghost use Rattle.every_schedule.specs.Private.Numbered.{IsWorld, IsWorldOf};
 ghost use Rattle.every_schedule.specs.Private.Standing.{IsOnward, here};
 ghost use Rattle.every_schedule.specs.Private.Trails.{AreSorted, AreUnfolded, EndApart, EndsAlone, IsKeptIn};
 ghost use Rattle.every_schedule.specs.Private.Trails.{IsLeftOut, IsTrail, IsUnfolded, rank_of};
+ghost use Rattle.every_schedule.specs.Private.Steps.{AreSteps, IsStep};
+ghost use Rattle.every_schedule.specs.declared.leaping.AtOnce.{AtOnce as TheAtOnce};
+ghost use Rattle.fiber_frames.specs.Fiber.{Fiber};
+ghost use Rattle.cell_registry.specs.Plain.{PlainView};
 
 use crate::core_world::CoreWorld;
 use crate::current::Current;
@@ -37,6 +41,15 @@ pub(crate) enum Cause {
     Time,
     /// The room for answers was used up.
     Room,
+}
+
+/// A world of the reduced search: the entries that lead to it, its numbers, and the entries with the own moves after them.
+#[derive(Drop)]
+pub(crate) struct Step {
+    pub(crate) entries: Vec<u16>,
+    pub(crate) registry: u32,
+    pub(crate) fibers: Vec<u32>,
+    pub(crate) trail: Vec<u16>,
 }
 
 /// Answers with schedules in which each entry is one move.
@@ -82,8 +95,8 @@ pub(crate) fn unfold_all<V: Watcher>(
 {
     let first = CoreWorld::first(alloc, program, limits)?;
     let mut current = Current::new(alloc, first)?;
-    let registry = current.number()?;
-    let numbers = Vec::from_slice(alloc, current.numbers())?;
+    let start = step(alloc, &mut current, &[], &[])?;
+    let mut steps = Vec::new(alloc);
     let mut answers = Vec::new(alloc);
     let mut whole = true;
     let mut left = None;
@@ -97,8 +110,8 @@ pub(crate) fn unfold_all<V: Watcher>(
                 let schedule = unfold_from(
                     alloc,
                     &mut current,
-                    registry,
-                    numbers.as_slice(),
+                    &start,
+                    &mut steps,
                     it.schedule.as_slice(),
                     at_once,
                 )?;
@@ -192,41 +205,42 @@ pub(crate) fn unfold(
 {
     let first = CoreWorld::first(alloc, program, limits)?;
     let mut current = Current::new(alloc, first)?;
-    let registry = current.number()?;
-    let numbers = Vec::from_slice(alloc, current.numbers())?;
-    let trail = unfold_from(
-        alloc,
-        &mut current,
-        registry,
-        numbers.as_slice(),
-        schedule,
-        at_once,
-    )?;
+    let start = step(alloc, &mut current, &[], &[])?;
+    let mut steps = Vec::new(alloc);
+    let trail = unfold_from(alloc, &mut current, &start, &mut steps, schedule, at_once)?;
     Ok(trail)
 }
 
-// Returns the entries that a schedule makes from the world with these numbers, own moves included. What `current` knows
-// of states serves the schedules that follow.
+// Returns the entries that a schedule makes from the world of the step `start`, own moves included. The last of the
+// steps that the schedule begins with is gone on from, and the steps after it are added. `start` has no entries.
 fn unfold_from(
     alloc: Global,
     current: &mut Current,
-    registry: u32,
-    numbers: &[u32],
+    start: &Step,
+    steps: &mut Vec<Step>,
     schedule: &[u16],
     at_once: AtOnce,
 ) -> Result<Vec<u16>, RunError>
-    requires { (k : TheLimits) × IsWorld k current.old.fibers current.old.registries
-        record { registry = registry; fibers = numbers.now } }
+    requires start { (p : Place) × IsStep at_once current.old.fibers current.old.registries p start.now ×
+        AreSteps at_once current.old.fibers current.old.registries p steps.old.items }
+    requires none { start.now.entries.items ≡ [] }
     ensures fibers { IsMore current.old.fibers current.new.fibers }
     ensures registries { IsMore current.old.registries current.new.registries }
-    ensures entries { IfOk result (λ it. (p : Place) → IsWorldOf current.old.fibers current.old.registries
-        record { registry = registry; fibers = numbers.now } p → IsUnfolded at_once p schedule.now it.items) }
+    ensures steps { OnOk result ((p : Place) → AreSteps at_once current.old.fibers current.old.registries p steps.old.items →
+        AreSteps at_once current.new.fibers current.new.registries p steps.new.items) }
+    ensures entries { IfOk result (λ it. (p : Place) →
+        IsStep at_once current.old.fibers current.old.registries p start.now →
+        AreSteps at_once current.old.fibers current.old.registries p steps.old.items →
+        IsUnfolded at_once p schedule.now it.items) }
     ensures memory { IfErr result (λ e. e ≡ RunError.NoMemory) }
 {
-    current.go_to(registry, numbers)?;
-    let mut trail = Vec::new(alloc);
-    for fiber in schedule {
-        match enter(alloc, &mut *current, *fiber, at_once, &mut trail) {
+    go_back(&mut *steps, schedule);
+    let from = latest(start, steps.as_slice(), schedule);
+    let begin = from.entries.len();
+    let mut trail = Vec::from_slice(alloc, from.trail.as_slice())?;
+    current.go_to(from.registry, from.fibers.as_slice())?;
+    for i in begin..schedule.len() {
+        match enter(alloc, &mut *current, schedule[i], at_once, &mut trail) {
             Ok(()) => {}
             Err(fault) => {
                 if is_memory(fault) {
@@ -235,8 +249,80 @@ fn unfold_from(
                 return Ok(trail);
             }
         }
+        let here = step(alloc, &mut *current, &schedule[0..i + 1], trail.as_slice())?;
+        steps.push(here)?;
     }
     Ok(trail)
+}
+
+// Returns this world as a step, to which these entries lead.
+fn step(
+    alloc: Global,
+    current: &mut Current,
+    entries: &[u16],
+    trail: &[u16],
+) -> Result<Step, AllocError>
+    ensures onward { IsOnward current.old current.new }
+    ensures here { here current.new ≡ here current.old }
+    ensures row { IfOk result (λ it. IsWorldOf current.new.fibers current.new.registries
+        record { registry = it.registry; fibers = it.fibers.items } (here current.old)) }
+    ensures entries { IfOk result (λ it. it.entries.items ≡ entries.now) }
+    ensures trail { IfOk result (λ it. it.trail.items ≡ trail.now) }
+{
+    let registry = current.number()?;
+    let fibers = Vec::from_slice(alloc, current.numbers())?;
+    Ok(Step {
+        entries: Vec::from_slice(alloc, entries)?,
+        registry,
+        fibers,
+        trail: Vec::from_slice(alloc, trail)?,
+    })
+}
+
+// Removes the last steps that the schedule doesn't begin with.
+fn go_back(steps: &mut Vec<Step>, schedule: &[u16])
+    ensures { IsMore steps.new.items steps.old.items }
+{
+    for _again in 0..steps.len() {
+        if is_on_way(steps.as_slice(), schedule) {
+            return;
+        }
+        let _removed = steps.pop();
+    }
+}
+
+// Whether the schedule begins with the entries of the last step, or there is none.
+fn is_on_way(steps: &[Step], schedule: &[u16]) -> bool {
+    match steps.last() {
+        None => true,
+        Some(it) => begins(schedule, it.entries.as_slice()),
+    }
+}
+
+// The last step if the schedule begins with its entries, or else `start`, which has none.
+fn latest<'a>(start: &'a Step, steps: &'a [Step], schedule: &[u16]) -> &'a Step
+    requires { start.now.entries.items ≡ [] }
+    ensures step { (n : TheAtOnce) (fs : List Fiber) (rs : List PlainView) (p : Place) → IsStep n fs rs p start.now →
+        AreSteps n fs rs p steps.now → IsStep n fs rs p result.now }
+    ensures begins { result.now.entries.items ≡ take (length result.now.entries.items) schedule.now }
+{
+    match steps.last() {
+        None => start,
+        Some(it) => {
+            if begins(schedule, it.entries.as_slice()) {
+                it
+            } else {
+                start
+            }
+        }
+    }
+}
+
+// Whether the schedule begins with these entries.
+fn begins(schedule: &[u16], entries: &[u16]) -> bool
+    ensures { result ≡ true → entries.now ≡ take (length entries.now) schedule.now }
+{
+    schedule.starts_with(entries)
 }
 
 // Makes the entry of a fiber, and own moves after it, if the entry is made at this world. Adds them to the trail.

@@ -28,8 +28,7 @@ returns-clause-lighter c =
     let p = here c.args.current.now in
     let n = c.args.at_once in
     let is = c.weight.ensures in
-    let it = c.in_ok-landed.field-0 in
-    (
+    let it = c.in_ok-landed.field-0 in (
       lighter_so n p c.args.fiber c.args.most (here c.leap.new.current) c.in-Ok.ensures.goes (omega arith),
       record {
         next = here c.leap.new.current;

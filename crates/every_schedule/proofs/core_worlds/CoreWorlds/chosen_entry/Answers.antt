@@ -29,12 +29,11 @@ invariant_of-self-in-Some c =
     let n : Numbers = record { registry = l.registry; fibers = c.as_slice.result.now } in
     let same = c.as_slice.ensures.value in
     let is_next : IsWorldOf fs rs n it.is.next = subst (λ (x : List ℕ). IsWorldOf fs rs (record { registry = l.registry; fibers = x }) it.is.next) (sym same) it.is.is in
-    let rows' = c.keep.new.self.rows in
-    (
+    let rows' = c.keep.new.self.rows in (
       rows_hold k fs fs rs rs (more_same fs) (more_same rs) rows c.self.invariant.0 c.args.world it.row it.at it.place it.there
-      c.args.at_once c.args.fiber n it.is.next it.is.goes is_next it.is.fits rows' c.keep.ensures.adds,
+          c.args.at_once c.args.fiber n it.is.next it.is.goes is_next it.is.fits rows' c.keep.ensures.adds,
       ahead_more fs fs rs rs (more_same fs) (more_same rs) rows rows' (may_more rows rows' n c.keep.ensures.adds) c.taken.new.ahead
-      (c.taken.ensures.left fs rs rows c.self.invariant.1),
+          (c.taken.ensures.left fs rs rows c.self.invariant.1),
     )
 
 pub returns-in-Some-clause-worlds : goal.returns-in-Some-clause-worlds

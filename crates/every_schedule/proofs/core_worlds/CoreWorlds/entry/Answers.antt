@@ -68,10 +68,9 @@ invariant_of-self-2 c =
     let n : Numbers = record { registry = c.in_ok-registry.registry; fibers = c.numbers.result.now } in
     let next = here c.leap.new.current in
     let is_next : IsWorldOf fs' rs' n next = subst (λ (l : List ℕ). IsWorldOf fs' rs' record { registry = c.in_ok-registry.registry; fibers = l } next) (sym c.numbers.ensures) c.in_ok-registry.ensures.row in
-    let rows' = c.keep.new.self.rows in
-    (
+    let rows' = c.keep.new.self.rows in (
       rows_hold k fs fs' rs rs' mf mr rows c.self.invariant.0 c.args.world m row now is_now
-      c.args.at_once c.args.fiber n next c.in-Ok.ensures.goes is_next c.in-Ok.ensures.fits rows' c.keep.ensures.adds,
+          c.args.at_once c.args.fiber n next c.in-Ok.ensures.goes is_next c.in-Ok.ensures.fits rows' c.keep.ensures.adds,
       ahead_more fs fs' rs rs' mf mr rows rows' (may_more rows rows' n c.keep.ensures.adds) s.ahead c.self.invariant.1,
     )
 
@@ -90,8 +89,7 @@ invariant_of-self-in-Err c =
     let gs = c.leap.new.current.fibers in
     let qs = c.leap.new.current.registries in
     let mg : IsMore fs gs = subst (λ (l : List Fiber). IsMore l gs) c.go_to.ensures.fibers c.leap.ensures.onward.fibers in
-    let mq : IsMore rs qs = subst (λ (l : List PlainView). IsMore l qs) c.go_to.ensures.registries c.leap.ensures.onward.registries in
-    (
+    let mq : IsMore rs qs = subst (λ (l : List PlainView). IsMore l qs) c.go_to.ensures.registries c.leap.ensures.onward.registries in (
       rows_stay k fs gs rs qs mg mq rows c.self.invariant.0 c.args.world m row now is_now,
       ahead_more fs gs rs qs mg mq rows rows (more_same rows) s.ahead c.self.invariant.1,
     )
@@ -324,8 +322,7 @@ invariant_of-self-in_err-registry c =
     let fs' = c.number.new.self.fibers in
     let rs' = c.number.new.self.registries in
     let mf = more_more fs gs fs' mg c.number.ensures.onward.fibers in
-    let mr = more_more rs qs rs' mq c.number.ensures.onward.registries in
-    (
+    let mr = more_more rs qs rs' mq c.number.ensures.onward.registries in (
       rows_stay k fs fs' rs rs' mf mr rows c.self.invariant.0 c.args.world m row now is_now,
       ahead_more fs fs' rs rs' mf mr rows rows (more_same rows) s.ahead c.self.invariant.1,
     )

@@ -58,11 +58,10 @@ invariant_of-self-2 c =
     let gs = c.pick.new.current.fibers in
     let qs = c.pick.new.current.registries in
     let mg : IsMore fs gs = subst (λ (l : List Fiber). IsMore l gs) c.go_to.ensures.fibers c.pick.ensures.onward.fibers in
-    let mq : IsMore rs qs = subst (λ (l : List PlainView). IsMore l qs) c.go_to.ensures.registries c.pick.ensures.onward.registries in
-    (
+    let mq : IsMore rs qs = subst (λ (l : List PlainView). IsMore l qs) c.go_to.ensures.registries c.pick.ensures.onward.registries in (
       rows_stay k fs gs rs qs mg mq rows c.self.invariant.0 c.args.world m row now is_now,
       ahead_at gs qs rows c.args.world m now row (of_more fs gs rs qs mg mq m now is_now) c.split.result.1
-      (c.split.ensures.ahead gs qs now c.in_ok-choice.ensures.picked),
+          (c.split.ensures.ahead gs qs now c.in_ok-choice.ensures.picked),
     )
 
 pub returns-clause-places : goal.returns-clause-places
