@@ -42,7 +42,8 @@ Refused count most (Some (cell.Full b m)) y = y ≡ Some (cell.Full b m)
 Refused count most (Some (cell.Spent m)) y = count ≡ most
 
 full_refused : (count most : ℕ) (b : Band) (next limit : ℕ) → Refused count most (full b next limit) (full b next limit)
-full_refused count most b next limit = elim (next == limit) as (λ t. Refused count most (cond t (Some (cell.Full b limit)) None) (cond t (Some (cell.Full b limit)) None)) [ true ↦ refl | false ↦ refl ]
+full_refused count most b next limit = elim (next == limit) as
+    (λ t. Refused count most (cond t (Some (cell.Full b limit)) None) (cond t (Some (cell.Full b limit)) None)) [ true ↦ refl | false ↦ refl ]
 
 module _ (k : Limits) (n : ℕ) (some : 0 < k.count) where
   -- a count of 0 isn't used up
@@ -60,7 +61,8 @@ module _ (k : Limits) (n : ℕ) (some : 0 < k.count) where
       go true e = eqb-true (cell_of s by).count n e
       go false e = fine
 
-  pub plain_refusal : (s : Cells) (by : ℕ) (c : Call) → Refused (cell_of s by).count n (refusal (record k { count = n }) s by c) (refusal k (plain_cells s) by c)
+  pub plain_refusal : (s : Cells) (by : ℕ) (c : Call) →
+      Refused (cell_of s by).count n (refusal (record k { count = n }) s by c) (refusal k (plain_cells s) by c)
   unfolding refusal
   plain_refusal s by call.Start = full_refused (cell_of s by).count n band.Fibers s.next_fiber k.fibers
   plain_refusal s by call.Mask = spent_refused s by
@@ -135,12 +137,18 @@ AtMost m s = (f : ℕ) → (cell_of s f).count ≤ m
 
 pub count_after : (s : Cells) (by : ℕ) (c : Call) (m : ℕ) → AtMost m s → AtMost (suc m) (after s by c)
 unfolding after
-count_after s by (call.Cancel i) m h f = set_one (λ (c : Cell). c.count ≤ suc m) s.cells i f (requested (cell_of s i)) fresh (let a = h f in omega arith) (let a = h i in omega arith)
-count_after s by (call.Join i) m h f = set_one (λ (c : Cell). c.count ≤ suc m) s.cells i f (awaited (cell_of s i)) fresh (let a = h f in omega arith) (let a = h i in omega arith)
-count_after s by call.Mask m h f = set_one (λ (c : Cell). c.count ≤ suc m) s.cells by f (masked (cell_of s by)) fresh (let a = h f in omega arith) (let a = h by in omega arith)
-count_after s by call.Unmask m h f = set_one (λ (c : Cell). c.count ≤ suc m) s.cells by f (unmasked (cell_of s by)) fresh (let a = h f in omega arith) (let a = h by in omega arith)
-count_after s by call.Cut m h f = set_one (λ (c : Cell). c.count ≤ suc m) s.cells by f (cut (cell_of s by)) fresh (let a = h f in omega arith) (let a = h by in omega arith)
-count_after s by (call.Finish o) m h f = set_one (λ (c : Cell). c.count ≤ suc m) s.cells by f (finished o (cell_of s by)) fresh (let a = h f in omega arith) (let a = h by in omega arith)
+count_after s by (call.Cancel i) m h f = set_one (λ (c : Cell). c.count ≤ suc m) s.cells i f (requested (cell_of s i)) fresh (let a = h f in omega arith)
+    (let a = h i in omega arith)
+count_after s by (call.Join i) m h f = set_one (λ (c : Cell). c.count ≤ suc m) s.cells i f (awaited (cell_of s i)) fresh (let a = h f in omega arith)
+    (let a = h i in omega arith)
+count_after s by call.Mask m h f = set_one (λ (c : Cell). c.count ≤ suc m) s.cells by f (masked (cell_of s by)) fresh (let a = h f in omega arith)
+    (let a = h by in omega arith)
+count_after s by call.Unmask m h f = set_one (λ (c : Cell). c.count ≤ suc m) s.cells by f (unmasked (cell_of s by)) fresh (let a = h f in omega arith)
+    (let a = h by in omega arith)
+count_after s by call.Cut m h f = set_one (λ (c : Cell). c.count ≤ suc m) s.cells by f (cut (cell_of s by)) fresh (let a = h f in omega arith)
+    (let a = h by in omega arith)
+count_after s by (call.Finish o) m h f = set_one (λ (c : Cell). c.count ≤ suc m) s.cells by f (finished o (cell_of s by)) fresh (let a = h f in omega arith)
+    (let a = h by in omega arith)
 count_after s by _ m h f = let a = h f in omega arith
 
 -- some number is at least each count

@@ -143,7 +143,8 @@ module _ (says : Bool) where
     pub none : unmarked_place says p ≡ p
     pub own : IsOwn p f
 
-  pub free_from : (p : Place) (f : ℕ) (q : Place) → unmarked_place says p ≡ p → has_own p.world f (slice_get p.world.fibers f) ≡ true → stepped says p f ≡ Ok q →
+  pub free_from : (p : Place) (f : ℕ) (q : Place) → unmarked_place says p ≡ p → has_own p.world f (slice_get p.world.fibers f) ≡ true → stepped says p f ≡
+      Ok q →
       IsFree p f
   free_from p f q none own e =
       let on = unmarked_led says (entering p f) q (sym (step_is says p f) ∙ e) in
@@ -200,7 +201,8 @@ module _ (says : Bool) where
             ∙ is_own_unmarked says y.world f a (wish_of (ask_of a))
             ∙ ap (has_own y.world f) (sym still) ∙ own
 
-      by_entry : (y : Result Place RunError) → entering p g ≡ y → Commutes entering IsOwn f x g y → Commutes (stepped says) IsFree f (unmarked_place says x) g (unmarked_of says y)
+      by_entry : (y : Result Place RunError) → entering p g ≡ y → Commutes entering IsOwn f x g y →
+          Commutes (stepped says) IsFree f (unmarked_place says x) g (unmarked_of says y)
       by_entry (Ok y) e pair =
           let z = unmarked_place says pair.1 in
           let on : stepped says (unmarked_place says y) f ≡ Ok z = own_step y e ∙ ap (unmarked_of says) pair.2 in (

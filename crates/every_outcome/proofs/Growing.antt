@@ -1,5 +1,6 @@
 -- Reports grow: each entry keeps them or adds to them.
-use Rattle.std.proofs.Common.{◌≡◌, ◌⊎◌, inl, inr, ℕ, zero, suc, Bool, ◌+◌, ◌<◌, List, [], ◌∷◌, ◌++◌, length, map, set, Some, None, Option, Result, Ok, Err, refl}
+use Rattle.std.proofs.Common.{◌≡◌, ◌⊎◌, inl, inr, ℕ, zero, suc, Bool, ◌+◌, ◌<◌, List, [], ◌∷◌, ◌++◌, length, map, set, Some, None, Option, Result, Ok, Err}
+use Rattle.std.proofs.Common.{refl}
 use Rattle.std.{proofs.Common.{sym, ap, ap₂, ◌∙◌, arith, append-nil, length-append}, specs.List.slice_get}
 use Rattle.effect_term.specs.declared.reply.{Outcome.Outcome, Reply.{Reply, TheVariants.Done}}
 use Rattle.derived_ops.specs.Tree.{Mask}

@@ -9,7 +9,8 @@ use Rattle.world_search.specs.Free.Leads.{Here, On}
 use Rattle.every_schedule.specs.Reduced.{may_be}
 use Rattle.every_schedule.proofs.Seeing.{two_true}
 use Rattle.every_outcome.specs.Places.{Place, stepped, unmarked_place, unmarked_world}
-use Rattle.every_outcome.specs.Private.Reduced.{after_own, behind, if_own, if_there, leapt, leapt_by, masks_next, may_next, moved_on, or_stays, owns_next, pushed, pushed_once, swept}
+use Rattle.every_outcome.specs.Private.Reduced.{after_own, behind, if_own, if_there, leapt, leapt_by, masks_next, may_next, moved_on, or_stays, owns_next}
+use Rattle.every_outcome.specs.Private.Reduced.{pushed, pushed_once, swept}
 use Rattle.every_outcome.proofs.Commuting.{IsFree, free_from, led_unmarked, other_stays, own_are_free}
 use Rattle.every_outcome.proofs.Stepping.{get_past, get_unmarked, unborn_stays}
 

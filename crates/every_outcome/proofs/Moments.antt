@@ -1,5 +1,6 @@
 -- A schedule of the core that leads to a world that meets a claim leads to a view that meets it, in worlds without marks.
-use Rattle.std.proofs.Common.{◌≡◌, ◌⊎◌, inl, inr, ◌<◌, ℕ, Bool, true, false, List, [], ◌∷◌, option_map, Option, Some, None, Result, Ok, Err, refl, sym, ap, ◌∙◌, subst}
+use Rattle.std.proofs.Common.{◌≡◌, ◌⊎◌, inl, inr, ◌<◌, ℕ, Bool, true, false, List, [], ◌∷◌, option_map, Option, Some, None, Result, Ok, Err, refl, sym, ap, ◌∙◌}
+use Rattle.std.proofs.Common.{subst}
 use Rattle.std.specs.List.{fold, slice_get}
 use Rattle.derived_ops.specs.Tree.{Tree}
 use Rattle.fiber_frames.specs.Fiber.{Fiber, begins}
@@ -60,7 +61,8 @@ module _ (k : Limits) (n : ℕ) (some : 0 < k.count) where
       ((r : ℕ) → (has r seen ≡ true) ⊎ WasSet (counted k n) r w s → has r u.seen ≡ true)
 
   step_from : (w x : World) (f : ℕ) (y : Result World RunError) → y ≡ Ok x →
-      Same false k n some w f y (stepped false (bare_place false k n some w) f) → stepped false (bare_place false k n some w) f ≡ Ok (bare_place false k n some x)
+      Same false k n some w f y (stepped false (bare_place false k n some w) f) → stepped false (bare_place false k n some w) f ≡
+      Ok (bare_place false k n some x)
   step_from w x f y is same = subst (λ z. Same false k n some w f z (stepped false (bare_place false k n some w) f)) is same
 
   first_step : (w x : World) (seen : List ℕ) (f : ℕ) → Lawful w → entered (counted k n) (Ok w) f ≡ Ok x →
@@ -114,6 +116,7 @@ module _ (code : Tree) (k : Limits) (some : 0 < k.count) (first : Reached (begin
         l.1,
         and_true (are_seen l.0.seen words) (holds GoesOn l.0.place.world.cells words)
             (refs_seen l.0.seen words (λ r is. l.3 r (inr (h.set r is))))
-            (ap (λ (p : Place). holds GoesOn p.world.cells words) l.2 ∙ holds_refs GoesOn (unmarked_world false h.world).cells h.world.cells (refs_bare h.world) words ∙
+            (ap (λ (p : Place). holds GoesOn p.world.cells words) l.2 ∙
+            holds_refs GoesOn (unmarked_world false h.world).cells h.world.cells (refs_bare h.world) words ∙
             (truth_leans h.world.cells h.standing words).down down h.truth),
       )

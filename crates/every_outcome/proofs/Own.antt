@@ -17,7 +17,8 @@ use Rattle.cell_registry.specs.{declared.{cell.Cell.Cell, call.Call.Call}, Cells
 use Rattle.scheduled_core.specs.{declared.wish.Wish.{Wish, TheVariants.{Alone, Nothing, Shared}}, Core.{World, wish_of}}
 use Rattle.every_schedule.specs.{Places.wants, Reduced.{has_come_to_end, has_own, is_another, is_completed, is_kept, is_left_alone, is_own, is_own_call, keeps}}
 use Rattle.every_schedule.specs.Reduced.{next_of, others, rests}
-use Rattle.every_outcome.{specs.{Places.{shown, unmarked_world}, Private.Reduced.owns_next}, proofs.{Cells.{plain, plain_cell, plain_is}, Stepping.get_unmarked}}
+use Rattle.every_outcome.specs.{Places.{shown, unmarked_world}, Private.Reduced.owns_next}
+use Rattle.every_outcome.proofs.{Cells.{plain, plain_cell, plain_is}, Stepping.get_unmarked}
 use Rattle.derived_ops.specs.Naming as naming
 use Rattle.derived_ops.specs.Tree as tree
 use Rattle.effect_term.specs.declared.reply.Reply.TheVariants as reply
@@ -180,7 +181,8 @@ module _ (says : Bool) where
       go (Some g) = ap not (moves_unmarked g)
 
   -- ---- the other fibers
-  others_unmarked : (p : Fiber → Bool) → ((b : Fiber) → p (shown says b) ≡ p b) → (f i : ℕ) (gs : List Fiber) → others p f i (map (shown says) gs) ≡ others p f i gs
+  others_unmarked : (p : Fiber → Bool) → ((b : Fiber) → p (shown says b) ≡ p b) → (f i : ℕ) (gs : List Fiber) → others p f i (map (shown says) gs) ≡
+      others p f i gs
   others_unmarked p same f i [] = refl
   others_unmarked p same f i (b ∷ gs) = ap₂ (λ (s t : Bool). (nat_eq i f || s) && t) (same b) (others_unmarked p same f (suc i) gs)
 

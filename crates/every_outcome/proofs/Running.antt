@@ -1,5 +1,6 @@
 -- A schedule leads from a world of the core where it leads from the same world without marks, counts and notes.
-use Rattle.std.proofs.Common.{◌≡◌, ◌⊎◌, inl, inr, ◌<◌, ◌≤◌, ℕ, zero, suc, ◌+◌, Bool, List, [], ◌∷◌, ◌++◌, length, set, Option, Some, None, Result, Ok, Err, refl, sym}
+use Rattle.std.proofs.Common.{◌≡◌, ◌⊎◌, inl, inr, ◌<◌, ◌≤◌, ℕ, zero, suc, ◌+◌, Bool, List, [], ◌∷◌, ◌++◌, length, set, Option, Some, None, Result, Ok, Err}
+use Rattle.std.proofs.Common.{refl, sym}
 use Rattle.std.{proofs.{Common.{ap, ◌∙◌, subst, arith, get_or, replicate, length-append}, lemmas.Option.{same_Some, slice_get_within}}, specs.List.fold}
 use Rattle.std.specs.List.{slice_get}
 use Rattle.derived_ops.specs.Tree.{Tree}
@@ -180,9 +181,11 @@ module _ (says : Bool) where
     Led (Err (run.Full b m)) y = y ≡ Err (run.Full b m)
     Led (Err e) y = Unit {0}
 
-    led_stopped : (e : RunError) (s : List ℕ) (y : Result Place RunError) → Led (Err e) y → Led (fold (entered (counted k n)) (Err e) s) (search.run (stepped says) y s)
+    led_stopped : (e : RunError) (s : List ℕ) (y : Result Place RunError) → Led (Err e) y →
+        Led (fold (entered (counted k n)) (Err e) s) (search.run (stepped says) y s)
     led_stopped (run.Full b m) s y h =
-        subst (λ x. Led x (search.run (stepped says) y s)) (sym (core_stays (run.Full b m) s)) (ap (λ x. search.run (stepped says) x s) h ∙ fault_stays (run.Full b m) s)
+        subst (λ x. Led x (search.run (stepped says) y s)) (sym (core_stays (run.Full b m) s))
+        (ap (λ x. search.run (stepped says) x s) h ∙ fault_stays (run.Full b m) s)
     led_stopped run.NoMemory s y h = subst (λ x. Led x (search.run (stepped says) y s)) (sym (core_stays run.NoMemory s)) tt
     led_stopped (run.Spent g) s y h = subst (λ x. Led x (search.run (stepped says) y s)) (sym (core_stays (run.Spent g) s)) tt
     led_stopped (run.Lost g) s y h = subst (λ x. Led x (search.run (stepped says) y s)) (sym (core_stays (run.Lost g) s)) tt
@@ -194,7 +197,8 @@ module _ (says : Bool) where
     same_led w f _ y h = tt
 
     led_next : (s : List ℕ) → ((w : World) → Lawful w → Led (fold (entered (counted k n)) (Ok w) s) (search.run (stepped says) (Ok (bare_place w)) s)) →
-        (x : Result World RunError) (y : Result Place RunError) → IfWorld Lawful x → Led x y → Led (fold (entered (counted k n)) x s) (search.run (stepped says) y s)
+        (x : Result World RunError) (y : Result Place RunError) → IfWorld Lawful x → Led x y →
+        Led (fold (entered (counted k n)) x s) (search.run (stepped says) y s)
     led_next s rest (Ok v) y law h = subst (λ z. Led (fold (entered (counted k n)) (Ok v) s) (search.run (stepped says) z s)) (sym h) (rest v law)
     led_next s rest (Err e) y law h = led_stopped e s y h
 
@@ -210,21 +214,26 @@ module _ (says : Bool) where
     Fully (Err (run.Full b m)) y = y ≡ Err (run.Full b m)
     Fully (Err e) y = ⊥
 
-    fully_stopped : (e : RunError) (s : List ℕ) (y : Result Place RunError) → Fully (Err e) y → Fully (fold (entered (counted k n)) (Err e) s) (search.run (stepped says) y s)
+    fully_stopped : (e : RunError) (s : List ℕ) (y : Result Place RunError) → Fully (Err e) y →
+        Fully (fold (entered (counted k n)) (Err e) s) (search.run (stepped says) y s)
     fully_stopped (run.Full b m) s y h =
-        subst (λ x. Fully x (search.run (stepped says) y s)) (sym (core_stays (run.Full b m) s)) (ap (λ x. search.run (stepped says) x s) h ∙ fault_stays (run.Full b m) s)
+        subst (λ x. Fully x (search.run (stepped says) y s)) (sym (core_stays (run.Full b m) s))
+        (ap (λ x. search.run (stepped says) x s) h ∙ fault_stays (run.Full b m) s)
     fully_stopped _ s y h = absurd h
 
-    same_fully : (w : World) (f : ℕ) (x : Result World RunError) (y : Result Place RunError) → (cell_of w.cells f).count < n → Same says k n some w f x y → Fully x y
+    same_fully : (w : World) (f : ℕ) (x : Result World RunError) (y : Result Place RunError) → (cell_of w.cells f).count < n → Same says k n some w f x y →
+        Fully x y
     same_fully w f (Ok v) y l h = h
     same_fully w f (Err (run.Full b m)) y l h = h
     same_fully w f (Err (run.Spent g)) y l h = absurd (omega (arith, l, h))
     same_fully w f _ y l h = absurd h
 
-    fully_next : (s : List ℕ) (m : ℕ) → ((w : World) → Lawful w → AtMost m w.cells → Fully (fold (entered (counted k n)) (Ok w) s) (search.run (stepped says) (Ok (bare_place w)) s)) →
+    fully_next : (s : List ℕ) (m : ℕ) → ((w : World) → Lawful w → AtMost m w.cells →
+        Fully (fold (entered (counted k n)) (Ok w) s) (search.run (stepped says) (Ok (bare_place w)) s)) →
         (x : Result World RunError) (y : Result Place RunError) → IfWorld Lawful x → IfWorld (λ v. AtMost m v.cells) x → Fully x y →
         Fully (fold (entered (counted k n)) x s) (search.run (stepped says) y s)
-    fully_next s m rest (Ok v) y law counts h = subst (λ z. Fully (fold (entered (counted k n)) (Ok v) s) (search.run (stepped says) z s)) (sym h) (rest v law counts)
+    fully_next s m rest (Ok v) y law counts h =
+        subst (λ z. Fully (fold (entered (counted k n)) (Ok v) s) (search.run (stepped says) z s)) (sym h) (rest v law counts)
     fully_next s m rest (Err e) y law counts h = fully_stopped e s y h
 
     pub fully : (s : List ℕ) (m : ℕ) → m + length s ≤ n → (w : World) → Lawful w → AtMost m w.cells →
@@ -255,9 +264,11 @@ module _ (says : Bool) (code : Tree) (k : Limits) (some : 0 < k.count) (first : 
   unfolding core
   core_led n s = led says k n some s (first_world code (counted k n)) (first_lawful code (counted k n) first)
 
-  pub core_fully : (n : ℕ) (s : List ℕ) → length s ≤ n → Fully says k n some (core code (counted k n) s) (search.run (stepped says) (Ok (first_place says code k)) s)
+  pub core_fully : (n : ℕ) (s : List ℕ) → length s ≤ n →
+      Fully says k n some (core code (counted k n) s) (search.run (stepped says) (Ok (first_place says code k)) s)
   unfolding core
-  core_fully n s l = fully says k n some s 0 (omega arith) (first_world code (counted k n)) (first_lawful code (counted k n) first) (λ f. fresh_counts k.fibers f)
+  core_fully n s l = fully says k n some s 0 (omega arith) (first_world code (counted k n)) (first_lawful code (counted k n) first)
+      (λ f. fresh_counts k.fibers f)
 
 module _ (code : Tree) (k : Limits) (some : 0 < k.count) (first : Reached (begins 0 code)) where
   abbrev Lawfully : Result World RunError → Type 0

@@ -144,7 +144,8 @@ module _ (says : Bool) where
     walk_said (Let e x k) up = under_says up (In_let x k) e (walk i n r (masks_in i (In_let x k) up) e) (walk_said e (masks_in i (In_let x k) up))
     walk_said (Seq o e k) up = under_says up (In_seq o k) e (walk i n r (masks_in i (In_seq o k) up) e) (walk_said e (masks_in i (In_seq o k) up))
     walk_said (Handled e x h) up = under_says up (In_handle x h) e (walk i n r (masks_in i (In_handle x h) up) e) (walk_said e (masks_in i (In_handle x h) up))
-    walk_said (Guarded e fin) up = under_says up (In_guarded fin) e (walk i n r (masks_in i (In_guarded fin) up) e) (walk_said e (masks_in i (In_guarded fin) up))
+    walk_said (Guarded e fin) up = under_says up (In_guarded fin) e (walk i n r (masks_in i (In_guarded fin) up) e)
+        (walk_said e (masks_in i (In_guarded fin) up))
     walk_said (Masked m e) up = under_says up (In_masked m) e (walk i n r (masks_in i (In_masked m) up) e) (walk_said e (masks_in i (In_masked m) up))
     walk_said (Polled q e) up = under_says up (In_polled q) e (walk i n r (masks_in i (In_polled q) up) e) (walk_said e (masks_in i (In_polled q) up))
     walk_said (Act a) up = act_said a
@@ -214,7 +215,8 @@ module _ (g : Fiber) where
   faithful = each_map (HasPlace path) (Faithful own (own_place own path)) (λ a h. placed_faithful own path a h) path (all_placed path)
 
   kept : Each (λ m. IsKept own to (λ p f k. refl) (Pair own m)) path
-  kept = each_map (Faithful own (own_place own path)) (λ m. IsKept own to (λ p f k. refl) (Pair own m)) (λ a h. faithful_kept own (own_place own path) a h) path faithful
+  kept = each_map (Faithful own (own_place own path)) (λ m. IsKept own to (λ p f k. refl) (Pair own m)) (λ a h. faithful_kept own (own_place own path) a h)
+      path faithful
 
   -- the kind of the next move
   case_unmarked : move_case (unmarked g) ≡ move_case g
@@ -249,7 +251,8 @@ module _ (says : Bool) (g : Fiber) where
       ap₂ with_marks (kept_twice says g.marks) (marks_free (unmarked g) (kept_marks says g.marks) ∙ unmarked_twice g)
 
   pub told_shown : kept_report says (shown says g) ≡ kept_report says g
-  told_shown = ap₂ (λ (o : Option Outcome) (ms : List Mark). let x : FiberReport = record { outcome = o; marks = ms } in x) (unmarked_outcome g) (kept_twice says g.marks)
+  told_shown = ap₂ (λ (o : Option Outcome) (ms : List Mark). let x : FiberReport = record { outcome = o; marks = ms } in x) (unmarked_outcome g)
+      (kept_twice says g.marks)
 
   marks_by : (r : Reply) (c : Move_case) → kept_marks says (move_in (shown says g) r c).marks ≡ kept_marks says (move_in g r c).marks
   marks_by r Looks = kept_twice says g.marks

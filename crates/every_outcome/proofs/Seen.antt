@@ -40,7 +40,8 @@ module _ (v : View) (f g : ℕ) (x : View) (h : IsStill v f) (e : viewed (steppe
       ap₂ (λ (s : List ℕ) (o : Option Fiber). noted s (stored_by o)) is.1
       (ap (λ (p : Place). slice_get p.world.fibers g) (step_goes_to false v.place f h.free x.place is.0) ∙ same_after false v.place f h.free g apart)
 
-  commute_by : (y : Result Place RunError) → Commutes (stepped false) (MayFree false false) f x.place g y → Commutes (viewed (stepped false)) IsStill f x g (seeing then_seen y)
+  commute_by : (y : Result Place RunError) → Commutes (stepped false) (MayFree false false) f x.place g y →
+      Commutes (viewed (stepped false)) IsStill f x g (seeing then_seen y)
   commute_by (Ok y) pair =
       let z : View = record { place = pair.1; seen = then_seen } in
       let there : View = record { place = y; seen = then_seen } in (
@@ -75,9 +76,11 @@ leaps_seeing seen (Err d) z h = ap (seeing seen) h
 
 leaps_views : (v : View) (f : ℕ) → Leaps (viewed (stepped false)) IsStill (viewed (stepped false) v f) (viewed (leapt false false) v f)
 leaps_views v f =
-    leaps_seeing (noted v.seen (stored_by (slice_get v.place.world.fibers f))) (stepped false v.place f) (leapt false false v.place f) (leaps false false v.place f)
+    leaps_seeing (noted v.seen (stored_by (slice_get v.place.world.fibers f))) (stepped false v.place f) (leapt false false v.place f)
+    (leaps false false v.place f)
 
-keeps_claims : (words : List ClaimWord) (v : View) (f : ℕ) (x : View) → IsStill v f → viewed (stepped false) v f ≡ Ok x → is_met GoesOn x words ≡ is_met GoesOn v words
+keeps_claims : (words : List ClaimWord) (v : View) (f : ℕ) (x : View) → IsStill v f → viewed (stepped false) v f ≡ Ok x → is_met GoesOn x words ≡
+    is_met GoesOn v words
 keeps_claims words v f x h e =
     let is = free_is v f x h e in
     ap₂ (λ (seen : List ℕ) (t : Bool). are_seen seen words && t) is.1

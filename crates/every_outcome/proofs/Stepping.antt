@@ -1,5 +1,6 @@
 -- An entry leads from a world where it leads from the same world without marks, counts and notes.
-use Rattle.std.proofs.Common.{◌≡◌, ◌<◌, ◌≤◌, ℕ, zero, suc, Bool, length, arith, List, [], ◌∷◌, ◌++◌, map, set, option_map, Option, Some, None, Result, Ok, Err, refl}
+use Rattle.std.proofs.Common.{◌≡◌, ◌<◌, ◌≤◌, ℕ, zero, suc, Bool, length, arith, List, [], ◌∷◌, ◌++◌, map, set, option_map, Option, Some, None, Result, Ok, Err}
+use Rattle.std.proofs.Common.{refl}
 use Rattle.std.{proofs.{Common.{sym, ap, ap₂, ◌∙◌, subst}, lemmas.List.{map-append, map-set}}, specs.List.slice_get}
 use Rattle.effect_term.specs.declared.reply.Reply.{Reply}
 use Rattle.fiber_frames.specs.{declared.ask.Ask.Ask, Fiber.{Fiber, ask_of, child, move, silent_move}, Reached.Reached, Rows.number_in}
@@ -8,7 +9,8 @@ use Rattle.cell_registry.specs.Cells.{refusal, reply_of}
 use Rattle.scheduled_core.specs.declared.report.{FiberReport.FiberReport, Report.Report}
 use Rattle.scheduled_core.specs.{declared.wish.Wish.{Wish, TheVariants.{Shared, Alone, Nothing}}, Core.{World, answered, born, called, entered, turned}}
 use Rattle.scheduled_core.specs.Core.{wish_of, wished}
-use Rattle.every_outcome.specs.{Outcomes.counted, Places.{Place, kept_report, report_at, shown, stepped, unmarked_after, unmarked_world}, Private.Keeping.IsFull}
+use Rattle.every_outcome.specs.{Outcomes.counted, Places.{Place, kept_report, report_at, shown, stepped, unmarked_after, unmarked_world}}
+use Rattle.every_outcome.specs.Private.Keeping.{IsFull}
 use Rattle.every_outcome.proofs.Cells.{Refused, plain_after, plain_cells, plain_is, plain_refusal, plain_reply, plain_twice, uncounted_refusal}
 use Rattle.every_outcome.proofs.Said.{ask_shown, child_shown, move_shown, shown_twice, told_shown}
 use Rattle.effect_term.specs.declared.reply.Reply.TheVariants as reply
@@ -36,7 +38,8 @@ module _ (says : Bool) where
   told_unmarked (g ∷ gs) = ap₂ (λ (x : FiberReport) (l : List FiberReport). x ∷ l) (told_shown says g) (told_unmarked gs)
 
   -- the report is that of the fibers with their marks
-  pub report_stays : (k : Limits) (w : World) → report_at says record { limits = k; world = unmarked_world says w } ≡ record { fibers = map (kept_report says) w.fibers }
+  pub report_stays : (k : Limits) (w : World) → report_at says record { limits = k; world = unmarked_world says w } ≡
+      record { fibers = map (kept_report says) w.fibers }
   report_stays k w = ap (λ (l : List FiberReport). let r : Report = record { fibers = l } in r) (told_unmarked w.fibers)
 
   pub get_unmarked : (gs : List Fiber) (f : ℕ) (o : Option Fiber) → slice_get gs f ≡ o → slice_get (unmark gs) f ≡ option_map (shown says) o
@@ -85,7 +88,8 @@ module _ (says : Bool) where
     moved_unmarked g x more rest e q =
         map-append (shown says) (set (unmark w.fibers) f x) more
         ∙ ap₂ (λ (l m : List Fiber). l ++ m)
-        (map-set (shown says) (unmark w.fibers) f x ∙ ap₂ (λ (l : List Fiber) (y : Fiber). set l f y) (unmark_again w.fibers) e ∙ sym (map-set (shown says) w.fibers f g)) q
+        (map-set (shown says) (unmark w.fibers) f x ∙ ap₂ (λ (l : List Fiber) (y : Fiber). set l f y) (unmark_again w.fibers) e ∙
+        sym (map-set (shown says) w.fibers f g)) q
         ∙ sym (map-append (shown says) (set w.fibers f g) rest)
 
     called_unmarked : (g : Fiber) → GoesAlike g → (c : Call) →
@@ -131,7 +135,8 @@ module _ (says : Bool) where
     answered_alike g h c None = ap (led k) (called_unmarked w f g h c)
     answered_alike g h c (Some e) = refl
 
-    wished_alike : (g : Fiber) → GoesAlike g → (x : Wish) → unmarked_after says k (wished k (bare w f) f (shown says g) x) ≡ unmarked_after says k (wished k w f g x)
+    wished_alike : (g : Fiber) → GoesAlike g → (x : Wish) → unmarked_after says k (wished k (bare w f) f (shown says g) x) ≡
+        unmarked_after says k (wished k w f g x)
     wished_alike g h (Shared c) =
         ap (λ (o : Option CellError). unmarked_after says k (answered (bare w f) f (shown says g) c o)) (uncounted_refusal k w.cells f c none)
         ∙ answered_alike g h c (refusal k w.cells f c)

@@ -34,11 +34,13 @@ at_within xs i h = elim ((slice_get_cases xs i).1) [
 
 module _ (says : Bool) where
   -- the end of a right answer of a search is a world or fault of the store
-  within : (kept : Kept) (first : Place) (s : List ℕ) (l : Landing) → search.LeadsTo (leapt says true) (report_at says) kept.places kept.faults first s l → IsWithin kept l
+  within : (kept : Kept) (first : Place) (s : List ℕ) (l : Landing) → search.LeadsTo (leapt says true) (report_at says) kept.places kept.faults first s l →
+      IsWithin kept l
   within kept first s (to.World j) h = slice_get_within kept.places j h.0 h.1
   within kept first s (to.Fault j) h = slice_get_within kept.faults j h.0 h.1
 
-  pub all_within : (kept : Kept) (first : Place) (found : List Found) → All (search.IsRight (leapt says true) (report_at says) kept.places kept.faults first) found →
+  pub all_within : (kept : Kept) (first : Place) (found : List Found) →
+      All (search.IsRight (leapt says true) (report_at says) kept.places kept.faults first) found →
       All (λ a. IsWithin kept a.end) found
   all_within kept first found right = all_from (λ a. IsWithin kept a.end) found (λ i f e.
       within kept first f.schedule.items f.end (all_at (search.IsRight (leapt says true) (report_at says) kept.places kept.faults first) found i f e right))
@@ -105,7 +107,8 @@ module _ (says : Bool) where
     kept_at w (Err (run.Full b m)) y h e = absurd (cc)
     kept_at w _ y h e = absurd h
 
-  keeps : (k : Limits) (n : ℕ) (some : 0 < k.count) (w : World) → Lawful w → KeepsReport says k w → systems.IsSettled (stepped says) (report_at says) (bare_place says k n some w)
+  keeps : (k : Limits) (n : ℕ) (some : 0 < k.count) (w : World) → Lawful w → KeepsReport says k w →
+      systems.IsSettled (stepped says) (report_at says) (bare_place says k n some w)
   keeps k n some w law h = λ s.
       let m = some_bound w.cells in
       let most = m.0 + length s in
@@ -121,7 +124,8 @@ module _ (says : Bool) where
   end_of (Err e) = Err e
 
   module _ (kept : Kept) (start : Place) (found : List Found) (answers : List Answer) (told : AreTold says kept start found answers) where
-    ends_as : (l : Landing) (y : Result Place RunError) (end : End) → search.Tells (stepped says) (report_at says) kept.places kept.faults l y → IsEnd says kept l end →
+    ends_as : (l : Landing) (y : Result Place RunError) (end : End) → search.Tells (stepped says) (report_at says) kept.places kept.faults l y →
+        IsEnd says kept l end →
         end ≡ end_of y
     ends_as (to.World j) (Ok p) end h e =
         let same : e.0 ≡ h.0 = same_Some e.0 h.0 (sym e.1 ∙ h.1) in
@@ -167,8 +171,10 @@ module _ (says : Bool) where
       covers (stepped says) (leapt says true) leapt_reduces (report_at says) size (reports_grow says) kept.places kept.faults found start
 
   -- the schedule of an answer, entry by entry
-  each_entry : (kept : Kept) (start : Place) (s t : List ℕ) (l : Landing) → systems.run (stepped says) (Ok start) s ≡ systems.run (leapt says true) (Ok start) t →
-      search.LeadsTo (leapt says true) (report_at says) kept.places kept.faults start t l → search.LeadsTo (stepped says) (report_at says) kept.places kept.faults start s l
+  each_entry : (kept : Kept) (start : Place) (s t : List ℕ) (l : Landing) → systems.run (stepped says) (Ok start) s ≡
+      systems.run (leapt says true) (Ok start) t →
+      search.LeadsTo (leapt says true) (report_at says) kept.places kept.faults start t l →
+      search.LeadsTo (stepped says) (report_at says) kept.places kept.faults start s l
   each_entry kept start s t l =
       leads_up (stepped says) (leapt says true) leapt_reduces (report_at says) size (reports_grow says) kept.places kept.faults start s t l
 
@@ -203,17 +209,20 @@ module _ (says : Bool) where
 
       pub covered : (n : ℕ) (s : List ℕ) → AllCovered → IsReported says k answers (core code (counted k n) s)
       covered n s c =
-          covered_at n (core code (counted k n) s) (systems.run (stepped says) (Ok start) s) (core_led says code k some first n s) (core_lawful code k some first n s)
+          covered_at n (core code (counted k n) s) (systems.run (stepped says) (Ok start) s) (core_led says code k some first n s)
+          (core_lawful code k some first n s)
           (every_entry kept start found c s)
 
       pub settled : (n : ℕ) (s : List ℕ) (w : World) → AllCovered → core code (counted k n) s ≡ Ok w → IsSettled (counted k n) w →
           IsListed answers (reports says (Ok w))
       settled n s w c e h =
-          listed_at n w (systems.run (stepped says) (Ok start) s) (subst (λ x. Led says k n some x (systems.run (stepped says) (Ok start) s)) e (core_led says code k some first n s))
+          listed_at n w (systems.run (stepped says) (Ok start) s)
+          (subst (λ x. Led says k n some x (systems.run (stepped says) (Ok start) s)) e (core_led says code k some first n s))
           (every_entry kept start found c s) (settles k n some w (core_lawful code k some first n s w e) h)
 
       -- the end that a found schedule leads to
-      leads_at : (n : ℕ) (s : List ℕ) (l : Landing) (end : End) → search.LeadsTo (stepped says) (report_at says) kept.places kept.faults start s l → IsEnd says kept l end →
+      leads_at : (n : ℕ) (s : List ℕ) (l : Landing) (end : End) → search.LeadsTo (stepped says) (report_at says) kept.places kept.faults start s l →
+          IsEnd says kept l end →
           (x : Result World RunError) → Fully says k n some x (systems.run (stepped says) (Ok start) s) → reports says x ≡ end
       leads_at n s (to.World j) end h e (Ok v) f =
           let here : h.0 ≡ bare_place says k n some v = (let q : Ok h.0 ≡ Ok (bare_place says k n some v) = sym h.2 ∙ f in cc) in
@@ -235,18 +244,22 @@ module _ (says : Bool) where
       on_world : (s more : List ℕ) (p : Place) → systems.run (stepped says) (Ok start) s ≡ Ok p → systems.IsSettled (stepped says) (report_at says) p →
           systems.reported (stepped says) (report_at says) (systems.run (stepped says) (Ok start) (s ++ more)) ≡ Ok (report_at says p)
       on_world s more p h settled =
-          ap (systems.reported (stepped says) (report_at says)) (run-append (stepped says) (Ok start) s more ∙ ap (λ y. systems.run (stepped says) y more) h) ∙ settled more
+          ap (systems.reported (stepped says) (report_at says))
+          (run-append (stepped says) (Ok start) s more ∙ ap (λ y. systems.run (stepped says) y more) h) ∙ settled more
 
       on_fault : (s more : List ℕ) (e : RunError) → systems.run (stepped says) (Ok start) s ≡ Err e → systems.run (stepped says) (Ok start) (s ++ more) ≡ Err e
       on_fault s more e h = run-append (stepped says) (Ok start) s more ∙ ap (λ y. systems.run (stepped says) y more) h ∙ fault_stays e more
 
-      stays_at : (n : ℕ) (s more : List ℕ) (l : Landing) (end : End) → search.LeadsTo (stepped says) (report_at says) kept.places kept.faults start s l → IsEnd says kept l end →
+      stays_at : (n : ℕ) (s more : List ℕ) (l : Landing) (end : End) → search.LeadsTo (stepped says) (report_at says) kept.places kept.faults start s l →
+          IsEnd says kept l end →
           (x : Result World RunError) → Led says k n some x (systems.run (stepped says) (Ok start) (s ++ more)) → AgreesOn says end x
       stays_at n s more (to.World j) end h e (Ok w) f =
           let same : e.0 ≡ h.0 = same_Some e.0 h.0 (sym e.1 ∙ h.1) in
-          ap Ok (sym (report_stays says k w)) ∙ sym (ap (systems.reported (stepped says) (report_at says)) f) ∙ on_world s more h.0 h.2 h.3 ∙ ap Ok (ap (report_at says) (sym same)) ∙ sym e.2
+          ap Ok (sym (report_stays says k w)) ∙ sym (ap (systems.reported (stepped says) (report_at says)) f) ∙ on_world s more h.0 h.2 h.3 ∙
+          ap Ok (ap (report_at says) (sym same)) ∙ sym e.2
       stays_at n s more (to.World j) end h e (Err (run.Full b m)) f =
-          let no : Err (run.Full b m) ≡ Ok (report_at says h.0) = sym (ap (systems.reported (stepped says) (report_at says)) f) ∙ on_world s more h.0 h.2 h.3 in absurd (cc)
+          let no : Err (run.Full b m) ≡ Ok (report_at says h.0) = sym (ap (systems.reported (stepped says) (report_at says)) f) ∙
+          on_world s more h.0 h.2 h.3 in absurd (cc)
       stays_at n s more (to.Fault j) end h e (Ok w) f =
           let no : Err h.0 ≡ Ok (bare_place says k n some w) = sym (on_fault s more h.0 h.2) ∙ f in absurd (cc)
       stays_at n s more (to.Fault j) end h e (Err (run.Full b m)) f =
@@ -263,12 +276,14 @@ module _ (says : Bool) where
           (all_at (search.IsRight (leapt says true) (report_at says) kept.places kept.faults start) found i it.0 it.1 right) in
           record {
             leads = λ n l. leads_at n s it.0.end a.end h it.2.ends (core code (counted k n) s) (core_fully says code k some first n s l);
-            stays = λ n more. stays_at n s more it.0.end a.end h it.2.ends (core code (counted k n) (s ++ more)) (core_led says code k some first n (s ++ more));
+            stays = λ n more. stays_at n s more it.0.end a.end h it.2.ends (core code (counted k n) (s ++ more))
+                (core_led says code k some first n (s ++ more));
           })
 
 module _ (says : Bool) where
   -- ---- the count of the limits has no effect
-  pub covered_under : (k : Limits) (n : ℕ) (answers : List Answer) (x : Result World RunError) → IsReported says (counted k n) answers x → IsReported says k answers x
+  pub covered_under : (k : Limits) (n : ℕ) (answers : List Answer) (x : Result World RunError) → IsReported says (counted k n) answers x →
+      IsReported says k answers x
   covered_under k n answers (Ok w) h = h
   covered_under k n answers (Err (run.Full b m)) h = h
   covered_under k n answers _ h = tt
@@ -277,4 +292,5 @@ module _ (says : Bool) where
   reached_under code k n a h = record { leads = h.leads; stays = h.stays }
 
   pub all_under : (code : Tree) (k : Limits) (n : ℕ) (answers : List Answer) → All (Reaches says code (counted k n)) answers → All (Reaches says code k) answers
-  all_under code k n answers h = all_from (Reaches says code k) answers (λ i a e. reached_under code k n a (all_at (Reaches says code (counted k n)) answers i a e h))
+  all_under code k n answers h = all_from (Reaches says code k) answers
+      (λ i a e. reached_under code k n a (all_at (Reaches says code (counted k n)) answers i a e h))

@@ -26,7 +26,8 @@ module _ (says : Bool) where
   pub trail_one : (old : List ℕ) (p : Place) (f : ℕ) (y : Result Place RunError) → f < 1000 → stepped says p f ≡ y → IsTrail says old (old ++ f ∷ []) p y
   trail_one old p f y low e = record { added = f ∷ []; is = refl; leads = e; few = All-push (λ g. g < 1000) [] f none_few low }
 
-  pub trail_more : (old mid new : List ℕ) (p q : Place) (y : Result Place RunError) → IsTrail says old mid p (Ok q) → IsTrail says mid new q y → IsTrail says old new p y
+  pub trail_more : (old mid new : List ℕ) (p q : Place) (y : Result Place RunError) → IsTrail says old mid p (Ok q) → IsTrail says mid new q y →
+      IsTrail says old new p y
   trail_more old mid new p q y a b = record {
     added = a.added ++ b.added;
     is = b.is ∙ ap (λ l. l ++ b.added) a.is ∙ append_assoc old a.added b.added;

@@ -77,7 +77,8 @@ keeps_told u n f i b apart r told = another i f (keeps u n b) apart ∙ ap not (
 pub given_kept : (u : Use) (w : World) (f n : ℕ) → n < next_of (used_place u) w.cells → is_kept u w f n ≡ others (keeps u n) f 0 w.fibers
 given_kept u w f n low = ap (λ (t : Bool). t && others (keeps u n) f 0 w.fibers) (lt-ltb n (next_of (used_place u) w.cells) low)
 
-others_all : (p : Fiber → Bool) (f : ℕ) (gs : List Fiber) (j : ℕ) → ((i : ℕ) (b : Fiber) → slice_get gs i ≡ Some b → j + i ≢ f → p b ≡ true) → others p f j gs ≡ true
+others_all : (p : Fiber → Bool) (f : ℕ) (gs : List Fiber) (j : ℕ) → ((i : ℕ) (b : Fiber) → slice_get gs i ≡ Some b → j + i ≢ f → p b ≡ true) →
+    others p f j gs ≡ true
 others_all p f [] j each = refl
 others_all p f (c ∷ gs) j each =
     and_true (nat_eq j f || p c) (others p f (suc j) gs) (here (nat_eq j f) refl)
@@ -91,7 +92,8 @@ others_all p f (c ∷ gs) j each =
 pub alone_kept : (w : World) → AllFit w → (f : ℕ) → is_left_alone w f ≡ is_kept Cancels w f f
 alone_kept w fits f =
     ap (λ (t : Bool). is_kept Cancels w f f && t)
-    (others_all (is_another f) f w.fibers 0 (λ i b at apart. same_not b.number f (λ same. let number = (fits.each i b at).number in apart (omega (arith, number, same)))))
+    (others_all (is_another f) f w.fibers 0 (λ i b at apart. same_not b.number f
+    (λ same. let number = (fits.each i b at).number in apart (omega (arith, number, same)))))
     ∙ and_all (is_kept Cancels w f f)
   where
     and_all : (t : Bool) → t && true ≡ t

@@ -20,11 +20,13 @@ use Rattle.derived_ops.specs.Naming as naming
 module _ (k : Limits) (w : World) (f : ℕ) where
   answered_bare : (g : Fiber) (c : Call) (o : Option CellError) → bared (placed k (answered (unnoted w) f g c o)) ≡ bared (placed k (answered w f g c o))
   answered_bare g c None =
-      ap₂ (λ (r : Reply) (s : Cells). Ok (let p : Place = record { limits = k; world = record { fibers = set w.fibers f (move g r) ++ born g c r; cells = s } } in p))
+      ap₂ (λ (r : Reply) (s : Cells). Ok (let p : Place =
+      record { limits = k; world = record { fibers = set w.fibers f (move g r) ++ born g c r; cells = s } } in p))
       (same_reply w.cells f c) (same_after w.cells f c)
   answered_bare g c (Some e) = refl
 
-  cells_bare : (gs : List Fiber) → (let y : Result Place RunError = Ok (record { limits = k; world = record { fibers = gs; cells = without_waits (without_waits w.cells) } }) in y) ≡
+  cells_bare : (gs : List Fiber) → (let y : Result Place RunError =
+      Ok (record { limits = k; world = record { fibers = gs; cells = without_waits (without_waits w.cells) } }) in y) ≡
       Ok (record { limits = k; world = record { fibers = gs; cells = without_waits w.cells } })
   cells_bare gs = ap (λ (s : Cells). Ok (let p : Place = record { limits = k; world = record { fibers = gs; cells = s } } in p)) (without_waits_twice w.cells)
 
@@ -92,7 +94,8 @@ step_limits p f q e kept = elim (enters p f q e) [
 -- ---- fibers that fit still fit
 registered_bare : (s : Cells) (i : ℕ) → cell_registered (without_waits s) i ≡ cell_registered s i
 registered_bare s i =
-    ap (λ (c : Cell). let r : Registered = record { number = i; stage = c.stage; depth = c.depth; count = c.count; saw = c.request; given = given_by s } in r) (unawaited_cell s i)
+    ap (λ (c : Cell). let r : Registered = record { number = i; stage = c.stage; depth = c.depth; count = c.count; saw = c.request; given = given_by s } in r)
+    (unawaited_cell s i)
 
 pub fits_bare : (w : World) → AllFit w → AllFit (unnoted w)
 fits_bare w h = record {

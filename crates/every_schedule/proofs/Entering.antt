@@ -6,7 +6,8 @@ use Rattle.fiber_frames.specs.Fiber.{Fiber}
 use Rattle.scheduled_core.specs.{Core.{World, entered}, Fitting.AllFit, declared.report.Report.Report}
 use Rattle.world_search.{specs.{declared.landings.Entered.Entered, Landings.{EntersAt, IsNext}, Lists.IsMore}, proofs.Lists.more_same}
 use Rattle.every_schedule.specs.{declared.leaping.AtOnce.AtOnce, Places.{Place, placed, report_at, stepped}, Reduced.{after_own, behind, leapt, leapt_by}}
-use Rattle.every_schedule.specs.{Reduced.{moved_on, or_stays, own_of, pushed, pushed_once, swept}, Private.{Keeping.IsKept, Numbered.{AreAt, AreWorlds, IsWorld}}}
+use Rattle.every_schedule.specs.Reduced.{moved_on, or_stays, own_of, pushed, pushed_once, swept}
+use Rattle.every_schedule.specs.Private.{Keeping.IsKept, Numbered.{AreAt, AreWorlds, IsWorld}}
 use Rattle.every_schedule.{specs.Private.{Numbered.{IsWorldOf, MayAdd, Numbers, picked, place_of}, Reporting.{AreAlike, AreOther}}, proofs.Bare.step_limits}
 use Rattle.every_schedule.proofs.{Bare.unborn_stays, Alikeness.{alike_reports, other_reports, same_lists}, Numbered.{is_place, map_get, one_world, picked_is}}
 use Rattle.every_schedule.proofs.Numbered.{places_added, places_more, rows_added, world_is, worlds_more}

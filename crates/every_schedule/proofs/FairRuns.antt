@@ -61,7 +61,8 @@ stays : (k : Limits) (w : World) (f : ℕ) (x : Result World RunError) → enter
 stays k w f x is h v to =
     let led : bared (placed k (entered k (Ok w) f)) ≡ Ok record { limits = k; world = unnoted w } =
     sym (bare_step record { limits = k; world = w } f) ∙ h in
-    let there : bared (placed k (Ok v)) ≡ Ok record { limits = k; world = unnoted w } = subst (λ y. bared (placed k y) ≡ Ok record { limits = k; world = unnoted w })
+    let there : bared (placed k (Ok v)) ≡ Ok record { limits = k; world = unnoted w } =
+    subst (λ y. bared (placed k y) ≡ Ok record { limits = k; world = unnoted w })
     (is ∙ to) led in
     let same : record { limits = k; world = unnoted v } ≡ (let p : Place = record { limits = k; world = unnoted w } in p) = cc in
     ap (λ (p : Place). p.world) same

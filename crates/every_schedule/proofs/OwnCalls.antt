@@ -1,5 +1,6 @@
 -- Own calls: no call of another fiber sees them, or changes what they do.
-use Rattle.std.proofs.Common.{◌≡◌, ◌≢◌, ◌⊎◌, inl, inr, Option, Some, get_or-set_other, ℕ, zero, suc, Bool, true, false, List, [], ◌∷◌, get_or, set, refl, sym, ap, ◌∙◌, subst}
+use Rattle.std.proofs.Common.{◌≡◌, ◌≢◌, ◌⊎◌, inl, inr, Option, Some, get_or-set_other, ℕ, zero, suc, Bool, true, false, List, [], ◌∷◌, get_or, set, refl, sym}
+use Rattle.std.proofs.Common.{ap, ◌∙◌, subst}
 use mathlib.Core.Logic.{dite}
 use native.Mathlib.Decide.{ℕ_discrete}
 use Rattle.std.specs.Prelude.{None, not, is_none, ℤ, pos, ◌+ℤ◌}
@@ -378,7 +379,8 @@ module _ (s : Cells) (f g : ℕ) (d : Call) (apart : g ≢ f) where
   own_cell : (p : Cell → Cell) → ((c : Cell) → p (requested c) ≡ requested (p c)) → ((c : Cell) → p (awaited c) ≡ awaited (p c)) → Commuting p f
   own_cell p r w = record { request = r; wait = w; own = λ e. absurd (apart (sym e)) }
 
-  swaps_ref : (r : ℕ) (p : ℤ → ℤ) → (c : Call) → IsOffRef r c → after (with_ref s r (p (ref_of s r))) g c ≡ with_ref (after s g c) r (p (ref_of (after s g c) r))
+  swaps_ref : (r : ℕ) (p : ℤ → ℤ) → (c : Call) → IsOffRef r c → after (with_ref s r (p (ref_of s r))) g c ≡
+      with_ref (after s g c) r (p (ref_of (after s g c) r))
   unfolding after
   swaps_ref r p (Set i v) h = ap (λ l. record s { refs = l }) (apart_set s.refs r i (p (ref_of s r)) v (λ e. h (sym e)) ∙
       ap (λ x. set (set s.refs i v) r (p x)) (sym (get_or-set_other s.refs i r v (pos 0) (λ e. h (sym e)))))
@@ -408,7 +410,8 @@ module _ (s : Cells) (f g : ℕ) (d : Call) (apart : g ≢ f) where
       let before : deferred_of (with_deferred s i (p (deferred_of s i))) j ≡ deferred_of s j = get_or-set_other s.deferreds i j (p (deferred_of s i)) None h in
       ap (λ x. record s { deferreds = set (set s.deferreds i (p (deferred_of s i))) j (filled x v) }) before
       ∙ ap (λ l. record s { deferreds = l }) (apart_set s.deferreds i j (p (deferred_of s i)) (filled (deferred_of s j) v) (λ e. h (sym e)) ∙
-      ap (λ x. set (set s.deferreds j (filled (deferred_of s j) v)) i (p x)) (sym (get_or-set_other s.deferreds j i (filled (deferred_of s j) v) None (λ e. h (sym e)))))
+      ap (λ x. set (set s.deferreds j (filled (deferred_of s j) v)) i (p x))
+      (sym (get_or-set_other s.deferreds j i (filled (deferred_of s j) v) None (λ e. h (sym e)))))
   swaps_deferred i p Start h = refl
   swaps_deferred i p (Cancel j) h = refl
   swaps_deferred i p (Join j) h = refl

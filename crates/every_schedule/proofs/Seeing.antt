@@ -5,7 +5,8 @@ use Rattle.derived_ops.specs.Tree.{Tree}
 use Rattle.cell_registry.specs.{Cells.{Cells, without_waits}, declared.limits.{Limits.Limits, RunError.RunError}}
 use Rattle.scheduled_core.specs.Core.{World, core, entered, first_world}
 use Rattle.world_search.{specs.Systems.run, proofs.Free.run_fault}
-use Rattle.every_schedule.specs.{declared.claims.ClaimWord.{ClaimWord, TheVariants.{Compare, Not, And, Or, Deadlock, Left, Final}}, Claims.{Compares, Meets, View, WasSet, are_seen}}
+use Rattle.every_schedule.specs.declared.claims.ClaimWord.{ClaimWord, TheVariants.{Compare, Not, And, Or, Deadlock, Left, Final}}
+use Rattle.every_schedule.specs.Claims.{Compares, Meets, View, WasSet, are_seen}
 use Rattle.every_schedule.specs.{Claims.{first_view, has, holds, is_seen, last_of, noted, seeing, stored_by, viewed, worded}, Places.{Place, bared}}
 use Rattle.every_schedule.{specs.Places.{first_place, placed, stepped, unnoted}, proofs.{Bare.bare_step, Placed.first_bare, OwnKept.{and_true, or_second}}}
 use Rattle.every_schedule.specs.{declared.progress.Progress.{Progress, TheVariants.{GoesOn, Deadlocked, LeftBehind, AllOver}}, Standings.IsStanding}

@@ -82,7 +82,9 @@ refs_stay p q f still e = elim (enters p f q e) [
 
 -- in worlds that stand in the same way the truth of words depends only on the values of refs
 worded_refs : (x : Progress) (s t : Cells) → s.refs ≡ t.refs → (stack : List Bool) (word : ClaimWord) → worded x s stack word ≡ worded x t stack word
-worded_refs x s t same stack (Compare r how v) = ap (λ (l : List ℤ). worded x (record { next_fiber = 0; next_ref = 0; next_deferred = 0; cells = []; refs = l; deferreds = [] }) stack (Compare r how v)) same
+worded_refs x s t same stack (Compare r how v) =
+    ap (λ (l : List ℤ). worded x (record { next_fiber = 0; next_ref = 0; next_deferred = 0; cells = []; refs = l; deferreds = [] }) stack (Compare r how v))
+    same
 worded_refs x s t same stack Not = refl
 worded_refs x s t same stack And = refl
 worded_refs x s t same stack Or = refl
@@ -189,7 +191,8 @@ module _ (v : View) (f g : ℕ) (x : View) (h : IsFree v f) (e : viewed stepped 
         let there = other_stays v.place x.place f g (λ same. apart (sym same)) a at is.0 in
         ap₂ noted is.1 (ap stored_by (there ∙ sym at))
 
-    commute_by : (y : Result Place RunError) → Commutes stepped (IsMade hundred_still) f x.place g y → Commutes (viewed stepped) IsFree f x g (seeing then_seen y)
+    commute_by : (y : Result Place RunError) → Commutes stepped (IsMade hundred_still) f x.place g y →
+        Commutes (viewed stepped) IsFree f x g (seeing then_seen y)
     commute_by (Ok y) pair =
         let z : View = record { place = pair.1; seen = then_seen } in
         let there : View = record { place = y; seen = then_seen } in (
@@ -222,14 +225,16 @@ led_views seen a b (Here x y same) = Here _ _ (ap (λ (p : Place). let v : View 
 led_views seen a b (On x f y z h e on) =
     On _ f (record { place = y; seen = seen }) _ h (free_step (record { place = x; seen = seen }) f h ∙ ap (seeing seen) e) (led_views seen y z on)
 
-leaps_seeing : (seen : List ℕ) (y z : Result Place RunError) → Leaps stepped (IsMade hundred_still) y z → Leaps (viewed stepped) IsFree (seeing seen y) (seeing seen z)
+leaps_seeing : (seen : List ℕ) (y z : Result Place RunError) → Leaps stepped (IsMade hundred_still) y z →
+    Leaps (viewed stepped) IsFree (seeing seen y) (seeing seen z)
 leaps_seeing seen (Ok x) z h =
     (record { place = h.0; seen = seen }, led_views seen x h.0 h.1, ap (seeing seen) h.2)
 leaps_seeing seen (Err d) z h = ap (seeing seen) h
 
 leaps_views : (v : View) (f : ℕ) → Leaps (viewed stepped) IsFree (viewed stepped v f) (viewed (leapt hundred_still) v f)
 leaps_views v f =
-    leaps_seeing (noted v.seen (stored_by (slice_get v.place.world.fibers f))) (stepped v.place f) (leapt hundred_still v.place f) (leaps hundred_still v.place f)
+    leaps_seeing (noted v.seen (stored_by (slice_get v.place.world.fibers f))) (stepped v.place f) (leapt hundred_still v.place f)
+    (leaps hundred_still v.place f)
 
 -- a claim that can't be false only because no fiber can go on stays true
 module _ (words : List ClaimWord) (up : (leaning_of words).falls ≡ false) where
@@ -256,4 +261,5 @@ module _ (words : List ClaimWord) (up : (leaning_of words).falls ≡ false) wher
       ((t : List ℕ) (w : View) → run (viewed (leapt hundred_still)) (Ok first) t ≡ Ok w → meets_here w words ≡ false) →
       (s : List ℕ) (w : View) → run (viewed stepped) (Ok first) s ≡ Ok w → meets_here w words ≡ true → ⊥
   unmet_all first none s w led =
-      unmet_where_it_grows (viewed stepped) IsFree free_views (viewed (leapt hundred_still)) leaps_views (λ v. meets_here v words) keeps_claims first none s w led
+      unmet_where_it_grows (viewed stepped) IsFree free_views (viewed (leapt hundred_still)) leaps_views (λ v. meets_here v words) keeps_claims first none s w
+      led

@@ -25,7 +25,8 @@ use Rattle.scheduled_core.specs.Core.{World, wish_of}
 use Rattle.scheduled_core.specs.Fitting.{AllFit, given_by}
 use Rattle.every_schedule.specs.declared.needs.Needs.{Needs}
 use Rattle.every_schedule.specs.declared.persistent.Seed.{Seed}
-use Rattle.every_schedule.specs.Persistent.{best, depends_on, grown, in_set, is_better, is_given, is_inside, is_making, is_ready_in, is_sound, joined, joined_if}
+use Rattle.every_schedule.specs.Persistent.{best, depends_on, grown, in_set, is_better, is_given, is_inside, is_making, is_ready_in, is_sound, joined}
+use Rattle.every_schedule.specs.Persistent.{joined_if}
 use Rattle.every_schedule.specs.Persistent.{members, needs_at, needs_in, needs_of, needs_of_call, needs_one, needs_two, needs_unless}
 use Rattle.every_schedule.specs.Persistent.{seed_if, set_of, spared, spread, stand, stands_in, stands_with, weights}
 use Rattle.every_schedule.specs.Private.Persistent.{AreRows, AreWide, IsBest, has_fewer, joined_by, row, row_at, spared_by}

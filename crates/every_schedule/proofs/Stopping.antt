@@ -1,5 +1,6 @@
 -- How far a world has come: what is computed of it is so, and entries at a final world keep it.
-use Rattle.std.proofs.Common.{◌≡◌, ◌≢◌, ◌⊎◌, inl, inr, ℕ, zero, suc, ◌+◌, ◌<◌, ◌≤◌, not, ◌&&◌, ◌||◌, Bool, true, false, List, [], ◌∷◌, length, map, Option, Some, None}
+use Rattle.std.proofs.Common.{◌≡◌, ◌≢◌, ◌⊎◌, inl, inr, ℕ, zero, suc, ◌+◌, ◌<◌, ◌≤◌, not, ◌&&◌, ◌||◌, Bool, true, false, List, [], ◌∷◌, length, map, Option}
+use Rattle.std.proofs.Common.{Some, None}
 use Rattle.std.proofs.Common.{refl, sym, ap, ap₂, ◌∙◌, subst, arith}
 use Rattle.std.specs.Prelude.{is_none, is_some, get_or}
 use Rattle.std.specs.List.{list_all, slice_get}
@@ -7,7 +8,8 @@ use Rattle.effect_term.specs.declared.reply.{Outcome.Outcome, Reply.Reply}
 use Rattle.derived_ops.specs.Tree.{Mask}
 use Rattle.fiber_frames.specs.declared.{ask.{Ask.Ask, Look.{Look, TheVariants.{Due, Clear, Seen}}}, mark.Mark.Mark}
 use Rattle.fiber_frames.specs.{Path.{Running, Runs, Final, Over, Broken}, Rows.{RowKind, Plain, Waited, Ceded, Born, Ended}}
-use Rattle.fiber_frames.specs.Fiber.{Fiber, active_of, ask_in, ask_of, case_under, is_silent, is_waited, move_case, outcome_of, row_of, unmasked_case, waits_alone}
+use Rattle.fiber_frames.specs.Fiber.{Fiber, active_of, ask_in, ask_of, case_under, is_silent, is_waited, move_case, outcome_of, row_of, unmasked_case}
+use Rattle.fiber_frames.specs.Fiber.{waits_alone}
 use Rattle.fiber_frames.specs.Leading.{Asked, IsGoing, Leads, depth_of, way_of}
 use Rattle.cell_registry.specs.Cells.{Cells, cell_of, deferred_of}
 use Rattle.scheduled_core.specs.declared.report.FiberReport.{FiberReport}

@@ -96,11 +96,13 @@ module _ (kept : Kept) (found : List Found) (answers : List Answer) (told : AreT
       let a = at_within answers i low in
       (i, a.0, a.1, ends_as k h.0.end x a.0.end h.2 (told.each i h.0 a.0 h.1.1 a.1).ends)
 
-  pub covered : (k : Limits) (x : Result World RunError) → search.IsCovered stepped report_at kept.places kept.faults found (bared (placed k x)) → IsCovered k answers x
+  pub covered : (k : Limits) (x : Result World RunError) → search.IsCovered stepped report_at kept.places kept.faults found (bared (placed k x)) →
+      IsCovered k answers x
   covered k (Ok w) h = λ settled. listed k (Ok w) (h (settles_place k w settled))
   covered k (Err e) h = listed k (Err e) h
 
-  pub answered : (k : Limits) (x : Result World RunError) → search.IsEnd stepped report_at kept.places kept.faults found (bared (placed k x)) → IsAnswered k answers x
+  pub answered : (k : Limits) (x : Result World RunError) → search.IsEnd stepped report_at kept.places kept.faults found (bared (placed k x)) →
+      IsAnswered k answers x
   answered k (Ok w) h = (settles k w h.0, listed k (Ok w) h.1)
   answered k (Err e) h = listed k (Err e) h
 

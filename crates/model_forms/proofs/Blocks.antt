@@ -46,7 +46,8 @@ first_is fs block d row h l b =
 range_empty : (fs : List Form) (a e : ℕ) → (a < e → length fs ≤ a) → slice_range fs a e ≡ []
 range_empty fs a e h = grind (arith, common_steps)
 
-pub first_is_none : (fs : List Form) (block : Block) (row : Row) → (block.first < block.end → length fs ≤ block.first) → IsBlock fs block row → None ≡ first_of row
+pub first_is_none : (fs : List Form) (block : Block) (row : Row) → (block.first < block.end → length fs ≤ block.first) → IsBlock fs block row → None ≡
+    first_of row
 first_is_none fs block row h b = none_flat row (sym (range_empty fs block.first block.end h) ∙ b)
 
 -- a range without its first form

@@ -72,7 +72,8 @@ word_of-more b bs h = rw h refl
 word_of-over : (b : ℕ) (bs : List ℕ) → is_plain (class_of b) ≡ false → word_of (b ∷ bs) ≡ []
 word_of-over b bs h = rw h refl
 
-pub word_goes_on : (text : List ℕ) (from at : ℕ) → WordTo text from at → at < length text → is_plain (class_of (get_or text at 0)) ≡ true → WordTo text from (at + 1)
+pub word_goes_on : (text : List ℕ) (from at : ℕ) → WordTo text from at → at < length text → is_plain (class_of (get_or text at 0)) ≡ true →
+    WordTo text from (at + 1)
 unfolding begun after
 word_goes_on text from at r h s =
     let b = get_or text at 0 in
@@ -137,7 +138,8 @@ string_of-more b bs h =
     let n : (b == 10) ≡ false = parts.1 in
     rw (q, n) refl
 
-pub string_goes_on : (text : List ℕ) (from at : ℕ) → StringTo text from at → at < length text → ends_string (get_or text at 0) ≡ false → StringTo text from (at + 1)
+pub string_goes_on : (text : List ℕ) (from at : ℕ) → StringTo text from at → at < length text → ends_string (get_or text at 0) ≡ false →
+    StringTo text from (at + 1)
 unfolding begun after
 string_goes_on text from at r h s =
     let b = get_or text at 0 in
@@ -155,7 +157,8 @@ string_goes_on text from at r h s =
 append_none : (xs : List ℕ) → xs ++ [] ≡ xs
 append_none xs = search rules
 
-string_is_closed : (text : List ℕ) (from at : ℕ) → StringTo text from at → at < length text → get_or text at 0 ≡ 34 → string_of (drop from text) ≡ Some (slice_range text from at)
+string_is_closed : (text : List ℕ) (from at : ℕ) → StringTo text from at → at < length text → get_or text at 0 ≡ 34 → string_of (drop from text) ≡
+    Some (slice_range text from at)
 string_is_closed text from at r h q =
     let here : string_of (drop at text) ≡ Some [] = ap string_of (drop_next text at h) ∙ rw q refl in
     r.inside ∙ ap (λ x. behind_all (slice_range text from at) x) here ∙ ap Some (append_none (slice_range text from at))
@@ -171,7 +174,8 @@ string_breaks text from at r n = r.inside ∙ ap (λ x. behind_all (slice_range 
 newline_is : (b : ℕ) → ends_string b ≡ true → b ≢ 34 → (b == 10) ≡ true
 newline_is b h n = let e : (b == 34) ≡ false = ne_eqb b 34 n in sym (rw e refl) ∙ h
 
-string_breaks_here : (text : List ℕ) (at : ℕ) → at < length text → ends_string (get_or text at 0) ≡ true → get_or text at 0 ≢ 34 → string_of (drop at text) ≡ None
+string_breaks_here : (text : List ℕ) (at : ℕ) → at < length text → ends_string (get_or text at 0) ≡ true → get_or text at 0 ≢ 34 → string_of (drop at text) ≡
+    None
 string_breaks_here text at h s n =
     let e : (get_or text at 0 == 34) ≡ false = ne_eqb (get_or text at 0) 34 n in
     let l : (get_or text at 0 == 10) ≡ true = newline_is (get_or text at 0) s n in

@@ -19,7 +19,8 @@ tokens-joined text (a_text start end q) r =
     ap (λ ts. record { lexeme = quoted (slice_range text (start + 1) (end - 1)); place = start } ∷ ts) (tokens-joined text q r)
 tokens-joined text (a_list o inner c q) r =
     ap (λ ts. record { lexeme = opens; place = o } ∷ (tokens_of text inner ++ (record { lexeme = closes; place = c } ∷ ts))) (tokens-joined text q r)
-    ∙ ap (λ ts. record { lexeme = opens; place = o } ∷ ts) (sym (append_assoc (tokens_of text inner) (record { lexeme = closes; place = c } ∷ tokens_of text q) (tokens_of text r)))
+    ∙ ap (λ ts. record { lexeme = opens; place = o } ∷ ts)
+    (sym (append_assoc (tokens_of text inner) (record { lexeme = closes; place = c } ∷ tokens_of text q) (tokens_of text r)))
 
 abbrev pub word_form : ℕ → ℕ → Form
 word_form start end = record { kind = kinds.Word; start = start; end = end; inside = 0 }

@@ -27,7 +27,8 @@ loop-i-preserved c =
     let one : Met = record { claim = it.claim; schedule = c.in_ok-schedule.schedule } in
     let more = c.in_ok-add.ensures in
     record {
-      numbers = subst (λ (l : List Met). All (IsFew 1000) l) (sym more) (All-push (IsFew 1000) old one known.numbers (c.in_ok-schedule.ensures.entries false).few);
+      numbers = subst (λ (l : List Met). All (IsFew 1000) l) (sym more)
+          (All-push (IsFew 1000) old one known.numbers (c.in_ok-schedule.ensures.entries false).few);
       all = λ k m low there. subst (λ (l : List Met). IsFound m.claim l) (sym more) (dite (ℕ_discrete k c.loop-i.i)
           (λ is.
           let same : it ≡ m = same_Some it m (sym at ∙ subst (λ j. slice_get c.args.found.now j ≡ Some m) is there) in

@@ -6,8 +6,10 @@ use Rattle.every_outcome.proofs.says.with_kept_marks.Goals as goal
 pub loop-mark-preserved : goal.loop-mark-preserved
 loop-mark-preserved c =
     let says = with_says c.args.search in
-    fold_next (with_kept_mark says) c.args.digest c.args.marks.now c.loop-mark.mark-index c.mark-item.result c.loop-mark.extended c.with_kept_mark-extended.result
-    c.loop-mark-test.true (c.with_kept_mark-extended.ensures ∙ ap (λ (m : Mark). with_kept_mark says c.loop-mark.extended m) c.mark-item.is) c.loop-mark.invariant
+    fold_next (with_kept_mark says) c.args.digest c.args.marks.now c.loop-mark.mark-index c.mark-item.result c.loop-mark.extended
+    c.with_kept_mark-extended.result
+    c.loop-mark-test.true (c.with_kept_mark-extended.ensures ∙ ap (λ (m : Mark). with_kept_mark says c.loop-mark.extended m) c.mark-item.is)
+    c.loop-mark.invariant
 
 pub returns : goal.returns
 returns c =

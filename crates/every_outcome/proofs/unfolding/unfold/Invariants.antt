@@ -9,6 +9,7 @@ use Rattle.every_outcome.proofs.unfolding.unfold.Given as goal
 abbrev pub invariant-loop-fiber : goal.invariant-loop-fiber
 invariant-loop-fiber l = record {
   fits : AllFit l.world.world;
-  goes : (says : Bool) → run (leapt says l.stores) (Ok (first_place says (code_of (source_of l.program)) l.fn.limits)) (take l.fiber-index l.schedule) ≡ Ok (unmarked_place says l.world);
+  goes : (says : Bool) → run (leapt says l.stores) (Ok (first_place says (code_of (source_of l.program)) l.fn.limits)) (take l.fiber-index l.schedule) ≡
+      Ok (unmarked_place says l.world);
   trail : (says : Bool) → IsTrail says [] l.trail.items (first_place says (code_of (source_of l.program)) l.fn.limits) (Ok (unmarked_place says l.world));
 }

@@ -20,7 +20,8 @@ loop-word-preserved c =
     record {
       same = c.step.ensures.same ∙ known.same;
       stack = told.stack ∙ ap (λ (r : PlainView). worded c.args.standing r.state c.loop-word.stack.items word) known.same ∙
-          ap (λ (l : List Bool). worded c.args.standing s l word) known.stack ∙ sym (fold_next (worded c.args.standing s) [] c.args.words.now c.loop-word.word-index word here);
+          ap (λ (l : List Bool). worded c.args.standing s l word) known.stack ∙
+          sym (fold_next (worded c.args.standing s) [] c.args.words.now c.loop-word.word-index word here);
     }
 
 pub returns : goal.returns

@@ -1,7 +1,8 @@
 use Rattle.std.{proofs.Common.{◌≡◌, ◌<◌, ◌≤◌, ◌++◌, List, length, sym, ap, subst}, specs.{Prelude.Some, List.{All, slice_get}}}
 use Rattle.derived_ops.specs.{Expansion.code_of, Reading.source_of}
 use Rattle.scheduled_core.specs.Core.{core}
-use Rattle.every_schedule.specs.{declared.exploration.Answer.Answer, Explored.{HasLawfulMarks, IsAnswered, IsCovered, IsReached, ListOnce}, Places.{Place, first_place}}
+use Rattle.every_schedule.specs.{declared.exploration.Answer.Answer, Explored.{HasLawfulMarks, IsAnswered, IsCovered, IsReached, ListOnce}}
+use Rattle.every_schedule.specs.Places.{Place, first_place}
 use Rattle.every_schedule.{specs.Places.{report_at, stepped}, proofs.{Placed.core_run, Deadlocks.none_waits, Bare.reports_grow, Growing.size, Laws.alike}}
 use Rattle.every_schedule.proofs.{Laws.{ended, faultless}, Told.{all_within, answered, covered, numbered, reached, short, once}}
 use Rattle.world_search.specs.Answers as search

@@ -4,7 +4,8 @@ use Rattle.std.specs.{Prelude.Some, List.{All, slice_get}}
 use Rattle.derived_ops.specs.{Expansion.code_of, Reading.source_of}
 use Rattle.scheduled_core.specs.Core.{core, first_world}
 use Rattle.world_search.specs.declared.answers.Answer.{Answer as Found}
-use Rattle.every_schedule.specs.{declared.exploration.Answer.Answer, Explored.{AreInOrder, AreMoves, HasLawfulMarks, IsAnswered, IsCovered, IsPastBound, IsReached, ListOnce}}
+use Rattle.every_schedule.specs.declared.exploration.Answer.{Answer}
+use Rattle.every_schedule.specs.Explored.{AreInOrder, AreMoves, HasLawfulMarks, IsAnswered, IsCovered, IsPastBound, IsReached, ListOnce}
 use Rattle.every_schedule.specs.{Places.{Kept, Place, first_place, report_at, stepped}, Reduced.hundred, Private.Trails.{AreUnfolded, EndApart, IsLeftOut}}
 use Rattle.every_schedule.specs.Private.{Keeping.AreSingle, Telling.{AreTold, IsWithin}}
 use Rattle.every_schedule.proofs.{Placed.core_run, Deadlocks.none_waits, Growing.size, GrowingLeaps.chosen_grow, Laws.{alike, ended, faultless}}

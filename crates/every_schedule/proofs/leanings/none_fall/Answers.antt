@@ -1,4 +1,5 @@
-use Rattle.std.{proofs.{Common.{◌≡◌, List, Some, false, sym, ap, ◌∙◌, arith}, lemmas.{Grind.common_steps, Option.{gets, slice_get_within}}}, specs.List.slice_get}
+use Rattle.std.proofs.{Common.{◌≡◌, List, Some, false, sym, ap, ◌∙◌, arith}, lemmas.{Grind.common_steps, Option.{gets, slice_get_within}}}
+use Rattle.std.specs.List.{slice_get}
 use Rattle.every_schedule.specs.declared.claims.ClaimWord.{ClaimWord}
 use Rattle.every_schedule.specs.declared.leanings.Leaning.{Leaning}
 use Rattle.every_schedule.specs.Leanings.{leaning_of}

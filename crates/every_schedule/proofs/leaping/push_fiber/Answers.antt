@@ -52,7 +52,8 @@ returns-clause-trail c =
     let own = sym c.has_own_move.ensures.own ∙ c.if-not-has_own_move.false in
     let goes : stepped p c.args.fiber ≡ Ok q = subst (λ (x : Place). stepped x c.args.fiber ≡ Ok q) c.has_own_move.ensures.same.here c.in-Ok.ensures.goes in
     subst (λ (l : List ℕ). IsOwnTrail c.args.at_once old l p q) (sym c.in_ok-add.ensures)
-    (own_one c.args.at_once old p c.args.fiber q c.requires.few (own_moves c.args.at_once p c.args.fiber own) (may_own c.args.at_once p c.args.fiber q own goes) goes)
+    (own_one c.args.at_once old p c.args.fiber q c.requires.few (own_moves c.args.at_once p c.args.fiber own)
+    (may_own c.args.at_once p c.args.fiber q own goes) goes)
 
 pub returns-in-Err-clause-onward : goal.returns-in-Err-clause-onward
 returns-in-Err-clause-onward c =

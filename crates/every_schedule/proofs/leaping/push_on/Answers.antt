@@ -49,7 +49,8 @@ loop-again-preserved c =
     let left : c.args.at_once.most - c.loop-again._again ≡ suc m = omega arith in
     record {
       onward = onward_on c.args.current.now c.loop-again.current c.push_fiber.new.current known.onward c.push_fiber.ensures.onward;
-      goes = known.goes ∙ moved_on_next c.args.at_once (c.args.at_once.most - c.loop-again._again) m c.args.fiber (here c.loop-again.current) next left told.goes;
+      goes = known.goes ∙ moved_on_next c.args.at_once (c.args.at_once.most - c.loop-again._again) m c.args.fiber (here c.loop-again.current) next left
+          told.goes;
       stays = λ none. absurd (cc);
       fits = told.fits;
       trail = own_more c.args.at_once c.args.trail.now.items c.loop-again.trail.items c.push_fiber.new.trail.items (here c.args.current.now)
@@ -60,4 +61,5 @@ pub returns-clause-goes : goal.returns-clause-goes
 returns-clause-goes c =
     let known = c.loop-again.invariant in
     let none : c.args.at_once.most - c.loop-again._again ≡ 0 = omega arith in
-    sym (known.goes ∙ ap (λ i. moved_on c.args.at_once i c.args.fiber (here c.loop-again.current)) none ∙ moved_on_none c.args.at_once c.args.fiber (here c.loop-again.current))
+    sym (known.goes ∙ ap (λ i. moved_on c.args.at_once i c.args.fiber (here c.loop-again.current)) none ∙
+    moved_on_none c.args.at_once c.args.fiber (here c.loop-again.current))

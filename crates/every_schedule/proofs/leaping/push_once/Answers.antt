@@ -41,7 +41,8 @@ returns-clause-goes c =
     let first = here c.args.current.now in
     let now = here c.loop-done.current in
     let none : c.few_born-born.result - c.loop-done.done ≡ 0 = omega arith in
-    sym (ap (λ i. swept c.args.at_once i first) (sym c.few_born-born.ensures.born) ∙ known.goes ∙ ap (λ i. swept c.args.at_once i now) none ∙ swept_none c.args.at_once now)
+    sym (ap (λ i. swept c.args.at_once i first) (sym c.few_born-born.ensures.born) ∙ known.goes ∙ ap (λ i. swept c.args.at_once i now) none ∙
+    swept_none c.args.at_once now)
 
 pub returns-clause-stays : goal.returns-clause-stays
 returns-clause-stays c = λ still.
@@ -50,5 +51,6 @@ returns-clause-stays c = λ still.
     let now = here c.loop-done.current in
     let none : c.few_born-born.result - c.loop-done.done ≡ 0 = omega arith in
     let goes : pushed_once c.args.at_once first ≡ now =
-    ap (λ i. swept c.args.at_once i first) (sym c.few_born-born.ensures.born) ∙ known.goes ∙ ap (λ i. swept c.args.at_once i now) none ∙ swept_none c.args.at_once now in
+    ap (λ i. swept c.args.at_once i first) (sym c.few_born-born.ensures.born) ∙ known.goes ∙ ap (λ i. swept c.args.at_once i now) none ∙
+    swept_none c.args.at_once now in
     subst (λ (x : Place). pushed_once c.args.at_once x ≡ now) (sym (known.stays still)) goes

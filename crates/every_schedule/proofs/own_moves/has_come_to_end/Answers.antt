@@ -23,4 +23,5 @@ returns-in-Nothing c =
     let b = get_low w.fibers i low in
     let at = subst (λ j. slice_get w.fibers j ≡ Some b.0) (sym c.from-place.ensures) b.1 in
     let wish : wish_of (ask_of b.0) ≡ Nothing = sym (c.wish.ensures b.0 at) ∙ c.in-Nothing.is in
-    c.has_ended.ensures.ended ∙ ap (λ (r : PlainView). has_ended (cell_of r.state i).stage) c.registry.ensures ∙ sym (ap (λ t. t && has_ended (cell_of w.cells i).stage) (ap rests b.1 ∙ ap (λ x. not (wants x)) wish))
+    c.has_ended.ensures.ended ∙ ap (λ (r : PlainView). has_ended (cell_of r.state i).stage) c.registry.ensures ∙
+    sym (ap (λ t. t && has_ended (cell_of w.cells i).stage) (ap rests b.1 ∙ ap (λ x. not (wants x)) wish))

@@ -1,7 +1,8 @@
 use Rattle.std.proofs.Common.{◌≡◌, ◌∙◌, sym, true, false}
 use Rattle.every_schedule.proofs.Sets.{joins_before, joins_not, joins_now}
 use Rattle.every_schedule.proofs.persistent.join.Goals as goal
-use Rattle.every_schedule.proofs.persistent.join.Goals.{then-row-place+then-not-set-place, else-row-place, else-row-place-via-then-row-place+else-not-set-place, else-row-place-via-else-row-place}
+use Rattle.every_schedule.proofs.persistent.join.Goals.{then-row-place+then-not-set-place, else-row-place, else-row-place-via-then-row-place+else-not-set-place}
+use Rattle.every_schedule.proofs.persistent.join.Goals.{else-row-place-via-else-row-place}
 
 pub loop-place-preserved : goal.loop-place-preserved
 loop-place-preserved c =

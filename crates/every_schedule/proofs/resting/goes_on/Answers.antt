@@ -23,7 +23,8 @@ pub returns-in-Join : goal.returns-in-Join
 returns-in-Join c = λ yes.
     let g = c.args.config.now in
     let unended : outcome_of g ≡ None = search rules in
-    goes_on c.args.registry.now.state g.number g (ask.Join c.in-Join.fiber) (sym c.in-Join.is ∙ c.word_ask.ensures) (sym c.has_ended.ensures.ended ∙ yes) unended
+    goes_on c.args.registry.now.state g.number g (ask.Join c.in-Join.fiber) (sym c.in-Join.is ∙ c.word_ask.ensures) (sym c.has_ended.ensures.ended ∙ yes)
+    unended
 
 pub returns-in-Read : goal.returns-in-Read
 returns-in-Read c = λ yes.

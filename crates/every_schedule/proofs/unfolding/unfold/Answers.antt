@@ -10,8 +10,17 @@ unfold_from-requires c =
     let fs = c.number.new.self.fibers in
     let rs = c.number.new.self.registries in
     let is : c.as_slice.result.now ≡ c.number.new.self.numbers = c.as_slice.ensures.value ∙ c.in_ok-numbers.ensures.items ∙ c.numbers.ensures in
-    let there = subst (λ (l : List ℕ). IsWorldOf fs rs (record { registry = c.in_ok-registry.registry; fibers = l }) p) (sym is) c.in_ok-registry.ensures.row in
-    (p.limits, record { place = p; limits = refl; is = there; fits = subst (λ (q : Place). AllFit q.world) (sym c.in_ok-current.ensures.here) c.new.ensures.fits })
+    let there = subst (λ (l : List ℕ). IsWorldOf fs rs (record { registry = c.in_ok-registry.registry; fibers = l }) p) (sym is)
+    c.in_ok-registry.ensures.row in (
+      p.limits,
+      record {
+        place = p;
+        limits = refl;
+        is = there;
+        fits =
+            subst (λ (q : Place). AllFit q.world) (sym c.in_ok-current.ensures.here) c.new.ensures.fits;
+      },
+    )
 
 pub returns-clause-entries : goal.returns-clause-entries
 returns-clause-entries c =

@@ -10,8 +10,8 @@ use Rattle.every_schedule.specs.Private.Trails.{AreUnfolded, EndApart, EndsAlone
 use Rattle.every_schedule.proofs.{Numbered.of_more, Trails.EndsBefore}
 use Rattle.every_schedule.proofs.Trails.{alone_here, alone_next, alone_sorted, apart_next, apart_sorted, before_more, before_next, kept_next, kept_sorted}
 use Rattle.every_schedule.proofs.{Trails.{unfolded_next, unfolded_sorted}}
-use Rattle.every_schedule.proofs.unfolding.unfold_all.Goals.{in-Some, in-None+in_ok-schedule-in-None+in_ok-add-in-None+then-not-branch as long, in-None+in_ok-schedule-in-None+in_ok-add-in-None+else-not-branch as added}
-use Rattle.every_schedule.specs.declared.unfolding.Cause.TheVariants as cause
+use Rattle.every_schedule.proofs.unfolding.unfold_all.Goals.{in-Some, in-None+in_ok-schedule-in-None+in_ok-add-in-None+then-not-branch as long}
+use Rattle.every_schedule.proofs.unfolding.unfold_all.Goals.{in-None+in_ok-schedule-in-None+in_ok-add-in-None+else-not-branch as added}
 use Rattle.every_schedule.proofs.unfolding.unfold_all.Goals as goal
 
 pub loop-i-init : goal.loop-i-init
@@ -55,7 +55,8 @@ returns-in_err-sort-clause-memory g c =
 pub unfold_from-requires : goal.unfold_from-requires
 unfold_from-requires g c =
     let first = first_place (code_of (source_of c.args.program.now)) c.args.limits in
-    let there : IsWorldOf c.loop-i.current.fibers c.loop-i.current.registries (record { registry = c.in_ok-registry.registry; fibers = c.as_slice.result.now }) first =
+    let there : IsWorldOf c.loop-i.current.fibers c.loop-i.current.registries
+    (record { registry = c.in_ok-registry.registry; fibers = c.as_slice.result.now }) first =
     subst (λ (l : List ℕ). IsWorldOf c.loop-i.current.fibers c.loop-i.current.registries (record { registry = c.in_ok-registry.registry; fibers = l }) first)
     (sym c.as_slice.ensures.value) c.loop-i.invariant.there in
     (first.limits, record { place = first; limits = refl; is = there; fits = subst (λ (p : Place). AllFit p.world) c.in_ok-first.ensures c.new.ensures.fits })
@@ -78,7 +79,8 @@ loop-i-preserved g c =
           let same : now ≡ old = ap (λ (v : Vec Found Global). v.items) w.answers-is in
           let is : c.match-cause_at.left ≡ c.cause_at.result = w.left-is ∙ sym w.in-Some.is in
           record {
-            there = subst (λ (s : Stand). IsWorldOf s.fibers s.registries (record { registry = c.in_ok-registry.registry; fibers = c.in_ok-numbers.numbers.items }) first) (sym w.current-is) known.there;
+            there = subst (λ (s : Stand). IsWorldOf s.fibers s.registries
+                (record { registry = c.in_ok-registry.registry; fibers = c.in_ok-numbers.numbers.items }) first) (sym w.current-is) known.there;
             each = subst (AreUnfolded n most first found) (sym same) known.each;
             before = subst (EndsBefore found (c.loop-i.i + 1)) (sym same) (before_more found old c.loop-i.i known.before);
             apart = λ all. subst EndApart (sym same) (known.apart all);
@@ -99,12 +101,15 @@ loop-i-preserved g c =
           let same : now ≡ old = ap (λ (v : Vec Found Global). v.items) w.answers-is ∙ told.same w.if-not-branch.true in
           let entries : IsUnfolded n first it.schedule.items s.items =
           subst (λ (l : List ℕ). IsUnfolded n first l s.items) w.as_slice-in-None.ensures.value (w.in_ok-schedule-in-None.ensures.entries first
-          (subst (λ (l : List ℕ). IsWorldOf c.loop-i.current.fibers c.loop-i.current.registries (record { registry = c.in_ok-registry.registry; fibers = l }) first)
+          (subst (λ (l : List ℕ). IsWorldOf c.loop-i.current.fibers c.loop-i.current.registries (record { registry = c.in_ok-registry.registry; fibers = l })
+          first)
           (sym w.as_slice.ensures.value) known.there)) in
           record {
-            there = subst (λ (s : Stand). IsWorldOf s.fibers s.registries (record { registry = c.in_ok-registry.registry; fibers = c.in_ok-numbers.numbers.items }) first) (sym w.current-is)
+            there = subst (λ (s : Stand). IsWorldOf s.fibers s.registries
+                (record { registry = c.in_ok-registry.registry; fibers = c.in_ok-numbers.numbers.items }) first) (sym w.current-is)
                 (of_more c.loop-i.current.fibers w.unfold_from.new.current.fibers c.loop-i.current.registries w.unfold_from.new.current.registries
-                w.unfold_from.ensures.fibers w.unfold_from.ensures.registries (record { registry = c.in_ok-registry.registry; fibers = c.in_ok-numbers.numbers.items }) first known.there);
+                w.unfold_from.ensures.fibers w.unfold_from.ensures.registries
+                (record { registry = c.in_ok-registry.registry; fibers = c.in_ok-numbers.numbers.items }) first known.there);
             each = subst (AreUnfolded n most first found) (sym same) known.each;
             before = subst (EndsBefore found (c.loop-i.i + 1)) (sym same) (before_more found old c.loop-i.i known.before);
             apart = λ all. subst EndApart (sym same) (known.apart all);
@@ -128,12 +133,15 @@ loop-i-preserved g c =
           let same : now ≡ old ++ one ∷ [] = ap (λ (v : Vec Found Global). v.items) w.answers-is ∙ told.added w.if-not-branch.false in
           let entries : IsUnfolded n first it.schedule.items s.items =
           subst (λ (l : List ℕ). IsUnfolded n first l s.items) w.as_slice-in-None.ensures.value (w.in_ok-schedule-in-None.ensures.entries first
-          (subst (λ (l : List ℕ). IsWorldOf c.loop-i.current.fibers c.loop-i.current.registries (record { registry = c.in_ok-registry.registry; fibers = l }) first)
+          (subst (λ (l : List ℕ). IsWorldOf c.loop-i.current.fibers c.loop-i.current.registries (record { registry = c.in_ok-registry.registry; fibers = l })
+          first)
           (sym w.as_slice.ensures.value) known.there)) in
           record {
-            there = subst (λ (s : Stand). IsWorldOf s.fibers s.registries (record { registry = c.in_ok-registry.registry; fibers = c.in_ok-numbers.numbers.items }) first) (sym w.current-is)
+            there = subst (λ (s : Stand). IsWorldOf s.fibers s.registries
+                (record { registry = c.in_ok-registry.registry; fibers = c.in_ok-numbers.numbers.items }) first) (sym w.current-is)
                 (of_more c.loop-i.current.fibers w.unfold_from.new.current.fibers c.loop-i.current.registries w.unfold_from.new.current.registries
-                w.unfold_from.ensures.fibers w.unfold_from.ensures.registries (record { registry = c.in_ok-registry.registry; fibers = c.in_ok-numbers.numbers.items }) first known.there);
+                w.unfold_from.ensures.fibers w.unfold_from.ensures.registries
+                (record { registry = c.in_ok-registry.registry; fibers = c.in_ok-numbers.numbers.items }) first known.there);
             each = subst (AreUnfolded n most first found) (sym same)
                 (unfolded_next n most first found old one known.each
                 (record { number = c.loop-i.i; answer = it; at = at; end = refl; entries = entries; short = told.short w.if-not-branch.false }));

@@ -11,7 +11,8 @@ loop-fiber-init c =
     let first = here c.go_to.new.self in
     record {
       onward = onward_none c.go_to.new.self;
-      fits = fits_so c.requires.0 c.args.current.now.fibers c.args.current.now.registries (record { registry = c.args.registry; fibers = c.args.numbers.now }) first
+      fits = fits_so c.requires.0 c.args.current.now.fibers c.args.current.now.registries (record { registry = c.args.registry; fibers = c.args.numbers.now })
+          first
           c.requires.1 c.in_ok-go_to.ensures.here;
       goes = refl;
       trail = subst (λ (l : List ℕ). IsTrail [] l first (Ok first)) (sym c.new-trail.ensures.items) (trail_none [] first);

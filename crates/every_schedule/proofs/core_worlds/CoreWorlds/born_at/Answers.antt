@@ -6,7 +6,8 @@ use Rattle.every_schedule.proofs.core_worlds.CoreWorlds.born_at.Goals as goal
 pub registry_of-registry-requires : goal.registry_of-registry-requires
 registry_of-registry-requires c =
     let s = c.self.inside in
-    let found = row_at (place_of s.limits s.current.fibers s.current.registries) s.rows.rows c.args.world (subst (λ (x : Kept). c.args.world < length x.places) (sym c.self.view_is) c.requires) in
+    let found = row_at (place_of s.limits s.current.fibers s.current.registries) s.rows.rows c.args.world
+    (subst (λ (x : Kept). c.args.world < length x.places) (sym c.self.view_is) c.requires) in
     let m = found.0 in
     let row = found.1 in
     subst (λ i. i < length s.current.registries) (sym (c.registry.ensures m row))
@@ -15,7 +16,8 @@ registry_of-registry-requires c =
 pub overflow_cast-result : goal.overflow_cast-result
 overflow_cast-result c =
     let s = c.self.inside in
-    let found = row_at (place_of s.limits s.current.fibers s.current.registries) s.rows.rows c.args.world (subst (λ (x : Kept). c.args.world < length x.places) (sym c.self.view_is) c.requires) in
+    let found = row_at (place_of s.limits s.current.fibers s.current.registries) s.rows.rows c.args.world
+    (subst (λ (x : Kept). c.args.world < length x.places) (sym c.self.view_is) c.requires) in
     let m = found.0 in
     let row = found.1 in
     let rs = s.current.registries in
@@ -27,7 +29,8 @@ overflow_cast-result c =
 pub returns-clause-few : goal.returns-clause-few
 returns-clause-few c =
     let s = c.self.inside in
-    let found = row_at (place_of s.limits s.current.fibers s.current.registries) s.rows.rows c.args.world (subst (λ (x : Kept). c.args.world < length x.places) (sym c.self.view_is) c.requires) in
+    let found = row_at (place_of s.limits s.current.fibers s.current.registries) s.rows.rows c.args.world
+    (subst (λ (x : Kept). c.args.world < length x.places) (sym c.self.view_is) c.requires) in
     let m = found.0 in
     let row = found.1 in
     let rs = s.current.registries in
@@ -42,7 +45,8 @@ returns-clause-born c = λ p at.
     let k = s.limits in
     let fs = s.current.fibers in
     let rs = s.current.registries in
-    let found = row_at (place_of s.limits s.current.fibers s.current.registries) s.rows.rows c.args.world (subst (λ (x : Kept). c.args.world < length x.places) (sym c.self.view_is) c.requires) in
+    let found = row_at (place_of s.limits s.current.fibers s.current.registries) s.rows.rows c.args.world
+    (subst (λ (x : Kept). c.args.world < length x.places) (sym c.self.view_is) c.requires) in
     let m = found.0 in
     let row = found.1 in
     let places : map (place_of k fs rs) s.rows.rows ≡ c.args.self.now.places = ap (λ (x : Kept). x.places) c.self.view_is in

@@ -25,10 +25,14 @@ go_to-requires c =
     let k = s.limits in
     let fs = s.current.fibers in
     let rs = s.current.registries in
-    let found = row_at (place_of s.limits s.current.fibers s.current.registries) s.rows.rows c.args.world (subst (λ (x : Kept). c.args.world < length x.places) (sym c.self.view_is) c.requires) in
+    let found = row_at (place_of s.limits s.current.fibers s.current.registries) s.rows.rows c.args.world
+    (subst (λ (x : Kept). c.args.world < length x.places) (sym c.self.view_is) c.requires) in
     let m = found.0 in
-    let row = found.1 in
-    (k, subst (λ (n : Numbers). IsWorld k fs rs n) (gone c.registry.result c.fibers.result.now m (c.registry.ensures m row) (c.fibers.ensures m row)) (c.self.invariant c.args.world m row))
+    let row = found.1 in (
+      k,
+      subst (λ (n : Numbers). IsWorld k fs rs n) (gone c.registry.result c.fibers.result.now m (c.registry.ensures m row) (c.fibers.ensures m row))
+          (c.self.invariant c.args.world m row),
+    )
 
 pub leap-requires : goal.leap-requires
 leap-requires c =
@@ -37,11 +41,13 @@ leap-requires c =
     let fs = s.current.fibers in
     let rs = s.current.registries in
     let rows = s.rows.rows in
-    let found = row_at (place_of s.limits s.current.fibers s.current.registries) s.rows.rows c.args.world (subst (λ (x : Kept). c.args.world < length x.places) (sym c.self.view_is) c.requires) in
+    let found = row_at (place_of s.limits s.current.fibers s.current.registries) s.rows.rows c.args.world
+    (subst (λ (x : Kept). c.args.world < length x.places) (sym c.self.view_is) c.requires) in
     let m = found.0 in
     let row = found.1 in
     let now = here c.go_to.new.self in
-    let is_now : IsWorldOf fs rs m now = subst (λ (n : Numbers). IsWorldOf fs rs n now) (sym (gone c.registry.result c.fibers.result.now m (c.registry.ensures m row) (c.fibers.ensures m row))) c.in_ok-go_to.ensures.here in
+    let is_now : IsWorldOf fs rs m now = subst (λ (n : Numbers). IsWorldOf fs rs n now)
+    (sym (gone c.registry.result c.fibers.result.now m (c.registry.ensures m row) (c.fibers.ensures m row))) c.in_ok-go_to.ensures.here in
     fits_so k fs rs m now (c.self.invariant c.args.world m row) is_now
 
 pub invariant_of-self-2 : goal.invariant_of-self-2
@@ -51,11 +57,13 @@ invariant_of-self-2 c =
     let fs = s.current.fibers in
     let rs = s.current.registries in
     let rows = s.rows.rows in
-    let found = row_at (place_of s.limits s.current.fibers s.current.registries) s.rows.rows c.args.world (subst (λ (x : Kept). c.args.world < length x.places) (sym c.self.view_is) c.requires) in
+    let found = row_at (place_of s.limits s.current.fibers s.current.registries) s.rows.rows c.args.world
+    (subst (λ (x : Kept). c.args.world < length x.places) (sym c.self.view_is) c.requires) in
     let m = found.0 in
     let row = found.1 in
     let now = here c.go_to.new.self in
-    let is_now : IsWorldOf fs rs m now = subst (λ (n : Numbers). IsWorldOf fs rs n now) (sym (gone c.registry.result c.fibers.result.now m (c.registry.ensures m row) (c.fibers.ensures m row))) c.in_ok-go_to.ensures.here in
+    let is_now : IsWorldOf fs rs m now = subst (λ (n : Numbers). IsWorldOf fs rs n now)
+    (sym (gone c.registry.result c.fibers.result.now m (c.registry.ensures m row) (c.fibers.ensures m row))) c.in_ok-go_to.ensures.here in
     let gs = c.leap.new.current.fibers in
     let qs = c.leap.new.current.registries in
     let mg : IsMore fs gs = subst (λ (l : List Fiber). IsMore l gs) c.go_to.ensures.fibers c.leap.ensures.onward.fibers in
@@ -66,7 +74,8 @@ invariant_of-self-2 c =
     let mr = more_more rs qs rs' mq c.number.ensures.onward.registries in
     let n : Numbers = record { registry = c.in_ok-registry.registry; fibers = c.numbers.result.now } in
     let next = here c.leap.new.current in
-    let is_next : IsWorldOf fs' rs' n next = subst (λ (l : List ℕ). IsWorldOf fs' rs' record { registry = c.in_ok-registry.registry; fibers = l } next) (sym c.numbers.ensures) c.in_ok-registry.ensures.row in
+    let is_next : IsWorldOf fs' rs' n next = subst (λ (l : List ℕ). IsWorldOf fs' rs' record { registry = c.in_ok-registry.registry; fibers = l } next)
+    (sym c.numbers.ensures) c.in_ok-registry.ensures.row in
     let rows' = c.keep.new.self.rows in
     rows_hold k fs fs' rs rs' mf mr rows c.self.invariant c.args.world m row now is_now
     c.args.at_once c.args.fiber n next c.in-Ok.ensures.goes is_next c.in-Ok.ensures.fits rows' c.keep.ensures.adds
@@ -78,11 +87,13 @@ invariant_of-self-in-Err c =
     let fs = s.current.fibers in
     let rs = s.current.registries in
     let rows = s.rows.rows in
-    let found = row_at (place_of s.limits s.current.fibers s.current.registries) s.rows.rows c.args.world (subst (λ (x : Kept). c.args.world < length x.places) (sym c.self.view_is) c.requires) in
+    let found = row_at (place_of s.limits s.current.fibers s.current.registries) s.rows.rows c.args.world
+    (subst (λ (x : Kept). c.args.world < length x.places) (sym c.self.view_is) c.requires) in
     let m = found.0 in
     let row = found.1 in
     let now = here c.go_to.new.self in
-    let is_now : IsWorldOf fs rs m now = subst (λ (n : Numbers). IsWorldOf fs rs n now) (sym (gone c.registry.result c.fibers.result.now m (c.registry.ensures m row) (c.fibers.ensures m row))) c.in_ok-go_to.ensures.here in
+    let is_now : IsWorldOf fs rs m now = subst (λ (n : Numbers). IsWorldOf fs rs n now)
+    (sym (gone c.registry.result c.fibers.result.now m (c.registry.ensures m row) (c.fibers.ensures m row))) c.in_ok-go_to.ensures.here in
     let gs = c.leap.new.current.fibers in
     let qs = c.leap.new.current.registries in
     let mg : IsMore fs gs = subst (λ (l : List Fiber). IsMore l gs) c.go_to.ensures.fibers c.leap.ensures.onward.fibers in
@@ -96,11 +107,13 @@ returns-clause-worlds c =
     let fs = s.current.fibers in
     let rs = s.current.registries in
     let rows = s.rows.rows in
-    let found = row_at (place_of s.limits s.current.fibers s.current.registries) s.rows.rows c.args.world (subst (λ (x : Kept). c.args.world < length x.places) (sym c.self.view_is) c.requires) in
+    let found = row_at (place_of s.limits s.current.fibers s.current.registries) s.rows.rows c.args.world
+    (subst (λ (x : Kept). c.args.world < length x.places) (sym c.self.view_is) c.requires) in
     let m = found.0 in
     let row = found.1 in
     let now = here c.go_to.new.self in
-    let is_now : IsWorldOf fs rs m now = subst (λ (n : Numbers). IsWorldOf fs rs n now) (sym (gone c.registry.result c.fibers.result.now m (c.registry.ensures m row) (c.fibers.ensures m row))) c.in_ok-go_to.ensures.here in
+    let is_now : IsWorldOf fs rs m now = subst (λ (n : Numbers). IsWorldOf fs rs n now)
+    (sym (gone c.registry.result c.fibers.result.now m (c.registry.ensures m row) (c.fibers.ensures m row))) c.in_ok-go_to.ensures.here in
     let gs = c.leap.new.current.fibers in
     let qs = c.leap.new.current.registries in
     let mg : IsMore fs gs = subst (λ (l : List Fiber). IsMore l gs) c.go_to.ensures.fibers c.leap.ensures.onward.fibers in
@@ -111,7 +124,8 @@ returns-clause-worlds c =
     let mr = more_more rs qs rs' mq c.number.ensures.onward.registries in
     let n : Numbers = record { registry = c.in_ok-registry.registry; fibers = c.numbers.result.now } in
     let next = here c.leap.new.current in
-    let is_next : IsWorldOf fs' rs' n next = subst (λ (l : List ℕ). IsWorldOf fs' rs' record { registry = c.in_ok-registry.registry; fibers = l } next) (sym c.numbers.ensures) c.in_ok-registry.ensures.row in
+    let is_next : IsWorldOf fs' rs' n next = subst (λ (l : List ℕ). IsWorldOf fs' rs' record { registry = c.in_ok-registry.registry; fibers = l } next)
+    (sym c.numbers.ensures) c.in_ok-registry.ensures.row in
     let rows' = c.keep.new.self.rows in
     let places : map (place_of k fs rs) rows ≡ c.args.self.now.places = ap (λ (x : Kept). x.places) c.self.view_is in
     subst (λ l. IsMore l (map (place_of k fs' rs') rows')) places
@@ -130,11 +144,13 @@ returns-clause-lands c =
     let fs = s.current.fibers in
     let rs = s.current.registries in
     let rows = s.rows.rows in
-    let found = row_at (place_of s.limits s.current.fibers s.current.registries) s.rows.rows c.args.world (subst (λ (x : Kept). c.args.world < length x.places) (sym c.self.view_is) c.requires) in
+    let found = row_at (place_of s.limits s.current.fibers s.current.registries) s.rows.rows c.args.world
+    (subst (λ (x : Kept). c.args.world < length x.places) (sym c.self.view_is) c.requires) in
     let m = found.0 in
     let row = found.1 in
     let now = here c.go_to.new.self in
-    let is_now : IsWorldOf fs rs m now = subst (λ (n : Numbers). IsWorldOf fs rs n now) (sym (gone c.registry.result c.fibers.result.now m (c.registry.ensures m row) (c.fibers.ensures m row))) c.in_ok-go_to.ensures.here in
+    let is_now : IsWorldOf fs rs m now = subst (λ (n : Numbers). IsWorldOf fs rs n now)
+    (sym (gone c.registry.result c.fibers.result.now m (c.registry.ensures m row) (c.fibers.ensures m row))) c.in_ok-go_to.ensures.here in
     let gs = c.leap.new.current.fibers in
     let qs = c.leap.new.current.registries in
     let mg : IsMore fs gs = subst (λ (l : List Fiber). IsMore l gs) c.go_to.ensures.fibers c.leap.ensures.onward.fibers in
@@ -145,7 +161,8 @@ returns-clause-lands c =
     let mr = more_more rs qs rs' mq c.number.ensures.onward.registries in
     let n : Numbers = record { registry = c.in_ok-registry.registry; fibers = c.numbers.result.now } in
     let next = here c.leap.new.current in
-    let is_next : IsWorldOf fs' rs' n next = subst (λ (l : List ℕ). IsWorldOf fs' rs' record { registry = c.in_ok-registry.registry; fibers = l } next) (sym c.numbers.ensures) c.in_ok-registry.ensures.row in
+    let is_next : IsWorldOf fs' rs' n next = subst (λ (l : List ℕ). IsWorldOf fs' rs' record { registry = c.in_ok-registry.registry; fibers = l } next)
+    (sym c.numbers.ensures) c.in_ok-registry.ensures.row in
     let rows' = c.keep.new.self.rows in
     let places : map (place_of k fs rs) rows ≡ c.args.self.now.places = ap (λ (x : Kept). x.places) c.self.view_is in
     IfOk-weaker c.keep.result _ _
@@ -160,11 +177,13 @@ returns-clause-room c =
     let fs = s.current.fibers in
     let rs = s.current.registries in
     let rows = s.rows.rows in
-    let found = row_at (place_of s.limits s.current.fibers s.current.registries) s.rows.rows c.args.world (subst (λ (x : Kept). c.args.world < length x.places) (sym c.self.view_is) c.requires) in
+    let found = row_at (place_of s.limits s.current.fibers s.current.registries) s.rows.rows c.args.world
+    (subst (λ (x : Kept). c.args.world < length x.places) (sym c.self.view_is) c.requires) in
     let m = found.0 in
     let row = found.1 in
     let now = here c.go_to.new.self in
-    let is_now : IsWorldOf fs rs m now = subst (λ (n : Numbers). IsWorldOf fs rs n now) (sym (gone c.registry.result c.fibers.result.now m (c.registry.ensures m row) (c.fibers.ensures m row))) c.in_ok-go_to.ensures.here in
+    let is_now : IsWorldOf fs rs m now = subst (λ (n : Numbers). IsWorldOf fs rs n now)
+    (sym (gone c.registry.result c.fibers.result.now m (c.registry.ensures m row) (c.fibers.ensures m row))) c.in_ok-go_to.ensures.here in
     let gs = c.leap.new.current.fibers in
     let qs = c.leap.new.current.registries in
     let mg : IsMore fs gs = subst (λ (l : List Fiber). IsMore l gs) c.go_to.ensures.fibers c.leap.ensures.onward.fibers in
@@ -175,7 +194,8 @@ returns-clause-room c =
     let mr = more_more rs qs rs' mq c.number.ensures.onward.registries in
     let n : Numbers = record { registry = c.in_ok-registry.registry; fibers = c.numbers.result.now } in
     let next = here c.leap.new.current in
-    let is_next : IsWorldOf fs' rs' n next = subst (λ (l : List ℕ). IsWorldOf fs' rs' record { registry = c.in_ok-registry.registry; fibers = l } next) (sym c.numbers.ensures) c.in_ok-registry.ensures.row in
+    let is_next : IsWorldOf fs' rs' n next = subst (λ (l : List ℕ). IsWorldOf fs' rs' record { registry = c.in_ok-registry.registry; fibers = l } next)
+    (sym c.numbers.ensures) c.in_ok-registry.ensures.row in
     let rows' = c.keep.new.self.rows in
     let places : map (place_of k fs rs) rows ≡ c.args.self.now.places = ap (λ (x : Kept). x.places) c.self.view_is in
     IfOk-weaker c.keep.result _ _
@@ -189,11 +209,13 @@ returns-clause-next c =
     let fs = s.current.fibers in
     let rs = s.current.registries in
     let rows = s.rows.rows in
-    let found = row_at (place_of s.limits s.current.fibers s.current.registries) s.rows.rows c.args.world (subst (λ (x : Kept). c.args.world < length x.places) (sym c.self.view_is) c.requires) in
+    let found = row_at (place_of s.limits s.current.fibers s.current.registries) s.rows.rows c.args.world
+    (subst (λ (x : Kept). c.args.world < length x.places) (sym c.self.view_is) c.requires) in
     let m = found.0 in
     let row = found.1 in
     let now = here c.go_to.new.self in
-    let is_now : IsWorldOf fs rs m now = subst (λ (n : Numbers). IsWorldOf fs rs n now) (sym (gone c.registry.result c.fibers.result.now m (c.registry.ensures m row) (c.fibers.ensures m row))) c.in_ok-go_to.ensures.here in
+    let is_now : IsWorldOf fs rs m now = subst (λ (n : Numbers). IsWorldOf fs rs n now)
+    (sym (gone c.registry.result c.fibers.result.now m (c.registry.ensures m row) (c.fibers.ensures m row))) c.in_ok-go_to.ensures.here in
     let gs = c.leap.new.current.fibers in
     let qs = c.leap.new.current.registries in
     let mg : IsMore fs gs = subst (λ (l : List Fiber). IsMore l gs) c.go_to.ensures.fibers c.leap.ensures.onward.fibers in
@@ -204,7 +226,8 @@ returns-clause-next c =
     let mr = more_more rs qs rs' mq c.number.ensures.onward.registries in
     let n : Numbers = record { registry = c.in_ok-registry.registry; fibers = c.numbers.result.now } in
     let next = here c.leap.new.current in
-    let is_next : IsWorldOf fs' rs' n next = subst (λ (l : List ℕ). IsWorldOf fs' rs' record { registry = c.in_ok-registry.registry; fibers = l } next) (sym c.numbers.ensures) c.in_ok-registry.ensures.row in
+    let is_next : IsWorldOf fs' rs' n next = subst (λ (l : List ℕ). IsWorldOf fs' rs' record { registry = c.in_ok-registry.registry; fibers = l } next)
+    (sym c.numbers.ensures) c.in_ok-registry.ensures.row in
     let rows' = c.keep.new.self.rows in
     let places : map (place_of k fs rs) rows ≡ c.args.self.now.places = ap (λ (x : Kept). x.places) c.self.view_is in
     IfOk-weaker c.keep.result _ _
@@ -218,11 +241,13 @@ returns-in-Err-clause-worlds c =
     let fs = s.current.fibers in
     let rs = s.current.registries in
     let rows = s.rows.rows in
-    let found = row_at (place_of s.limits s.current.fibers s.current.registries) s.rows.rows c.args.world (subst (λ (x : Kept). c.args.world < length x.places) (sym c.self.view_is) c.requires) in
+    let found = row_at (place_of s.limits s.current.fibers s.current.registries) s.rows.rows c.args.world
+    (subst (λ (x : Kept). c.args.world < length x.places) (sym c.self.view_is) c.requires) in
     let m = found.0 in
     let row = found.1 in
     let now = here c.go_to.new.self in
-    let is_now : IsWorldOf fs rs m now = subst (λ (n : Numbers). IsWorldOf fs rs n now) (sym (gone c.registry.result c.fibers.result.now m (c.registry.ensures m row) (c.fibers.ensures m row))) c.in_ok-go_to.ensures.here in
+    let is_now : IsWorldOf fs rs m now = subst (λ (n : Numbers). IsWorldOf fs rs n now)
+    (sym (gone c.registry.result c.fibers.result.now m (c.registry.ensures m row) (c.fibers.ensures m row))) c.in_ok-go_to.ensures.here in
     let gs = c.leap.new.current.fibers in
     let qs = c.leap.new.current.registries in
     let mg : IsMore fs gs = subst (λ (l : List Fiber). IsMore l gs) c.go_to.ensures.fibers c.leap.ensures.onward.fibers in
@@ -237,11 +262,13 @@ returns-in-Err-clause-lands c =
     let fs = s.current.fibers in
     let rs = s.current.registries in
     let rows = s.rows.rows in
-    let found = row_at (place_of s.limits s.current.fibers s.current.registries) s.rows.rows c.args.world (subst (λ (x : Kept). c.args.world < length x.places) (sym c.self.view_is) c.requires) in
+    let found = row_at (place_of s.limits s.current.fibers s.current.registries) s.rows.rows c.args.world
+    (subst (λ (x : Kept). c.args.world < length x.places) (sym c.self.view_is) c.requires) in
     let m = found.0 in
     let row = found.1 in
     let now = here c.go_to.new.self in
-    let is_now : IsWorldOf fs rs m now = subst (λ (n : Numbers). IsWorldOf fs rs n now) (sym (gone c.registry.result c.fibers.result.now m (c.registry.ensures m row) (c.fibers.ensures m row))) c.in_ok-go_to.ensures.here in
+    let is_now : IsWorldOf fs rs m now = subst (λ (n : Numbers). IsWorldOf fs rs n now)
+    (sym (gone c.registry.result c.fibers.result.now m (c.registry.ensures m row) (c.fibers.ensures m row))) c.in_ok-go_to.ensures.here in
     let gs = c.leap.new.current.fibers in
     let qs = c.leap.new.current.registries in
     let mg : IsMore fs gs = subst (λ (l : List Fiber). IsMore l gs) c.go_to.ensures.fibers c.leap.ensures.onward.fibers in
@@ -262,11 +289,13 @@ returns-in-Err-clause-room c =
     let fs = s.current.fibers in
     let rs = s.current.registries in
     let rows = s.rows.rows in
-    let found = row_at (place_of s.limits s.current.fibers s.current.registries) s.rows.rows c.args.world (subst (λ (x : Kept). c.args.world < length x.places) (sym c.self.view_is) c.requires) in
+    let found = row_at (place_of s.limits s.current.fibers s.current.registries) s.rows.rows c.args.world
+    (subst (λ (x : Kept). c.args.world < length x.places) (sym c.self.view_is) c.requires) in
     let m = found.0 in
     let row = found.1 in
     let now = here c.go_to.new.self in
-    let is_now : IsWorldOf fs rs m now = subst (λ (n : Numbers). IsWorldOf fs rs n now) (sym (gone c.registry.result c.fibers.result.now m (c.registry.ensures m row) (c.fibers.ensures m row))) c.in_ok-go_to.ensures.here in
+    let is_now : IsWorldOf fs rs m now = subst (λ (n : Numbers). IsWorldOf fs rs n now)
+    (sym (gone c.registry.result c.fibers.result.now m (c.registry.ensures m row) (c.fibers.ensures m row))) c.in_ok-go_to.ensures.here in
     let gs = c.leap.new.current.fibers in
     let qs = c.leap.new.current.registries in
     let mg : IsMore fs gs = subst (λ (l : List Fiber). IsMore l gs) c.go_to.ensures.fibers c.leap.ensures.onward.fibers in
@@ -283,11 +312,13 @@ returns-in-Err-clause-next c =
     let fs = s.current.fibers in
     let rs = s.current.registries in
     let rows = s.rows.rows in
-    let found = row_at (place_of s.limits s.current.fibers s.current.registries) s.rows.rows c.args.world (subst (λ (x : Kept). c.args.world < length x.places) (sym c.self.view_is) c.requires) in
+    let found = row_at (place_of s.limits s.current.fibers s.current.registries) s.rows.rows c.args.world
+    (subst (λ (x : Kept). c.args.world < length x.places) (sym c.self.view_is) c.requires) in
     let m = found.0 in
     let row = found.1 in
     let now = here c.go_to.new.self in
-    let is_now : IsWorldOf fs rs m now = subst (λ (n : Numbers). IsWorldOf fs rs n now) (sym (gone c.registry.result c.fibers.result.now m (c.registry.ensures m row) (c.fibers.ensures m row))) c.in_ok-go_to.ensures.here in
+    let is_now : IsWorldOf fs rs m now = subst (λ (n : Numbers). IsWorldOf fs rs n now)
+    (sym (gone c.registry.result c.fibers.result.now m (c.registry.ensures m row) (c.fibers.ensures m row))) c.in_ok-go_to.ensures.here in
     let gs = c.leap.new.current.fibers in
     let qs = c.leap.new.current.registries in
     let mg : IsMore fs gs = subst (λ (l : List Fiber). IsMore l gs) c.go_to.ensures.fibers c.leap.ensures.onward.fibers in
@@ -305,11 +336,13 @@ invariant_of-self-in_err-registry c =
     let fs = s.current.fibers in
     let rs = s.current.registries in
     let rows = s.rows.rows in
-    let found = row_at (place_of s.limits s.current.fibers s.current.registries) s.rows.rows c.args.world (subst (λ (x : Kept). c.args.world < length x.places) (sym c.self.view_is) c.requires) in
+    let found = row_at (place_of s.limits s.current.fibers s.current.registries) s.rows.rows c.args.world
+    (subst (λ (x : Kept). c.args.world < length x.places) (sym c.self.view_is) c.requires) in
     let m = found.0 in
     let row = found.1 in
     let now = here c.go_to.new.self in
-    let is_now : IsWorldOf fs rs m now = subst (λ (n : Numbers). IsWorldOf fs rs n now) (sym (gone c.registry.result c.fibers.result.now m (c.registry.ensures m row) (c.fibers.ensures m row))) c.in_ok-go_to.ensures.here in
+    let is_now : IsWorldOf fs rs m now = subst (λ (n : Numbers). IsWorldOf fs rs n now)
+    (sym (gone c.registry.result c.fibers.result.now m (c.registry.ensures m row) (c.fibers.ensures m row))) c.in_ok-go_to.ensures.here in
     let gs = c.leap.new.current.fibers in
     let qs = c.leap.new.current.registries in
     let mg : IsMore fs gs = subst (λ (l : List Fiber). IsMore l gs) c.go_to.ensures.fibers c.leap.ensures.onward.fibers in
@@ -327,11 +360,13 @@ returns-in_err-registry-clause-worlds c =
     let fs = s.current.fibers in
     let rs = s.current.registries in
     let rows = s.rows.rows in
-    let found = row_at (place_of s.limits s.current.fibers s.current.registries) s.rows.rows c.args.world (subst (λ (x : Kept). c.args.world < length x.places) (sym c.self.view_is) c.requires) in
+    let found = row_at (place_of s.limits s.current.fibers s.current.registries) s.rows.rows c.args.world
+    (subst (λ (x : Kept). c.args.world < length x.places) (sym c.self.view_is) c.requires) in
     let m = found.0 in
     let row = found.1 in
     let now = here c.go_to.new.self in
-    let is_now : IsWorldOf fs rs m now = subst (λ (n : Numbers). IsWorldOf fs rs n now) (sym (gone c.registry.result c.fibers.result.now m (c.registry.ensures m row) (c.fibers.ensures m row))) c.in_ok-go_to.ensures.here in
+    let is_now : IsWorldOf fs rs m now = subst (λ (n : Numbers). IsWorldOf fs rs n now)
+    (sym (gone c.registry.result c.fibers.result.now m (c.registry.ensures m row) (c.fibers.ensures m row))) c.in_ok-go_to.ensures.here in
     let gs = c.leap.new.current.fibers in
     let qs = c.leap.new.current.registries in
     let mg : IsMore fs gs = subst (λ (l : List Fiber). IsMore l gs) c.go_to.ensures.fibers c.leap.ensures.onward.fibers in
@@ -365,11 +400,13 @@ returns-clause-makes c =
     let fs = s.current.fibers in
     let rs = s.current.registries in
     let rows = s.rows.rows in
-    let found = row_at (place_of s.limits s.current.fibers s.current.registries) s.rows.rows c.args.world (subst (λ (x : Kept). c.args.world < length x.places) (sym c.self.view_is) c.requires) in
+    let found = row_at (place_of s.limits s.current.fibers s.current.registries) s.rows.rows c.args.world
+    (subst (λ (x : Kept). c.args.world < length x.places) (sym c.self.view_is) c.requires) in
     let m = found.0 in
     let row = found.1 in
     let now = here c.go_to.new.self in
-    let is_now : IsWorldOf fs rs m now = subst (λ (n : Numbers). IsWorldOf fs rs n now) (sym (gone c.registry.result c.fibers.result.now m (c.registry.ensures m row) (c.fibers.ensures m row))) c.in_ok-go_to.ensures.here in
+    let is_now : IsWorldOf fs rs m now = subst (λ (n : Numbers). IsWorldOf fs rs n now)
+    (sym (gone c.registry.result c.fibers.result.now m (c.registry.ensures m row) (c.fibers.ensures m row))) c.in_ok-go_to.ensures.here in
     let gs = c.leap.new.current.fibers in
     let qs = c.leap.new.current.registries in
     let mg : IsMore fs gs = subst (λ (l : List Fiber). IsMore l gs) c.go_to.ensures.fibers c.leap.ensures.onward.fibers in
@@ -389,11 +426,13 @@ returns-in-Err-clause-makes c =
     let fs = s.current.fibers in
     let rs = s.current.registries in
     let rows = s.rows.rows in
-    let found = row_at (place_of s.limits s.current.fibers s.current.registries) s.rows.rows c.args.world (subst (λ (x : Kept). c.args.world < length x.places) (sym c.self.view_is) c.requires) in
+    let found = row_at (place_of s.limits s.current.fibers s.current.registries) s.rows.rows c.args.world
+    (subst (λ (x : Kept). c.args.world < length x.places) (sym c.self.view_is) c.requires) in
     let m = found.0 in
     let row = found.1 in
     let now = here c.go_to.new.self in
-    let is_now : IsWorldOf fs rs m now = subst (λ (n : Numbers). IsWorldOf fs rs n now) (sym (gone c.registry.result c.fibers.result.now m (c.registry.ensures m row) (c.fibers.ensures m row))) c.in_ok-go_to.ensures.here in
+    let is_now : IsWorldOf fs rs m now = subst (λ (n : Numbers). IsWorldOf fs rs n now)
+    (sym (gone c.registry.result c.fibers.result.now m (c.registry.ensures m row) (c.fibers.ensures m row))) c.in_ok-go_to.ensures.here in
     let gs = c.leap.new.current.fibers in
     let qs = c.leap.new.current.registries in
     let mg : IsMore fs gs = subst (λ (l : List Fiber). IsMore l gs) c.go_to.ensures.fibers c.leap.ensures.onward.fibers in

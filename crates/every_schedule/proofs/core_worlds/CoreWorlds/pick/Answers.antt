@@ -24,8 +24,11 @@ go_to-requires c =
     let rows = s.rows.rows in
     let found = row_at (place_of k fs rs) rows c.args.world (subst (λ (x : Kept). c.args.world < length x.places) (sym c.self.view_is) c.requires) in
     let m = found.0 in
-    let row = found.1 in
-    (k, subst (λ (n : Numbers). IsWorld k fs rs n) (gone c.registry.result c.fibers.result.now m (c.registry.ensures m row) (c.fibers.ensures m row)) (c.self.invariant c.args.world m row))
+    let row = found.1 in (
+      k,
+      subst (λ (n : Numbers). IsWorld k fs rs n) (gone c.registry.result c.fibers.result.now m (c.registry.ensures m row) (c.fibers.ensures m row))
+          (c.self.invariant c.args.world m row),
+    )
 
 pub pick-requires : goal.pick-requires
 pick-requires c =
@@ -39,7 +42,8 @@ pick-requires c =
     let row = found.1 in
     let now = here c.go_to.new.self in
     let is_now : IsWorldOf fs rs m now =
-    subst (λ (n : Numbers). IsWorldOf fs rs n now) (sym (gone c.registry.result c.fibers.result.now m (c.registry.ensures m row) (c.fibers.ensures m row))) c.in_ok-go_to.ensures.here in
+    subst (λ (n : Numbers). IsWorldOf fs rs n now) (sym (gone c.registry.result c.fibers.result.now m (c.registry.ensures m row) (c.fibers.ensures m row)))
+    c.in_ok-go_to.ensures.here in
     record { fits = fits_so k fs rs m now (c.self.invariant c.args.world m row) is_now }
 
 pub invariant_of-self-2 : goal.invariant_of-self-2
@@ -54,7 +58,8 @@ invariant_of-self-2 c =
     let row = found.1 in
     let now = here c.go_to.new.self in
     let is_now : IsWorldOf fs rs m now =
-    subst (λ (n : Numbers). IsWorldOf fs rs n now) (sym (gone c.registry.result c.fibers.result.now m (c.registry.ensures m row) (c.fibers.ensures m row))) c.in_ok-go_to.ensures.here in
+    subst (λ (n : Numbers). IsWorldOf fs rs n now) (sym (gone c.registry.result c.fibers.result.now m (c.registry.ensures m row) (c.fibers.ensures m row)))
+    c.in_ok-go_to.ensures.here in
     let gs = c.pick.new.current.fibers in
     let qs = c.pick.new.current.registries in
     let mg : IsMore fs gs = subst (λ (l : List Fiber). IsMore l gs) c.go_to.ensures.fibers c.pick.ensures.onward.fibers in
@@ -73,7 +78,8 @@ returns-clause-places c =
     let row = found.1 in
     let now = here c.go_to.new.self in
     let is_now : IsWorldOf fs rs m now =
-    subst (λ (n : Numbers). IsWorldOf fs rs n now) (sym (gone c.registry.result c.fibers.result.now m (c.registry.ensures m row) (c.fibers.ensures m row))) c.in_ok-go_to.ensures.here in
+    subst (λ (n : Numbers). IsWorldOf fs rs n now) (sym (gone c.registry.result c.fibers.result.now m (c.registry.ensures m row) (c.fibers.ensures m row)))
+    c.in_ok-go_to.ensures.here in
     let gs = c.pick.new.current.fibers in
     let qs = c.pick.new.current.registries in
     let mg : IsMore fs gs = subst (λ (l : List Fiber). IsMore l gs) c.go_to.ensures.fibers c.pick.ensures.onward.fibers in
@@ -93,7 +99,8 @@ returns-clause-picked c =
     let row = found.1 in
     let now = here c.go_to.new.self in
     let is_now : IsWorldOf fs rs m now =
-    subst (λ (n : Numbers). IsWorldOf fs rs n now) (sym (gone c.registry.result c.fibers.result.now m (c.registry.ensures m row) (c.fibers.ensures m row))) c.in_ok-go_to.ensures.here in
+    subst (λ (n : Numbers). IsWorldOf fs rs n now) (sym (gone c.registry.result c.fibers.result.now m (c.registry.ensures m row) (c.fibers.ensures m row)))
+    c.in_ok-go_to.ensures.here in
     let gs = c.pick.new.current.fibers in
     let qs = c.pick.new.current.registries in
     let mg : IsMore fs gs = subst (λ (l : List Fiber). IsMore l gs) c.go_to.ensures.fibers c.pick.ensures.onward.fibers in

@@ -9,7 +9,8 @@ pub fibers_of-requires : goal.fibers_of-requires
 fibers_of-requires c =
     let s = c.self.inside in
     let fs = s.current.fibers in
-    let found = row_at (place_of s.limits s.current.fibers s.current.registries) s.rows.rows c.args.world (subst (λ (x : Kept). c.args.world < length x.places) (sym c.self.view_is) c.requires) in
+    let found = row_at (place_of s.limits s.current.fibers s.current.registries) s.rows.rows c.args.world
+    (subst (λ (x : Kept). c.args.world < length x.places) (sym c.self.view_is) c.requires) in
     let m = found.0 in
     let row = found.1 in
     subst (λ (l : List Fiber). All (λ m. m < length l) c.fibers-2.result.now) (sym c.fibers.ensures)
@@ -23,7 +24,8 @@ returns-clause-report c = IfOk-weaker c.report_of_fibers.result _ _ (λ it is. �
     let fs = s.current.fibers in
     let rs = s.current.registries in
     let rows = s.rows.rows in
-    let found = row_at (place_of s.limits s.current.fibers s.current.registries) s.rows.rows c.args.world (subst (λ (x : Kept). c.args.world < length x.places) (sym c.self.view_is) c.requires) in
+    let found = row_at (place_of s.limits s.current.fibers s.current.registries) s.rows.rows c.args.world
+    (subst (λ (x : Kept). c.args.world < length x.places) (sym c.self.view_is) c.requires) in
     let m = found.0 in
     let places : map (place_of k fs rs) rows ≡ c.args.self.now.places = ap (λ (x : Kept). x.places) c.self.view_is in
     let row = found.1 in

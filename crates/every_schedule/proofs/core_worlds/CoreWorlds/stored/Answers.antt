@@ -7,7 +7,8 @@ pub stored_at-requires : goal.stored_at-requires
 stored_at-requires c =
     let s = c.self.inside in
     let fs = s.current.fibers in
-    let found = row_at (place_of s.limits s.current.fibers s.current.registries) s.rows.rows c.args.world (subst (λ (x : Kept). c.args.world < length x.places) (sym c.self.view_is) c.requires) in
+    let found = row_at (place_of s.limits s.current.fibers s.current.registries) s.rows.rows c.args.world
+    (subst (λ (x : Kept). c.args.world < length x.places) (sym c.self.view_is) c.requires) in
     let m = found.0 in
     let row = found.1 in
     subst (λ (l : List Fiber). All (λ m. m < length l) c.fibers-2.result.now) (sym c.fibers.ensures)
@@ -21,7 +22,8 @@ returns c = λ p at.
     let fs = s.current.fibers in
     let rs = s.current.registries in
     let rows = s.rows.rows in
-    let found = row_at (place_of s.limits s.current.fibers s.current.registries) s.rows.rows c.args.world (subst (λ (x : Kept). c.args.world < length x.places) (sym c.self.view_is) c.requires) in
+    let found = row_at (place_of s.limits s.current.fibers s.current.registries) s.rows.rows c.args.world
+    (subst (λ (x : Kept). c.args.world < length x.places) (sym c.self.view_is) c.requires) in
     let m = found.0 in
     let f = c.args.fiber in
     let row = found.1 in

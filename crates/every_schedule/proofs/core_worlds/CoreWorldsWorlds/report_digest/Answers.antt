@@ -1,14 +1,16 @@
 use Rattle.std.{proofs.Common.{◌≡◌, ℕ, ◌<◌, List, length, map, sym, ap, ◌∙◌, subst}, specs.List.{All, fold, slice_get}}
 use Rattle.fiber_frames.specs.Fiber.{Fiber}
 use Rattle.scheduled_core.specs.Core.{fiber_report}
-use Rattle.every_schedule.{specs.{Digests.{report_digest, with_report}, Places.{Kept, report_at}, Private.Numbered.{picked, place_of}}, proofs.{Entering.place_at, Numbered.{fibers_there, row_at}}}
+use Rattle.every_schedule.specs.{Digests.{report_digest, with_report}, Places.{Kept, report_at}, Private.Numbered.{picked, place_of}}
+use Rattle.every_schedule.proofs.{Entering.place_at, Numbered.{fibers_there, row_at}}
 use Rattle.every_schedule.proofs.core_worlds.CoreWorldsWorlds.report_digest.Goals as goal
 
 pub digest_of-requires : goal.digest_of-requires
 digest_of-requires c =
     let s = c.self.inside in
     let fs = s.current.fibers in
-    let found = row_at (place_of s.limits s.current.fibers s.current.registries) s.rows.rows c.args.world (subst (λ (x : Kept). c.args.world < length x.places) (sym c.self.view_is) c.requires) in
+    let found = row_at (place_of s.limits s.current.fibers s.current.registries) s.rows.rows c.args.world
+    (subst (λ (x : Kept). c.args.world < length x.places) (sym c.self.view_is) c.requires) in
     let m = found.0 in
     let row = found.1 in
     subst (λ (l : List Fiber). All (λ m. m < length l) c.fibers-2.result.now) (sym c.fibers.ensures)

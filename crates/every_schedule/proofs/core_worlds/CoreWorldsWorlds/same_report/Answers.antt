@@ -8,7 +8,8 @@ pub same_reports-requires-clause-one : goal.same_reports-requires-clause-one
 same_reports-requires-clause-one c =
     let s = c.self.inside in
     let fs = s.current.fibers in
-    let found = row_at (place_of s.limits s.current.fibers s.current.registries) s.rows.rows c.args.one (subst (λ (x : Kept). c.args.one < length x.places) (sym c.self.view_is) c.requires.one) in
+    let found = row_at (place_of s.limits s.current.fibers s.current.registries) s.rows.rows c.args.one
+    (subst (λ (x : Kept). c.args.one < length x.places) (sym c.self.view_is) c.requires.one) in
     let m = found.0 in
     let row = found.1 in
     subst (λ (l : List Fiber). All (λ m. m < length l) c.fibers-2.result.now) (sym c.fibers.ensures)
@@ -19,7 +20,8 @@ pub same_reports-requires-clause-other : goal.same_reports-requires-clause-other
 same_reports-requires-clause-other c =
     let s = c.self.inside in
     let fs = s.current.fibers in
-    let found = row_at (place_of s.limits s.current.fibers s.current.registries) s.rows.rows c.args.other (subst (λ (x : Kept). c.args.other < length x.places) (sym c.self.view_is) c.requires.other) in
+    let found = row_at (place_of s.limits s.current.fibers s.current.registries) s.rows.rows c.args.other
+    (subst (λ (x : Kept). c.args.other < length x.places) (sym c.self.view_is) c.requires.other) in
     let m = found.0 in
     let row = found.1 in
     subst (λ (l : List Fiber). All (λ m. m < length l) c.fibers-3.result.now) (sym c.fibers.ensures)

@@ -15,7 +15,8 @@ use Rattle.every_schedule.specs.Private.Numbered.{picked}
 use Rattle.every_schedule.specs.Private.Standing.{Stand, here}
 use Rattle.every_schedule.specs.Private.Turning.{MayTurn, reply_of}
 use Rattle.every_schedule.proofs.Bare.{idle_stays}
-use Rattle.every_schedule.proofs.Standing.{all_low, at_place, behind_is, behind_low, forgot, low_more, moves_there, picked_get, picked_long, step_fits, step_goes, step_stops}
+use Rattle.every_schedule.proofs.Standing.{all_low, at_place, behind_is, behind_low, forgot, low_more, moves_there, picked_get, picked_long, step_fits}
+use Rattle.every_schedule.proofs.Standing.{step_goes, step_stops}
 use Rattle.every_schedule.proofs.current.Current.enter.Goals as goal
 
 pub returns-then-not-has_move-clause-goes : goal.returns-then-not-has_move-clause-goes
@@ -181,7 +182,8 @@ returns-clause-goes c =
     let moves = subst (λ (x : Stand). moves_at (slice_get (here x).world.fibers f) ≡ true) (sym c.self.view_is)
     (sym c.has_move.ensures ∙ c.if-not-has_move.false) in
     let there = picked_get fs ns f n h c.self.invariant.0 at is in
-    let goes = step_goes s.registry (picked fs ns) f h all c.replied.ensures.lawful there c.replied.ensures.asks moves r c.replied.new.registry c.in-Ok.ensures.made in
+    let goes = step_goes s.registry (picked fs ns) f h all c.replied.ensures.lawful there c.replied.ensures.asks moves r c.replied.new.registry
+    c.in-Ok.ensures.made in
     let behind = behind_is fs gs ns c.self.invariant.0 c.turn_of.ensures.fibers f n h at is r t c.in_ok-turn.ensures.turned in
     let numbers : c.put.new.numbers.items ≡ set (ns ++ option_to_list t.child) f t.state =
     c.in_ok-put.ensures.put ∙ ap (λ i. set (ns ++ option_to_list t.child) i t.state) c.from-place.ensures in
@@ -217,7 +219,8 @@ returns-clause-fits c =
     let moves = subst (λ (x : Stand). moves_at (slice_get (here x).world.fibers f) ≡ true) (sym c.self.view_is)
     (sym c.has_move.ensures ∙ c.if-not-has_move.false) in
     let there = picked_get fs ns f n h c.self.invariant.0 at is in
-    let fits = step_fits s.registry (picked fs ns) f h all c.replied.ensures.lawful there c.replied.ensures.asks moves r c.replied.new.registry c.in-Ok.ensures.made in
+    let fits = step_fits s.registry (picked fs ns) f h all c.replied.ensures.lawful there c.replied.ensures.asks moves r c.replied.new.registry
+    c.in-Ok.ensures.made in
     let behind = behind_is fs gs ns c.self.invariant.0 c.turn_of.ensures.fibers f n h at is r t c.in_ok-turn.ensures.turned in
     let numbers : c.put.new.numbers.items ≡ set (ns ++ option_to_list t.child) f t.state =
     c.in_ok-put.ensures.put ∙ ap (λ i. set (ns ++ option_to_list t.child) i t.state) c.from-place.ensures in

@@ -36,8 +36,12 @@ invariant_of-self c = (c.self.invariant.0, c.self.invariant.1, c.self.invariant.
 pub invariant_of-self-in_err-extend_from_slice : goal.invariant_of-self-in_err-extend_from_slice
 invariant_of-self-in_err-extend_from_slice c =
     let fs = c.self.inside.states.fibers.items.items in
-    let is : c.extend_from_slice.new.self.items ≡ [] = grind (arith, common_steps) in
-    (subst (λ (l : List ℕ). All (λ m. m < length fs) l) (sym is) (all_from (λ m. m < length fs) [] (λ i x e. absurd (cc))), c.self.invariant.1, c.self.invariant.2, c.load.ensures.known)
+    let is : c.extend_from_slice.new.self.items ≡ [] = grind (arith, common_steps) in (
+      subst (λ (l : List ℕ). All (λ m. m < length fs) l) (sym is) (all_from (λ m. m < length fs) [] (λ i x e. absurd (cc))),
+      c.self.invariant.1,
+      c.self.invariant.2,
+      c.load.ensures.known,
+    )
 
 pub returns-clause-here : goal.returns-clause-here
 returns-clause-here c =

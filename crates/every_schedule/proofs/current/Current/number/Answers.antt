@@ -20,8 +20,12 @@ returns-in-Some-clause-row c =
 
 pub invariant_of-self : goal.invariant_of-self
 invariant_of-self c =
-    let s = c.self.inside in
-    (c.self.invariant.0, c.self.invariant.1, c.self.invariant.2, subst (λ (o : Option ℕ). IsNumbered c.number_of.new.self.items.items s.registry o) (sym c.in-None.is) tt)
+    let s = c.self.inside in (
+      c.self.invariant.0,
+      c.self.invariant.1,
+      c.self.invariant.2,
+      subst (λ (o : Option ℕ). IsNumbered c.number_of.new.self.items.items s.registry o) (sym c.in-None.is) tt,
+    )
 
 pub invariant_of-self-2 : goal.invariant_of-self-2
 invariant_of-self-2 c = (c.self.invariant.0, c.self.invariant.1, c.self.invariant.2, c.in_ok-number.ensures.number)

@@ -51,4 +51,5 @@ returns-in-None c = λ g there.
     let inside = all_low fs s.numbers.items c.args.place c.index.result.now c.self.invariant.0 at in
     let state : slice_get fs c.index.result.now ≡ Some c.index-in-None.result.now = grind (arith, common_steps, gets) in
     let here = subst (λ (x : Stand). slice_get (picked x.fibers x.numbers) c.args.place ≡ Some g) (sym c.self.view_is) there in
-    c.waits_alone.ensures ∙ ap (λ (h : Fiber). waits_alone h) (state_is fs s.numbers.items c.args.place c.index.result.now c.index-in-None.result.now g c.self.invariant.0 at state here)
+    c.waits_alone.ensures ∙ ap (λ (h : Fiber). waits_alone h)
+    (state_is fs s.numbers.items c.args.place c.index.result.now c.index-in-None.result.now g c.self.invariant.0 at state here)

@@ -11,4 +11,5 @@ returns-clause-lands c =
     let views : c.self.inside.worlds.views ≡ c.args.self.now.views = ap (λ (x : KeptViews). x.views) c.self.view_is in
     IfOk-weaker c.made.result _ _ (λ it lands. λ w at.
     subst (EntersAt c.made.new.self.views c.made.new.self.faults it)
-    (ap (seeing (noted w.seen (stored_by (slice_get w.place.world.fibers c.args.fiber)))) (leapt_none w.place c.args.fiber)) (lands w (ap (λ l. slice_get l c.args.world) views ∙ at))) c.made.ensures.lands
+    (ap (seeing (noted w.seen (stored_by (slice_get w.place.world.fibers c.args.fiber)))) (leapt_none w.place c.args.fiber))
+    (lands w (ap (λ l. slice_get l c.args.world) views ∙ at))) c.made.ensures.lands
